@@ -26,3 +26,8 @@ counters_from book k x values (b ∷ rest) = counters_from book k (After b) (ste
 -- the counters of aircraft k after a route
 abbrev pub counters_after : BookSeen → ℕ → List ℕ → List ℤ
 counters_after book k route = counters_from book k Carry (carry_of book k) route
+
+-- the place at the end of a route from a place on
+abbrev pub place_after : Place → List ℕ → Place
+place_after x [] = x
+place_after x (b ∷ rest) = place_after (After b) rest

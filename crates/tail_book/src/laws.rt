@@ -2,7 +2,10 @@
 
 ghost use Rattle.tail_book.specs.Rising.{LinksRise, LegalRoutesRise, EachIsFlownOnce};
 ghost use Rattle.tail_book.specs.Bounds.{ActivitiesCostAtMost, ConnectionsCostAtMost, LegalPlansCostAtMost};
+ghost use Rattle.tail_book.specs.Sound.{IsBook};
 ghost use Rattle.tail_book.specs.Tests.{AllowedDecides, LinkDecides, LimitsDecide, LegalRouteDecides, LegalPlanDecides};
+
+use crate::Book;
 
 /// What comes directly after an activity has a larger number.
 pub fn links_rise()
@@ -58,3 +61,10 @@ pub fn legal_route_decides()
 pub fn legal_plan_decides()
     ensures { LegalPlanDecides }
 {}
+
+/// Every book keeps the order, the ranges and the limits of `IsBook`.
+pub fn every_book_is_sound(book: &Book)
+    ensures { IsBook book.now }
+{
+    let _ = &book.activities;
+}
