@@ -17,3 +17,6 @@ pub use names::name;
 pub use numbers::number;
 pub use refusal::{Refusal, Stopped, Table};
 pub use stamps::stamp;
+
+#[cfg(test)]
+mod tests;

@@ -12,6 +12,7 @@ use jiff::civil::Date;
 /// A moment as `YYYY-MM-DDTHH:MM`, in minutes since 1970-01-01T00:00 UTC.
 pub fn stamp(text: &[u8]) -> Result<i64, Bad>
     ensures value { result ≡ stamp_of text.now }
+    ensures range { IfOk result (IsBetween (pos 0) (pos 120_968_639)) }
 {
     if text.len() != 16 || text[10] != b'T' {
         return Err(Bad);
@@ -20,7 +21,10 @@ pub fn stamp(text: &[u8]) -> Result<i64, Bad>
 }
 
 fn moment_at(day: Option<i32>, minutes: Option<u16>) -> Result<i64, Bad>
-    ensures { result ≡ moment_at day minutes }
+    requires days { IfSome day (IsBetween (pos 0) (pos 84_005)) }
+    requires minutes { IfSome minutes (λ m. m ≤ 1439) }
+    ensures value { result ≡ moment_at day minutes }
+    ensures range { IfOk result (IsBetween (pos 0) (pos 120_968_639)) }
 {
     match (day, minutes) {
         (Some(day), Some(minutes)) => Ok(day as i64 * 1440 + minutes as i64),
@@ -31,7 +35,8 @@ fn moment_at(day: Option<i32>, minutes: Option<u16>) -> Result<i64, Bad>
 // The number of the day that the first ten bytes write.
 fn day_in(text: &[u8]) -> Option<i32>
     requires { 10 ≤ length text.now }
-    ensures { result ≡ day_in text.now }
+    ensures value { result ≡ day_in text.now }
+    ensures range { IfSome result (IsBetween (pos 0) (pos 84_005)) }
 {
     if !has_date_shape(text) {
         return None;
