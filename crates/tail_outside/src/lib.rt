@@ -1,0 +1,13 @@
+//! Files and sinks: the world outside as a run sees it, in memory and real.
+#![tactic(auto)]
+
+mod calls;
+mod mem_files;
+mod mem_sink;
+mod outside;
+mod real;
+
+pub use mem_files::{MemFile, MemFiles};
+pub use mem_sink::MemSink;
+pub use outside::{Failed, Fault, Files, Sink};
+pub use real::{RealFiles, RealOut};
