@@ -2,11 +2,13 @@
 #![tactic(auto)]
 
 mod calls;
+mod file_sink;
 mod mem_files;
 mod mem_sink;
 mod outside;
 mod real;
 
+pub use file_sink::FileSink;
 pub use mem_files::{MemFile, MemFiles};
 pub use mem_sink::MemSink;
 pub use outside::{Failed, Fault, Files, Sink};

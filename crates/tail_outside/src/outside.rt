@@ -4,7 +4,7 @@
 //! So what a run promises of bytes and of failures can be said of any files and any sink.
 
 ghost use Rattle.std.specs.Prelude.{◌≡◌, ◌≤◌, ◌^◌, ℕ, Bool, false, List, [], Option, Some, length, IsTrue, IfOk, IfSome, IsErr, OnOk, OnErr, IsErrOf};
-ghost use Rattle.tail_outside.specs.Outside.{HasRisen, IsRead, Adds, AddsFront, SameOthers};
+ghost use Rattle.tail_outside.specs.Outside.{HasRisen, IsRead, Adds, AddsFront, SameOthers, SameNames, StayCeased};
 
 /// A read that failed.
 #[derive(Clone, Copy, PartialEq, Eq, Debug)]
@@ -45,10 +45,9 @@ pub trait Files {
         ensures read { IfOk result (λ n. IfSome (holds self.old name.now)
             (λ bytes. IsRead bytes at into.new n)) }
         ensures same { (other : List ℕ) → holds self.new other ≡ holds self.old other }
-        ensures lets { (other : List ℕ) → (lets_read self.new other ≡ lets_read self.old other)
-            × (lets_write self.new other ≡ lets_write self.old other) }
-        ensures ceases { (other : List ℕ) →
-            ceased self.new other ≡ false → ceased self.old other ≡ false }
+        ensures lets { SameNames (lets_read self.old) (lets_read self.new)
+            × SameNames (lets_write self.old) (lets_write self.new) }
+        ensures ceases { StayCeased (ceased self.old) (ceased self.new) }
         ensures writes { write_faults self.new ≡ write_faults self.old }
         ensures counts { read_faults self.old ≤ read_faults self.new }
         ensures cause { IsErr result → HasRisen (read_faults self.old) (read_faults self.new) };
@@ -60,10 +59,9 @@ pub trait Files {
             (λ _. holds self.new name.now ≡ Some [])) }
         ensures same { OnErr result (holds self.new name.now ≡ holds self.old name.now) }
         ensures others { SameOthers (holds self.old) (holds self.new) name.now }
-        ensures lets { (other : List ℕ) → (lets_read self.new other ≡ lets_read self.old other)
-            × (lets_write self.new other ≡ lets_write self.old other) }
-        ensures ceases { (other : List ℕ) →
-            ceased self.new other ≡ false → ceased self.old other ≡ false }
+        ensures lets { SameNames (lets_read self.old) (lets_read self.new)
+            × SameNames (lets_write self.old) (lets_write self.new) }
+        ensures ceases { StayCeased (ceased self.old) (ceased self.new) }
         ensures reads { read_faults self.new ≡ read_faults self.old }
         ensures counts { write_faults self.old ≤ write_faults self.new }
         ensures cause { IsErrOf result Fault.Failed →
@@ -79,10 +77,9 @@ pub trait Files {
         ensures front { OnErr result (ceased self.new name.now ≡ false →
             AddsFront (holds self.old name.now) (holds self.new name.now) piece.now) }
         ensures others { SameOthers (holds self.old) (holds self.new) name.now }
-        ensures lets { (other : List ℕ) → (lets_read self.new other ≡ lets_read self.old other)
-            × (lets_write self.new other ≡ lets_write self.old other) }
-        ensures ceases { (other : List ℕ) →
-            ceased self.new other ≡ false → ceased self.old other ≡ false }
+        ensures lets { SameNames (lets_read self.old) (lets_read self.new)
+            × SameNames (lets_write self.old) (lets_write self.new) }
+        ensures ceases { StayCeased (ceased self.old) (ceased self.new) }
         ensures reads { read_faults self.new ≡ read_faults self.old }
         ensures counts { write_faults self.old ≤ write_faults self.new }
         ensures cause { IsErrOf result Fault.Failed →
