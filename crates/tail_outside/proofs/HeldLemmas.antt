@@ -1,5 +1,5 @@
--- What is held under a name, where a file is written or added.
--- The first file of the name stands at the place that `position` gives, and a write there keeps its name.
+-- What stands under a name, where a file is written or added.
+-- The first of the name is at the place that `position` gives, and a write there keeps its name.
 use Rattle.std.proofs.Common.{◌≡◌, ◌≢◌, ◌∙◌, ◌<◌, ◌≤◌, ℕ, Bool, true, false, List, [], ◌∷◌, ◌++◌, Option, Some, None, length, cond, get_or, option_map, position, find, refl, sym, ap, arith}
 use Rattle.std.proofs.Math.ListN.{set}
 use Rattle.std.proofs.lemmas.Bool.Decides.{nat_tests}
@@ -11,9 +11,7 @@ use Rattle.std.specs.List.{position_or_len, slice_get}
 use Rattle.std.specs.Option.{option_or}
 use Rattle.std.specs.Prelude.{nat_lt}
 use Rattle.std.specs.Str.{bytes_eq}
-use Rattle.tail_outside.specs.Held.{is_named, bytes_under}
-use Rattle.tail_outside.specs.Outside.{SameOthers}
-use Rattle.tail_outside.specs.Seen.{FileSeen}
+use Rattle.tail_outside.specs.Held.{first_under}
 
 none-cond : (b : Bool) (n : ℕ) → cond b (Some n) None ≡ None → b ≡ false
 none-cond true n h = cc
@@ -51,50 +49,50 @@ other_name : (b : Bool) (name other : List ℕ) → bytes_eq name other ≡ b �
 other_name true name other e differs = absurd (differs (sym ((bytes_eq-Decides name other).0 e)))
 other_name false name other e differs = refl
 
-option_map_none : (o : Option FileSeen) → option_map (λ file. file.bytes) o ≡ None → o ≡ None
-option_map_none None h = refl
-option_map_none (Some file) h = cc
+option_map_none : {X Y : Type 0} (part : X → Y) (o : Option X) → option_map part o ≡ None → o ≡ None
+option_map_none part None h = refl
+option_map_none part (Some x) h = cc
 
-option_or-none : (o : Option FileSeen) → option_or o None ≡ o
+option_or-none : {X : Type 0} (o : Option X) → option_or o None ≡ o
 option_or-none None = refl
-option_or-none (Some file) = refl
+option_or-none (Some x) = refl
 
-module _ (files : List FileSeen) (name : List ℕ) where
-  pub bytes_under-none : position (is_named name) files ≡ None → bytes_under files name ≡ None
-  bytes_under-none h = ap (option_map (λ file. file.bytes)) (find-none (is_named name) files h)
+module _ {X Y : Type 0} (name_of : X → List ℕ) (part : X → Y) (xs : List X) (name : List ℕ) where
+  pub first_under-none : position (λ x. bytes_eq (name_of x) name) xs ≡ None → first_under name_of part xs name ≡ None
+  first_under-none h = ap (option_map part) (find-none (λ x. bytes_eq (name_of x) name) xs h)
 
-  -- the file that stands at the place, and the one that is written there under its name
-  module _ (i : ℕ) (file new : FileSeen) (found : position (is_named name) files ≡ Some i) (here : file ≡ get_or files i file) where
-    pub bytes_under-place : bytes_under files name ≡ Some file.bytes
-    bytes_under-place = ap (option_map (λ file. file.bytes)) (find-place (is_named name) files i file found here)
+  -- what stands at the place, and what is written there under its name
+  module _ (i : ℕ) (old new : X) (found : position (λ x. bytes_eq (name_of x) name) xs ≡ Some i) (here : old ≡ get_or xs i old) where
+    pub first_under-place : first_under name_of part xs name ≡ Some (part old)
+    first_under-place = ap (option_map part) (find-place (λ x. bytes_eq (name_of x) name) xs i old found here)
 
-    named : bytes_eq file.name name ≡ true
-    named = rw (← here) at (position-Some (is_named name) files i file found).1
+    named : bytes_eq (name_of old) name ≡ true
+    named = rw (← here) at (position-Some (λ x. bytes_eq (name_of x) name) xs i old found).1
 
-    pub bytes_under-set : new.name ≡ file.name → bytes_under (set files i new) name ≡ Some new.bytes
-    bytes_under-set same =
-        let (inside, first) = first_place (is_named name) files i found in
-        ap (option_map (λ file. file.bytes)) (find-set (is_named name) files i new first inside (rw same named))
+    pub first_under-set : name_of new ≡ name_of old → first_under name_of part (set xs i new) name ≡ Some (part new)
+    first_under-set same =
+        let (inside, first) = first_place (λ x. bytes_eq (name_of x) name) xs i found in
+        ap (option_map part) (find-set (λ x. bytes_eq (name_of x) name) xs i new first inside (rw same named))
 
-    pub others-set : new.name ≡ file.name → SameOthers (bytes_under files) (bytes_under (set files i new)) name
-    others-set same = λ other differs.
-        let its_name : file.name ≡ name = (bytes_eq-Decides file.name name).0 named in
-        let old_fails : bytes_eq file.name other ≡ false = rw its_name (other_name _ name other refl differs) in
-        let new_fails : bytes_eq new.name other ≡ false = rw same old_fails in
-        ap (option_map (λ file. file.bytes)) (find_past (is_named other) files i new file (rw (← here) old_fails) new_fails)
+    pub others-set : name_of new ≡ name_of old → (other : List ℕ) → other ≢ name → first_under name_of part (set xs i new) other ≡ first_under name_of part xs other
+    others-set same other differs =
+        let its_name : name_of old ≡ name = (bytes_eq-Decides (name_of old) name).0 named in
+        let old_fails : bytes_eq (name_of old) other ≡ false = rw its_name (other_name _ name other refl differs) in
+        let new_fails : bytes_eq (name_of new) other ≡ false = rw same old_fails in
+        ap (option_map part) (find_past (λ x. bytes_eq (name_of x) other) xs i new old (rw (← here) old_fails) new_fails)
 
-  -- a file that is added behind the others
-  module _ (new : FileSeen) (same : new.name ≡ name) where
-    pub bytes_under-append : bytes_under files name ≡ None → bytes_under (files ++ new ∷ []) name ≡ Some new.bytes
-    bytes_under-append h =
-        let none_before : find (is_named name) files ≡ None = option_map_none _ h in
-        let here : is_named name new ≡ true = rw same (same_name name) in
-        let added : find (is_named name) (files ++ new ∷ []) ≡ Some new = find-append (is_named name) files (new ∷ []) ∙ rw (none_before, here) refl in
-        ap (option_map (λ file. file.bytes)) added
+  -- what is added behind the others
+  module _ (new : X) (same : name_of new ≡ name) where
+    pub first_under-append : first_under name_of part xs name ≡ None → first_under name_of part (xs ++ new ∷ []) name ≡ Some (part new)
+    first_under-append h =
+        let none_before : find (λ x. bytes_eq (name_of x) name) xs ≡ None = option_map_none part _ h in
+        let here : bytes_eq (name_of new) name ≡ true = rw same (same_name name) in
+        let added : find (λ x. bytes_eq (name_of x) name) (xs ++ new ∷ []) ≡ Some new = find-append (λ x. bytes_eq (name_of x) name) xs (new ∷ []) ∙ rw (none_before, here) refl in
+        ap (option_map part) added
 
-    pub others-append : SameOthers (bytes_under files) (bytes_under (files ++ new ∷ [])) name
-    others-append = λ other differs.
-        let fails : is_named other new ≡ false = rw same (other_name _ name other refl differs) in
-        let found : find (is_named other) (files ++ new ∷ []) ≡ find (is_named other) files =
-        find-append (is_named other) files (new ∷ []) ∙ rw fails (option_or-none _) in
-        ap (option_map (λ file. file.bytes)) found
+    pub others-append : (other : List ℕ) → other ≢ name → first_under name_of part (xs ++ new ∷ []) other ≡ first_under name_of part xs other
+    others-append other differs =
+        let fails : bytes_eq (name_of new) other ≡ false = rw same (other_name _ name other refl differs) in
+        let found : find (λ x. bytes_eq (name_of x) other) (xs ++ new ∷ []) ≡ find (λ x. bytes_eq (name_of x) other) xs =
+        find-append (λ x. bytes_eq (name_of x) other) xs (new ∷ []) ∙ rw fails (option_or-none _) in
+        ap (option_map part) found

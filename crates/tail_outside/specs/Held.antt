@@ -4,13 +4,13 @@ use Rattle.std.specs.List.{list_any}
 use Rattle.std.specs.Str.{bytes_eq}
 use Rattle.tail_outside.specs.Seen.{FileSeen, CallsSeen, MemFilesSeen, MemSinkSeen}
 
--- whether a file has this name
-abbrev pub is_named : List ℕ → FileSeen → Bool
-is_named name file = bytes_eq file.name name
+-- what the first of these with a name has
+abbrev pub first_under : {X Y : Type 0} → (X → List ℕ) → (X → Y) → List X → List ℕ → Option Y
+first_under name_of part xs name = option_map part (find (λ x. bytes_eq (name_of x) name) xs)
 
--- the bytes of the first file of this name
+-- the bytes of the first file of a name
 abbrev pub bytes_under : List FileSeen → List ℕ → Option (List ℕ)
-bytes_under files name = option_map (λ file. file.bytes) (find (is_named name) files)
+bytes_under = first_under (λ file. file.name) (λ file. file.bytes)
 
 -- those bytes, and none where no file has the name
 abbrev pub bytes_or_none : List FileSeen → List ℕ → List ℕ

@@ -1,5 +1,5 @@
 -- What clauses see of files and sinks in memory: records of lists and numbers.
-use Rattle.std.specs.Prelude.{ℕ, List}
+use Rattle.std.specs.Prelude.{ℕ, Bool, List}
 
 -- a file: its name and its bytes
 pub record FileSeen : Type 0 where
@@ -28,3 +28,14 @@ pub record MemSinkSeen : Type 0 where
 pub record RealFilesSeen : Type 0 where
   pub read_faults : ℕ
   pub write_faults : ℕ
+
+-- a sink that never fails: its bytes, how many more it takes, and whether it has ceased
+pub record SureSinkSeen : Type 0 where
+  pub bytes : List ℕ
+  pub left : ℕ
+  pub ceased : Bool
+
+-- a file that never fails: its name, and the sink that holds its bytes
+pub record SureFileSeen : Type 0 where
+  pub name : List ℕ
+  pub sink : SureSinkSeen

@@ -3,7 +3,7 @@
 ghost use Rattle.std.specs.Prelude.{◌≡◌, ◌≤◌, ◌≢◌, ◌^◌, ◌↔◌, ◌⊎◌, ◌++◌, ℕ, Bool, true, false, List, [], ◌∷◌, Option, Some, None, length, option_map, position, IsTrue, IfOk, IfSome, IsErr, OnOk, OnErr, IsErrOf};
 ghost use Rattle.std.specs.Str.{bytes_eq};
 ghost use Rattle.tail_outside.specs.Outside.{HasRisen, IsRead, Adds, AddsFront, SameOthers};
-ghost use Rattle.tail_outside.specs.Held.{is_named, bytes_under, bytes_or_none, fails_next, one_more, files_at_first};
+ghost use Rattle.tail_outside.specs.Held.{bytes_under, bytes_or_none, fails_next, one_more, files_at_first};
 
 use crate::calls::Calls;
 use crate::{Failed, Fault, Files};
@@ -29,7 +29,7 @@ impl Model for MemFile {
 
 impl MemFile {
     fn is_named(&self, name: &str) -> bool
-        ensures { result ≡ is_named name.now self.now }
+        ensures { result ≡ bytes_eq self.now.name name.now }
     {
         self.name.as_str() == name
     }
@@ -84,7 +84,7 @@ impl MemFiles {
 
 // The place of the first file of this name.
 fn place_of(files: &[MemFile], name: &str) -> Option<usize>
-    ensures { result ≡ position (is_named name.now) files.now }
+    ensures { result ≡ position (λ file. bytes_eq file.name name.now) files.now }
 {
     files.iter().position(|file| file.is_named(name))
 }
@@ -229,7 +229,7 @@ impl Files for MemFiles {
 }
 
 // Copies what is there at a place into the buffer, as far as both reach.
-fn copy(bytes: &[u8], at: u64, into: &mut [u8]) -> usize
+pub(crate) fn copy(bytes: &[u8], at: u64, into: &mut [u8]) -> usize
     requires { at ≤ 2 ^ 40 }
     ensures fits { result ≤ length into.old }
     ensures read { IsRead bytes.now at into.new result }
