@@ -1,0 +1,4 @@
+pub mod FieldLemmas
+pub mod Rest
+pub mod RowLemmas
+pub mod TextLemmas

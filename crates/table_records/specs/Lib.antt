@@ -1,0 +1,5 @@
+pub mod Fields
+pub mod Layout
+pub mod NoRow
+pub mod Records
+pub mod RecordsParts

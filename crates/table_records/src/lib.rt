@@ -1,0 +1,10 @@
+//! Tables of records: the records as `csv` reads them, and a whole table read up to its first refusal.
+#![tactic(auto)]
+
+mod fields;
+mod records;
+mod table;
+
+pub use fields::Fields;
+pub use records::Records;
+pub use table::{NoRow, Row, SIZE_LIMIT, read_table};
