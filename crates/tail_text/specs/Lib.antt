@@ -1,1 +1,7 @@
+pub mod Bad
+pub mod Clock
+pub mod NameText
+pub mod Number
+pub mod Pair
 pub mod Reading
+pub mod Stamp

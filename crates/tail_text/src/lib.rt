@@ -1,6 +1,22 @@
-//! Texts: stamps, numbers and names read exactly, lines of text, and the refusals of tables.
+//! Texts: stamps, numbers, names and times of day read exactly, lines of text, and the refusals of tables.
 #![tactic(auto)]
 
+mod bad;
+mod clocks;
+mod line;
+mod names;
+mod numbers;
+mod pairs;
 mod refusal;
+mod stamps;
 
+pub use bad::Bad;
+pub use clocks::clock;
+pub use line::Line;
+pub use names::name;
+pub use numbers::number;
 pub use refusal::{Refusal, Stopped, Table};
+pub use stamps::stamp;
+
+#[cfg(test)]
+mod tests;
