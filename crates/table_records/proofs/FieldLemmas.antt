@@ -14,7 +14,6 @@ field_at-found [] place = refl
 field_at-found (f ∷ fs) zero = refl
 field_at-found (f ∷ fs) (suc place) = field_at-found fs place
 
-
 differ : (same rest : Bool) → true ≡ not same → (same && rest) ≡ false
 differ true rest e = cc e
 differ false rest e = refl

@@ -2,3 +2,4 @@ pub mod FieldLemmas
 pub mod Rest
 pub mod RowLemmas
 pub mod TextLemmas
+pub mod NameLemmas

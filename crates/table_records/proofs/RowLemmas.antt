@@ -28,7 +28,7 @@ joined-refused table place code rows (Ok more) = refl
 joined-refused table place code rows (Err refusal) = refl
 
 -- a check that lets a value through has passed
-must-passes : {A : Type 0} (test : Bool) (why : ℕ) (next : Result A ℕ) (x : A) → must test why next ≡ Ok x → (test ≡ true) × (next ≡ Ok x)
+pub must-passes : {A : Type 0} (test : Bool) (why : ℕ) (next : Result A ℕ) (x : A) → must test why next ≡ Ok x → (test ≡ true) × (next ≡ Ok x)
 must-passes true why next x e = (refl, e)
 must-passes false why next x e = cc e
 

@@ -1,5 +1,6 @@
 pub mod Fields
 pub mod Layout
+pub mod NameLists
 pub mod NoRow
 pub mod Records
 pub mod RecordsParts

@@ -2,9 +2,14 @@
 #![tactic(auto)]
 
 mod fields;
+mod name_lists;
 mod records;
 mod table;
 
 pub use fields::Fields;
+pub use name_lists::{NAME_LIMIT, names};
 pub use records::Records;
 pub use table::{NoRow, Row, SIZE_LIMIT, read_table};
+
+#[cfg(test)]
+mod tests;

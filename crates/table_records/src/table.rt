@@ -101,7 +101,11 @@ fn takes_header<R: Row>(records: &mut Records<'_>, fields: &mut Fields) -> Resul
     Ok(found && R::is_header(fields))
 }
 
-fn rows_from<R: Row>(alloc: Global, records: &mut Records<'_>, fields: &mut Fields) -> Result<Vec<R>, Stopped>
+fn rows_from<R: Row>(
+    alloc: Global,
+    records: &mut Records<'_>,
+    fields: &mut Fields,
+) -> Result<Vec<R>, Stopped>
     ensures { Answers (λ rows. rows.items) (rows_from R.layout 2 R.layout.limit records.old) result }
 {
     let limit = R::limit() as usize;
