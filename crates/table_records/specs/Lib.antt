@@ -4,3 +4,4 @@ pub mod NameLists
 pub mod NoRow
 pub mod Records
 pub mod RecordsParts
+pub mod Values

@@ -5,11 +5,13 @@ mod fields;
 mod name_lists;
 mod records;
 mod table;
+mod values;
 
 pub use fields::Fields;
 pub use name_lists::{NAME_LIMIT, names};
 pub use records::Records;
 pub use table::{NoRow, Row, SIZE_LIMIT, read_table};
+pub use values::{name_in, optional_name_in, stamp_in};
 
 #[cfg(test)]
 mod tests;

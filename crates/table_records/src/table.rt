@@ -26,6 +26,17 @@ pub enum NoRow {
     Memory,
 }
 
+impl From<u8> for NoRow {
+    ghost use Rattle.std.specs.Prelude.{◌≡◌};
+    ghost use Rattle.table_records.specs.declared.table.NoRow.TheVariants.{Code};
+
+    ghost from_gives = { λ code why. why ≡ Code code };
+
+    fn from(code: u8) -> NoRow {
+        NoRow::Code(code)
+    }
+}
+
 /// The rows of one kind of table.
 pub trait Row: Drop {
     ghost layout: { Layout Self };
