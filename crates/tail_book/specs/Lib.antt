@@ -1,2 +1,17 @@
 pub mod Name
 pub mod NameParts
+pub mod Seen
+pub mod Numbers
+pub mod Sound
+pub mod Lookup
+pub mod Curfew
+pub mod Allowed
+pub mod Link
+pub mod Counters
+pub mod Route
+pub mod Cost
+pub mod Plan
+pub mod Truth
+pub mod Rising
+pub mod Bounds
+pub mod Tests

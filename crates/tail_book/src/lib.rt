@@ -1,8 +1,23 @@
 //! The book of a tail assignment problem: its types, and what legal routes, legal plans, costs and true answers are.
 #![tactic(auto)]
 
+mod activity;
+mod aircraft;
+mod book;
+pub mod laws;
 mod memory;
 mod name;
+mod outcome;
+mod place;
+mod plan;
+mod rules;
 
+pub use activity::Activity;
+pub use aircraft::Tail;
+pub use book::Book;
 pub use memory::Memory;
 pub use name::Name;
+pub use outcome::Outcome;
+pub use place::Place;
+pub use plan::{Plan, Route};
+pub use rules::{AircraftType, Airport, Band, Counter, CounterKind, Curfew, Rules};

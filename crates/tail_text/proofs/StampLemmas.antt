@@ -10,6 +10,7 @@ use Rattle.jiff_core.proofs.MarchLemmas.{day_count-early}
 use Rattle.jiff_core.proofs.SignedLemmas.{signed_arith}
 use Rattle.tail_text.specs.Stamp.{day_number, is_stamp_day}
 
+-- the days before the year 2200
 day_count-2200 : day_count (pos 2200) 1 1 ≡ 4_455_959
 day_count-2200 = day_count-early (pos 2200) 12199 1 1 refl (omega arith) (omega arith) (omega arith)
 
@@ -47,6 +48,7 @@ stamp_day_range y m d passed =
     ) in
     days_from_civil_range (pos y) m d (omega (arith, signed_arith, first)) (omega (arith, signed_arith, last)) date_is
 
+-- what a passed test tells of the day
 if_passed : (test : Bool) (day : ℤ) → (test ≡ true → IsBetween (pos 0) (pos 84_005) day) → IfSome (if test then Some day else None) (IsBetween (pos 0) (pos 84_005))
 if_passed true day range = range refl
 if_passed false day range = tt

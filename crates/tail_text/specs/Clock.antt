@@ -17,6 +17,7 @@ minutes_of h m = if nat_le h 23 && nat_le m 59 then Some (h * 60 + m) else None
 abbrev pub minutes_at : List ℕ → ℕ → Option ℕ
 minutes_at s i = if has_clock_shape_at s i then minutes_of (pair_at s i) (pair_at s (i + 3)) else None
 
+-- the answer to a text that holds these minutes, or none
 abbrev pub clock_at : Option ℕ → Result ℤ Bad
 clock_at (Some minutes) = Ok (pos minutes)
 clock_at None = Err bad

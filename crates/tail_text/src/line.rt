@@ -9,7 +9,7 @@ use std::marker::Model;
 use tail_book::Memory;
 
 /// A line of text that grows. Contracts see its bytes.
-#[derive(Drop)]
+#[derive(Debug, Drop)]
 pub struct Line {
     bytes: Vec<u8>,
 }

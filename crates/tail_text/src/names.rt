@@ -6,15 +6,16 @@ ghost use Rattle.tail_book.specs.Name.{is_name, is_name_byte};
 ghost use Rattle.tail_text.specs.NameText.{name_of};
 
 use crate::bad::Bad;
+use tail_book::Name;
 
 /// A name: 1 to 16 bytes, the first an ASCII letter or digit, the others letters, digits, `-` or `_`.
-pub fn name(text: &[u8]) -> Result<tail_book::Name, Bad>
+pub fn name(text: &[u8]) -> Result<Name, Bad>
     ensures { result ≡ name_of text.now }
 {
     if !is_name(text) {
         return Err(Bad);
     }
-    Ok(tail_book::Name::new(text))
+    Ok(Name::new(text))
 }
 
 fn is_name(text: &[u8]) -> bool

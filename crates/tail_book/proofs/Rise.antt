@@ -1,0 +1,43 @@
+-- Linked activities rise in number, and so do the numbers of a legal route.
+use Rattle.std.specs.Prelude.{⊤}
+use Rattle.std.proofs.Common.{ℕ, ℤ, pos, ◌≤ℤ◌, ◌<◌, ◌≤◌, Bool, true, false, arith, if◌then◌else◌, List, [], ◌∷◌}
+use Rattle.std.proofs.lemmas.Int.{ints, int_max_is}
+use Rattle.std.proofs.Math.Nat.{lt_of_not-le}
+use Rattle.std.specs.Int.{int_max}
+use Rattle.tail_book.specs.Seen.{BookSeen}
+use Rattle.tail_book.specs.declared.place.Place.{Place}
+use Rattle.tail_book.specs.declared.place.Place.TheVariants.{Carry, After}
+use Rattle.tail_book.specs.Lookup.{activities}
+use Rattle.tail_book.specs.Link.{IsLink, turn_time}
+use Rattle.tail_book.specs.Route.{IsLegalFrom}
+use Rattle.tail_book.specs.Rising.{IsBefore, IsRisingFrom}
+use Rattle.tail_book.proofs.Timed.{IsTimed}
+
+chosen : (b : Bool) (z w : ℤ) → pos 0 ≤ℤ z → pos 0 ≤ℤ (if b then int_max z w else pos 0)
+chosen true z w h = omega (arith, ints, int_max_is z w)
+chosen false z w h = omega (arith, ints)
+
+turn_is : (book : BookSeen) → IsTimed book → (k x b : ℕ) → pos 0 ≤ℤ turn_time book k (After x) b
+turn_is book timed k x b = chosen _ _ _ (timed.type_turns _)
+
+pub link_rises : (book : BookSeen) → IsTimed book → (k x b : ℕ) → x < activities book → b < activities book → IsLink book k (After x) b → x < b
+link_rises book timed k x b hx hb link = lt_of_not-le (λ (le : b ≤ x).
+    let o = timed.ordered b x le hx in
+    let l = timed.lasting x hx in
+    let t = link.time in
+    let z = turn_is book timed k x b in
+    absurd (omega (arith, ints)))
+
+-- a place of the book
+abbrev pub InRange : ℕ → Place → Type 0
+InRange n Carry = ⊤
+InRange n (After x) = x < n
+
+before_of : (book : BookSeen) → IsTimed book → (k : ℕ) (x : Place) (b : ℕ) → InRange (activities book) x → b < activities book → IsLink book k x b → IsBefore x b
+before_of book timed k Carry b hx hb link = tt
+before_of book timed k (After x) b hx hb link = link_rises book timed k x b hx hb link
+
+pub rises_from : (book : BookSeen) → IsTimed book → (k : ℕ) (x : Place) (values : List ℤ) (route : List ℕ) → InRange (activities book) x → IsLegalFrom book k x values route → IsRisingFrom (activities book) x route
+rises_from book timed k x values [] hx legal = tt
+rises_from book timed k x values (b ∷ rest) hx legal =
+    (before_of book timed k x b hx legal.0 legal.1, legal.0, rises_from book timed k (After b) _ rest legal.0 legal.3)

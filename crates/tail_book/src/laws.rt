@@ -1,0 +1,70 @@
+//! Laws over the definitions alone. Each function has no code: its contract is the law.
+
+ghost use Rattle.tail_book.specs.Rising.{LinksRise, LegalRoutesRise, EachIsFlownOnce};
+ghost use Rattle.tail_book.specs.Bounds.{ActivitiesCostAtMost, ConnectionsCostAtMost, LegalPlansCostAtMost};
+ghost use Rattle.tail_book.specs.Sound.{IsBook};
+ghost use Rattle.tail_book.specs.Tests.{AllowedDecides, LinkDecides, LimitsDecide, LegalRouteDecides, LegalPlanDecides};
+
+use crate::Book;
+
+/// What comes directly after an activity has a larger number.
+pub fn links_rise()
+    ensures { LinksRise }
+{}
+
+/// The numbers of a legal route rise strictly and are of the book.
+pub fn legal_routes_rise()
+    ensures { LegalRoutesRise }
+{}
+
+/// In a legal plan each activity is flown by exactly one aircraft.
+pub fn each_is_flown_once()
+    ensures { EachIsFlownOnce }
+{}
+
+/// An activity costs at most 964,000.
+pub fn activities_cost_at_most()
+    ensures { ActivitiesCostAtMost }
+{}
+
+/// A connection costs at most a million.
+pub fn connections_cost_at_most()
+    ensures { ConnectionsCostAtMost }
+{}
+
+/// A legal plan costs at most two million for each activity.
+pub fn legal_plans_cost_at_most()
+    ensures { LegalPlansCostAtMost }
+{}
+
+/// Whether an aircraft may fly an activity is decided by a test.
+pub fn allowed_decides()
+    ensures { AllowedDecides }
+{}
+
+/// Whether an activity may come directly after a place is decided by a test.
+pub fn link_decides()
+    ensures { LinkDecides }
+{}
+
+/// Whether counters are within their limits is decided by a test.
+pub fn limits_decide()
+    ensures { LimitsDecide }
+{}
+
+/// Whether a route is legal is decided by a test.
+pub fn legal_route_decides()
+    ensures { LegalRouteDecides }
+{}
+
+/// Whether a plan is legal is decided by a test.
+pub fn legal_plan_decides()
+    ensures { LegalPlanDecides }
+{}
+
+/// Every book keeps the order, the ranges and the limits of `IsBook`.
+pub fn every_book_is_sound(book: &Book)
+    ensures { IsBook book.now }
+{
+    let _ = &book.activities;
+}

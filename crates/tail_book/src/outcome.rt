@@ -1,0 +1,21 @@
+//! What a planner answers of a book.
+
+use crate::Plan;
+
+/// What a planner answers of a book: a plan of least cost, that no plan is legal, or, where it stopped at a limit
+/// of nodes, a bound that every legal plan costs at least, with the best plan found if there is one.
+#[derive(Debug, Drop)]
+pub enum Outcome {
+    Optimal(Plan, u64),
+    Infeasible,
+    Between {
+        plan: Plan,
+        low: u64,
+        high: u64,
+        nodes: u64,
+    },
+    Above {
+        low: u64,
+        nodes: u64,
+    },
+}
