@@ -1,5 +1,5 @@
 -- Fields that several tables have.
-use Rattle.std.specs.Prelude.{ℕ, List, length, ◌==◌, if◌then◌else◌, Option, Some, None, Result, Ok, Err, ℤ, pos, ◌≤ℤ◌}
+use Rattle.std.specs.Prelude.{ℕ, List, length, ◌==◌, if◌then◌else◌, Option, Some, None, Result, Ok, Err, ℤ}
 use Rattle.tail_text.specs.NameText.{name_of}
 use Rattle.tail_text.specs.Stamp.{stamp_of}
 use Rattle.tail_text.specs.declared.bad.Bad.{Bad}
@@ -21,7 +21,3 @@ optional_name_in field = if length field == 0 then Ok None else look (name_in fi
 -- a moment in minutes since 1970-01-01T00:00 UTC, or else code 6
 abbrev pub stamp_in : List ℕ → Result ℤ ℕ
 stamp_in field = or_code 6 (stamp_of field)
-
--- a minute from 1970-01-01T00:00 to 2199-12-31T23:59
-abbrev pub IsMoment : ℤ → Type 0
-IsMoment z = (pos 0 ≤ℤ z) × (z ≤ℤ pos 120_968_639)

@@ -2,7 +2,8 @@
 
 ghost use Rattle.std.specs.Prelude.{◌≡◌, true, IfOk, IfSome};
 ghost use Rattle.tail_book.specs.Name.{is_name};
-ghost use Rattle.table_records.specs.Values.{IsMoment, name_in, optional_name_in, stamp_in};
+ghost use Rattle.tail_book.specs.Sound.{IsMoment};
+ghost use Rattle.table_records.specs.Values.{name_in, optional_name_in, stamp_in};
 
 use tail_book::Name;
 use tail_text::{name, stamp};

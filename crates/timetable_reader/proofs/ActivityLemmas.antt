@@ -5,7 +5,6 @@ use Rattle.std.proofs.lemmas.Bool.{and_parts}
 use Rattle.std.proofs.lemmas.Int.{ints}
 use Rattle.std.specs.Int.RustNames.{int_le}
 use Rattle.std.specs.Cmp.Lexicographic.{same_text}
-use Rattle.timetable_reader.specs.Activity.{IsSpan}
 use Rattle.timetable_reader.specs.Timetable.{is_span, is_whole}
 
 -- on the ground an aircraft stays where it is
@@ -22,14 +21,16 @@ is_whole-in_flight false from to resets whole e = cc e
 is_whole-in_flight true from to [] whole e = refl
 is_whole-in_flight true from to (r ∷ rs) whole e = absurd (not_empty (length rs) (rw add-one whole))
 
-least : (start end : ℤ) → int_le (pos 1) (end -ℤ start) ≡ true → (start +ℤ pos 1) ≤ℤ end
-least start end e = grind (arith, ints)
+least : (span : ℤ) (start end : ℤ) → span ≡ end -ℤ start → int_le (pos 1) span ≡ true → (start +ℤ pos 1) ≤ℤ end
+least span start end is e = grind (arith, ints)
 
-most : (start end : ℤ) → int_le (end -ℤ start) (pos 2880) ≡ true → end ≤ℤ (start +ℤ pos 2880)
-most start end e = grind (arith, ints)
+most : (span : ℤ) (start end : ℤ) → span ≡ end -ℤ start → int_le span (pos 2880) ≡ true → end ≤ℤ (start +ℤ pos 2880)
+most span start end is e = grind (arith, ints)
 
--- a span lies within its bounds
-pub is_span-IsSpan : (start end : ℤ) → is_span start end ≡ true → IsSpan start end
-is_span-IsSpan start end e =
-    let parts = and_parts (int_le (pos 1) (end -ℤ start)) (int_le (end -ℤ start) (pos 2880)) e in
-    (least start end parts.0, most start end parts.1)
+-- an end comes a minute after its start at least
+pub is_span-least : (start end : ℤ) → is_span start end ≡ true → (start +ℤ pos 1) ≤ℤ end
+is_span-least start end e = least (end -ℤ start) start end refl (and_parts (int_le (pos 1) (end -ℤ start)) (int_le (end -ℤ start) (pos 2880)) e).0
+
+-- and two days after it at most
+pub is_span-most : (start end : ℤ) → is_span start end ≡ true → end ≤ℤ (start +ℤ pos 2880)
+is_span-most start end e = most (end -ℤ start) start end refl (and_parts (int_le (pos 1) (end -ℤ start)) (int_le (end -ℤ start) (pos 2880)) e).1

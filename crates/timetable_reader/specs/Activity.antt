@@ -1,8 +1,8 @@
 -- An activity as its record in the timetable says it.
 use Rattle.std.specs.Prelude.{ℕ, ◌≡◌, Bool, true, false, List, [], Option, IfSome, ℤ, pos, ◌+ℤ◌, ◌≤ℤ◌}
 use Rattle.tail_book.specs.Name.{is_name}
+use Rattle.tail_book.specs.Sound.{IsMoment}
 use Rattle.table_records.specs.NameLists.{AreNames}
-use Rattle.table_records.specs.Values.{IsMoment}
 
 -- the fields of a record: names as their bytes, times in minutes since 1970-01-01T00:00 UTC
 pub record RawActivitySeen : Type 0 where
@@ -17,10 +17,6 @@ pub record RawActivitySeen : Type 0 where
   pub tail : Option (List ℕ)
   pub resets : List (List ℕ)
 
--- an end that is a minute to two days after its start
-abbrev pub IsSpan : ℤ → ℤ → Type 0
-IsSpan start end = ((start +ℤ pos 1) ≤ℤ end) × (end ≤ℤ (start +ℤ pos 2880))
-
 -- what holds of every record by itself: its names are in the grammar, its times are in range, it lasts from a minute to
 -- two days, on the ground it stays where it is, and in flight it resets nothing
 pub record IsRawActivity (a : RawActivitySeen) : Type 0 where
@@ -29,7 +25,8 @@ pub record IsRawActivity (a : RawActivitySeen) : Type 0 where
   pub to : is_name a.to ≡ true
   pub start : IsMoment a.start
   pub end : IsMoment a.end
-  pub span : IsSpan a.start a.end
+  pub least : (a.start +ℤ pos 1) ≤ℤ a.end
+  pub most : a.end ≤ℤ (a.start +ℤ pos 2880)
   pub types : AreNames a.types
   pub tags : AreNames a.tags
   pub tail : IfSome a.tail (λ name. is_name name ≡ true)

@@ -1,10 +1,9 @@
 //! The timetable, record by record.
 
-ghost use Rattle.std.specs.Prelude.{◌≡◌, IfOk};
+ghost use Rattle.std.specs.Prelude.{◌≡◌, ◌+ℤ◌, ◌≤ℤ◌, pos, IfOk};
+ghost use Rattle.tail_book.specs.Sound.{IsMoment};
 ghost use Rattle.tail_text.specs.Reading.{Answers};
-ghost use Rattle.table_records.specs.Values.{IsMoment};
 ghost use Rattle.table_records.specs.NoRow.{Judges};
-ghost use Rattle.timetable_reader.specs.Activity.{IsSpan};
 ghost use Rattle.timetable_reader.specs.Timetable.{activity_of, end_of, is_built, is_span, is_whole, kind_of, timetable, timetable_of};
 
 use crate::RawActivity;
@@ -100,7 +99,8 @@ fn end_of(start: i64, field: &[u8]) -> Result<i64, u8>
     requires { IsMoment start }
     ensures value { result ≡ end_of start field.now }
     ensures range { IfOk result IsMoment }
-    ensures span { IfOk result (IsSpan start) }
+    ensures least { IfOk result (λ end. (start +ℤ pos 1) ≤ℤ end) }
+    ensures most { IfOk result (λ end. end ≤ℤ (start +ℤ pos 2880)) }
 {
     let end = stamp_in(field)?;
     if !is_span(start, end) {
