@@ -1,0 +1,5 @@
+pub mod FieldLemmas
+pub mod Rest
+pub mod RowLemmas
+pub mod TextLemmas
+pub mod NameLemmas

@@ -1,0 +1,69 @@
+-- How a table is read, up to its first refusal: its size, its bytes, its header, and its records one by one.
+use Rattle.std.specs.Prelude.{ℕ, ◌+◌, ◌-◌, Bool, true, false, List, [], ◌∷◌, length, ◌==◌, nat_le, nat_lt, Result, Ok, Err}
+use Rattle.std.specs.Str.{is_utf8}
+use Rattle.tail_text.specs.Reading.{refusal_at}
+use Rattle.tail_text.specs.declared.refusal.Refusal.{Refusal}
+use Rattle.tail_text.specs.declared.refusal.Table.{Table}
+use Rattle.table_records.specs.declared.table.TheConstants.{SIZE_LIMIT}
+use Rattle.table_records.specs.Fields.{are_same}
+use Rattle.table_records.specs.Records.{records_of}
+
+-- what a table is: its name in refusals, its header's fields, the most records under the header, and what the fields
+-- of one record give: a row, or the code with which the record is refused
+pub record Layout (A : Type 0) : Type 0 where
+  pub table : Table
+  pub header : List (List ℕ)
+  pub limit : ℕ
+  pub row_of : List (List ℕ) → Result A ℕ
+
+-- a check: where it fails, this is why, and what follows is not looked at
+abbrev pub must : {A E : Type 0} → Bool → E → Result A E → Result A E
+must true why next = next
+must false why next = Err why
+
+-- a look at a value: where it gives none, this is why, and what follows is not looked at
+abbrev pub look : {A B E : Type 0} → Result A E → (A → Result B E) → Result B E
+look (Ok a) next = next a
+look (Err why) next = Err why
+
+-- the first record is the header, field for field
+abbrev pub is_headed : List (List ℕ) → List (List (List ℕ)) → Bool
+is_headed header [] = false
+is_headed header (first ∷ more) = are_same first header
+
+-- the records under the header
+abbrev pub under : List (List (List ℕ)) → List (List (List ℕ))
+under [] = []
+under (first ∷ more) = more
+
+-- what one record gives, where so many may still come: its number of fields, whether it is one too many, and its fields
+abbrev pub record_of : {A : Type 0} → Layout A → ℕ → List (List ℕ) → Result A ℕ
+record_of layout room fields =
+    must (length fields == length layout.header) 4 (
+    must (nat_lt 0 room) 10 (
+    layout.row_of fields))
+
+-- a row before those that follow it, or the first refusal
+abbrev pub row_then : {A : Type 0} → Table → ℕ → Result A ℕ → Result (List A) Refusal → Result (List A) Refusal
+row_then table place (Ok row) (Ok rows) = Ok (row ∷ rows)
+row_then table place (Ok row) (Err refusal) = Err refusal
+row_then table place (Err code) rows = Err (refusal_at code table place)
+
+-- the rows of the records from a place on, of which so many may still come
+unfoldable pub rows_from : {A : Type 0} → Layout A → ℕ → ℕ → List (List (List ℕ)) → Result (List A) Refusal
+rows_from layout place room [] = Ok []
+rows_from layout place room (fields ∷ more) =
+    row_then layout.table place (record_of layout room fields) (rows_from layout (place + 1) (room - 1) more)
+
+-- the rows of a table's records, of which the first has to be the header
+abbrev pub rows_of : {A : Type 0} → Layout A → List (List (List ℕ)) → Result (List A) Refusal
+rows_of layout records =
+    must (is_headed layout.header records) (refusal_at 3 layout.table 1) (
+    rows_from layout 2 layout.limit (under records))
+
+-- the rows of a table, or its first refusal; a record's place is its number, counted from 1 with the header
+abbrev pub table_of : {A : Type 0} → Layout A → List ℕ → Result (List A) Refusal
+table_of layout bytes =
+    must (nat_le (length bytes) SIZE_LIMIT) (refusal_at 1 layout.table 0) (
+    must (is_utf8 bytes) (refusal_at 2 layout.table 0) (
+    rows_of layout (records_of bytes)))

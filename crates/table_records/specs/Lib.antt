@@ -1,0 +1,7 @@
+pub mod Fields
+pub mod Layout
+pub mod NameLists
+pub mod NoRow
+pub mod Records
+pub mod RecordsParts
+pub mod Values

@@ -1,0 +1,23 @@
+-- Fields that several tables have.
+use Rattle.std.specs.Prelude.{ℕ, List, length, ◌==◌, if◌then◌else◌, Option, Some, None, Result, Ok, Err, ℤ}
+use Rattle.tail_text.specs.NameText.{name_of}
+use Rattle.tail_text.specs.Stamp.{stamp_of}
+use Rattle.tail_text.specs.declared.bad.Bad.{Bad}
+use Rattle.table_records.specs.Layout.{look}
+
+-- what a text gives, or the code of a text that is not in its grammar
+abbrev pub or_code : {A : Type 0} → ℕ → Result A Bad → Result A ℕ
+or_code code (Ok value) = Ok value
+or_code code (Err why) = Err code
+
+-- a name, or else code 5
+abbrev pub name_in : List ℕ → Result (List ℕ) ℕ
+name_in field = or_code 5 (name_of field)
+
+-- none where the field is empty, and otherwise a name, or else code 5
+abbrev pub optional_name_in : List ℕ → Result (Option (List ℕ)) ℕ
+optional_name_in field = if length field == 0 then Ok None else look (name_in field) (λ name. Ok (Some name))
+
+-- a moment in minutes since 1970-01-01T00:00 UTC, or else code 6
+abbrev pub stamp_in : List ℕ → Result ℤ ℕ
+stamp_in field = or_code 6 (stamp_of field)

@@ -1,0 +1,17 @@
+//! Tables of records: the records as `csv` reads them, and a whole table read up to its first refusal.
+#![tactic(auto)]
+
+mod fields;
+mod name_lists;
+mod records;
+mod table;
+mod values;
+
+pub use fields::Fields;
+pub use name_lists::{NAME_LIMIT, names};
+pub use records::Records;
+pub use table::{NoRow, Row, SIZE_LIMIT, read_table};
+pub use values::{name_in, optional_name_in, stamp_in};
+
+#[cfg(test)]
+mod tests;

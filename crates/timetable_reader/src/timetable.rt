@@ -1,0 +1,135 @@
+//! The timetable, record by record.
+
+ghost use Rattle.std.specs.Prelude.{◌≡◌, ◌+ℤ◌, ◌≤ℤ◌, pos, IfOk};
+ghost use Rattle.tail_book.specs.Sound.{IsMoment};
+ghost use Rattle.tail_text.specs.Reading.{Answers};
+ghost use Rattle.table_records.specs.NoRow.{Judges};
+ghost use Rattle.timetable_reader.specs.Timetable.{activity_of, end_of, is_built, is_span, is_whole, kind_of, timetable, timetable_of};
+
+use crate::RawActivity;
+use std::alloc::Global;
+use table_records::{Fields, NoRow, Row, name_in, names, optional_name_in, read_table, stamp_in};
+use tail_book::Name;
+use tail_text::{Stopped, Table};
+
+/// The most records under the header.
+// Small for as long as every legal plan is looked at.
+pub const ACTIVITY_LIMIT: usize = 10;
+
+/// The records of a timetable in its order, or its first refusal.
+pub fn read_timetable(alloc: Global, bytes: &[u8]) -> Result<Vec<RawActivity>, Stopped>
+    ensures { Answers (λ v. v.items) (timetable_of bytes.now) result }
+{
+    read_table(alloc, bytes)
+}
+
+impl Row for RawActivity {
+    ghost layout = { timetable };
+
+    fn table() -> Table {
+        Table::Timetable
+    }
+
+    fn limit() -> u32 {
+        ACTIVITY_LIMIT as u32
+    }
+
+    fn width() -> usize {
+        10
+    }
+
+    fn is_header(fields: &Fields) -> bool {
+        fields.are(&[
+            "id", "kind", "from", "to", "start", "end", "types", "tags", "tail", "resets",
+        ])
+    }
+
+    fn row_of(alloc: Global, fields: &Fields) -> Result<RawActivity, NoRow> {
+        let activity = activity_of(alloc, fields)?;
+        if !is_built(&activity) {
+            return Err(NoRow::Code(17));
+        }
+        Ok(activity)
+    }
+}
+
+fn activity_of(alloc: Global, fields: &Fields) -> Result<RawActivity, NoRow>
+    ensures { Judges (λ a. a) (activity_of fields.now) result }
+{
+    let id = name_in(fields.at(0))?;
+    let flight = kind_of(fields.at(1))?;
+    let from = name_in(fields.at(2))?;
+    let to = name_in(fields.at(3))?;
+    let start = stamp_in(fields.at(4))?;
+    let end = end_of(start, fields.at(5))?;
+    let types = names(alloc, fields.at(6))?;
+    let tags = names(alloc, fields.at(7))?;
+    let tail = optional_name_in(fields.at(8))?;
+    let resets = names(alloc, fields.at(9))?;
+    if !is_whole(flight, &from, &to, resets.as_slice()) {
+        return Err(NoRow::Code(16));
+    }
+    Ok(RawActivity {
+        id,
+        flight,
+        from,
+        to,
+        start,
+        end,
+        types,
+        tags,
+        tail,
+        resets,
+    })
+}
+
+fn kind_of(field: &[u8]) -> Result<bool, u8>
+    ensures { result ≡ kind_of field.now }
+{
+    if field == b"flight".as_slice() {
+        return Ok(true);
+    }
+    if field == b"ground".as_slice() {
+        return Ok(false);
+    }
+    Err(8)
+}
+
+fn end_of(start: i64, field: &[u8]) -> Result<i64, u8>
+    requires { IsMoment start }
+    ensures value { result ≡ end_of start field.now }
+    ensures range { IfOk result IsMoment }
+    ensures least { IfOk result (λ end. (start +ℤ pos 1) ≤ℤ end) }
+    ensures most { IfOk result (λ end. end ≤ℤ (start +ℤ pos 2880)) }
+{
+    let end = stamp_in(field)?;
+    if !is_span(start, end) {
+        return Err(7);
+    }
+    Ok(end)
+}
+
+fn is_span(start: i64, end: i64) -> bool
+    requires start { IsMoment start }
+    requires end { IsMoment end }
+    ensures { result ≡ is_span start end }
+{
+    let span = end - start;
+    span >= 1 && span <= 2880
+}
+
+fn is_whole(flight: bool, from: &Name, to: &Name, resets: &[Name]) -> bool
+    ensures { result ≡ is_whole flight from.now to.now resets.now }
+{
+    if flight { resets.is_empty() } else { from == to }
+}
+
+fn is_built(activity: &RawActivity) -> bool
+    ensures { result ≡ is_built activity.now }
+{
+    activity.flight
+        && activity.types.is_empty()
+        && activity.tags.is_empty()
+        && activity.tail.is_none()
+        && activity.resets.is_empty()
+}
