@@ -128,8 +128,8 @@ fn empty(alloc: Global, files: &mut Vec<MemFile>, name: &str) -> Result<(), Memo
 {
     match place_of(files, name) {
         Some(place) => {
-            let file = &mut files[place];
-            file.bytes.clear();
+            let emptied = &mut files[place];
+            emptied.bytes.clear();
         }
         None => add_file(alloc, files, name, &[])?,
     }

@@ -6,12 +6,12 @@ use Rattle.std.specs.Str.{bytes_eq}
 pub returns-in-Some-clause-emptied : goal.returns-in-Some-clause-emptied
 returns-in-Some-clause-emptied c =
     let found : position (λ file. bytes_eq file.name c.args.name.now) c.args.files.now.items ≡ Some c.in-Some.place = sym (rw c.deref.ensures.value at c.in-Some.ensures) in
-    first_under-set (λ file. file.name) (λ file. file.bytes) c.args.files.now.items c.args.name.now c.in-Some.place c.index_mut-file.result.now _ found c.index_mut-file.ensures.value (ap (λ file. file.name) c.file.view_is) ∙ ap Some c.clear.ensures.items
+    first_under-set (λ file. file.name) (λ file. file.bytes) c.args.files.now.items c.args.name.now c.in-Some.place c.index_mut-emptied.result.now _ found c.index_mut-emptied.ensures.value (ap (λ file. file.name) c.emptied.view_is) ∙ ap Some c.clear.ensures.items
 
 pub returns-in-Some-clause-others : goal.returns-in-Some-clause-others
 returns-in-Some-clause-others c =
     let found : position (λ file. bytes_eq file.name c.args.name.now) c.args.files.now.items ≡ Some c.in-Some.place = sym (rw c.deref.ensures.value at c.in-Some.ensures) in
-    others-set (λ file. file.name) (λ file. file.bytes) c.args.files.now.items c.args.name.now c.in-Some.place c.index_mut-file.result.now _ found c.index_mut-file.ensures.value (ap (λ file. file.name) c.file.view_is)
+    others-set (λ file. file.name) (λ file. file.bytes) c.args.files.now.items c.args.name.now c.in-Some.place c.index_mut-emptied.result.now _ found c.index_mut-emptied.ensures.value (ap (λ file. file.name) c.emptied.view_is)
 
 pub returns-in_ok-add_file-in-None-clause-emptied : goal.returns-in_ok-add_file-in-None-clause-emptied
 returns-in_ok-add_file-in-None-clause-emptied c =
