@@ -1,6 +1,6 @@
 -- Pieces that are added one after the other, for callers that put several.
 -- A front of the last piece, behind the whole pieces before it, is a front of them all.
-use Rattle.std.proofs.Common.{◌≡◌, ◌∙◌, ◌<◌, ◌≤◌, ℕ, List, [], ◌++◌, Option, Some, None, inl, inr, refl, sym, ap, arith, append_assoc}
+use Rattle.std.proofs.Common.{◌≡◌, ◌∙◌, ◌≤◌, ℕ, List, [], ◌++◌, Option, Some, None, inl, inr, refl, sym, ap, arith, append_assoc}
 use Rattle.std.proofs.lemmas.List.{append-nil}
 use Rattle.tail_outside.specs.Outside.{HasRisen, Adds, AddsFront}
 

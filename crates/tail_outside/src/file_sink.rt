@@ -1,7 +1,6 @@
 //! A sink over one named file.
 
-ghost use Rattle.std.specs.Prelude.{◌≡◌, ℕ, List, IsTrue, refl};
-ghost use Rattle.tail_outside.specs.Outside.{SameOthers, SameNames, StayCeased};
+ghost use Rattle.std.specs.Prelude.{◌≡◌, IsTrue};
 
 use crate::{Fault, Files, Sink};
 
@@ -33,8 +32,9 @@ impl<'a, F: Files> FileSink<'a, F> {
 }
 
 impl<'a, F: Files> Sink for FileSink<'a, F> {
+    ghost use Rattle.std.specs.Prelude.{◌≡◌, refl};
     ghost use Rattle.std.proofs.Common.{◌∙◌, ap};
-    ghost use Rattle.tail_outside.specs.Outside.{SameOthers-chain};
+    ghost use Rattle.tail_outside.specs.Outside.{SameOthers, SameNames, StayCeased, SameOthers-chain};
 
     ghost faults = { λ s. F.write_faults s.files };
 

@@ -1,4 +1,3 @@
-use Rattle.std.proofs.Common.{◌≡◌, ◌++◌, []}
 use Rattle.tail_outside.proofs.OutsideLemmas.{AddsFront-more}
 use Rattle.tail_outside.proofs.tests.put_both.Goals as goal
 
