@@ -12,9 +12,9 @@ first_under name_of part xs name = option_map part (find (λ x. bytes_eq (name_o
 abbrev pub bytes_under : List FileSeen → List ℕ → Option (List ℕ)
 bytes_under = first_under (λ file. file.name) (λ file. file.bytes)
 
--- those bytes, and none where no file has the name
-abbrev pub bytes_or_none : List FileSeen → List ℕ → List ℕ
-bytes_or_none files name = unwrap_or (bytes_under files name) []
+-- those bytes, and no bytes where no file has the name
+abbrev pub bytes_or_empty : List FileSeen → List ℕ → List ℕ
+bytes_or_empty files name = unwrap_or (bytes_under files name) []
 
 -- one more in a count, which ends at 2 ^ 64 - 1
 abbrev pub one_up : ℕ → ℕ

@@ -29,6 +29,10 @@ pub record RealFilesSeen : Type 0 where
   pub read_faults : ℕ
   pub write_faults : ℕ
 
+-- the real output: how many pieces have failed
+pub record RealOutSeen : Type 0 where
+  pub faults : ℕ
+
 -- a sink that never fails: its bytes, how many more it takes, and whether it has ceased
 pub record SureSinkSeen : Type 0 where
   pub bytes : List ℕ

@@ -1,5 +1,5 @@
 -- Sinks and files that never fail, with room for so many bytes.
-use Rattle.std.specs.Prelude.{ℕ, ◌-◌, Bool, true, false, ◌||◌, List, [], ◌++◌, length, nat_lt, Option, Some, None, if◌then◌else◌, option_and_then, unwrap_or, option_map}
+use Rattle.std.specs.Prelude.{ℕ, ◌-◌, Bool, true, false, ◌||◌, List, [], ◌++◌, length, nat_lt, Option, Some, None, if◌then◌else◌, option_and_then, unwrap_or}
 use Rattle.std.specs.Option.{option_map_or}
 use Rattle.tail_outside.specs.Held.{first_under}
 use Rattle.tail_outside.specs.Seen.{FileSeen, SureSinkSeen, SureFileSeen}
@@ -47,6 +47,6 @@ ceased_under files name = option_map_or (λ sink. sink.ceased) (sink_under files
 abbrev pub held_under : List SureFileSeen → List ℕ → Option (List ℕ)
 held_under = first_under (λ file. file.name) (λ file. file.sink.bytes)
 
--- what is read under a name: those bytes, and none where no file has the name
+-- what is read under a name: those bytes, and no bytes where no file has the name
 abbrev pub read_under : List SureFileSeen → List ℕ → List ℕ
 read_under files name = unwrap_or (held_under files name) []

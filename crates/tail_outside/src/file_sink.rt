@@ -1,7 +1,6 @@
 //! A sink over one named file.
 
-ghost use Rattle.std.specs.Prelude.{◌≡◌, ℕ, List, IsTrue, refl};
-ghost use Rattle.tail_outside.specs.Outside.{SameOthers, SameNames, StayCeased};
+ghost use Rattle.std.specs.Prelude.{◌≡◌, IsTrue};
 
 use crate::{Fault, Files, Sink};
 
@@ -33,8 +32,9 @@ impl<'a, F: Files> FileSink<'a, F> {
 }
 
 impl<'a, F: Files> Sink for FileSink<'a, F> {
+    ghost use Rattle.std.specs.Prelude.{◌≡◌, refl};
     ghost use Rattle.std.proofs.Common.{◌∙◌, ap};
-    ghost use Rattle.tail_outside.specs.Outside.{SameOthers-chain};
+    ghost use Rattle.tail_outside.specs.Outside.{SameOthers, SameNames, StayCeased, SameOthers-chain};
 
     ghost faults = { λ s. F.write_faults s.files };
 
@@ -42,6 +42,7 @@ impl<'a, F: Files> Sink for FileSink<'a, F> {
 
     ghost ceased = { λ s. F.ceased s.files s.name.now };
 
+    // The name, the files of other names, the names that may be used and the read faults stay.
     ghost beside = { λ a b. (b.name ≡ a.name)
         × SameOthers (F.holds a.files) (F.holds b.files) a.name.now
         × SameNames (F.lets_read a.files) (F.lets_read b.files)
@@ -49,7 +50,14 @@ impl<'a, F: Files> Sink for FileSink<'a, F> {
         × StayCeased (F.ceased a.files) (F.ceased b.files)
         × (F.read_faults b.files ≡ F.read_faults a.files) };
 
-    ghost beside_same = { λ s. (refl, λ other differs. refl, λ other. refl, λ other. refl, λ other alive. alive, refl) };
+    ghost beside_same = { λ s. (
+      refl,
+      λ other differs. refl,
+      λ other. refl,
+      λ other. refl,
+      λ other alive. alive,
+      refl,
+    ) };
 
     ghost beside_chains = { λ a b c h k. (
       k.0 ∙ h.0,

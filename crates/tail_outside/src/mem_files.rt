@@ -1,9 +1,9 @@
 //! Files in memory, which tell their bytes.
 
-ghost use Rattle.std.specs.Prelude.{◌≡◌, ◌≤◌, ◌≢◌, ◌^◌, ◌↔◌, ◌⊎◌, ◌++◌, ℕ, Bool, true, false, List, [], ◌∷◌, Option, Some, None, length, option_map, position, IsTrue, IfOk, IfSome, IsErr, OnOk, OnErr, IsErrOf};
+ghost use Rattle.std.specs.Prelude.{◌≡◌, ◌≤◌, ◌^◌, ◌↔◌, ◌⊎◌, ◌++◌, [], ◌∷◌, length, option_map, position, IsTrue, IsOk, IfOk, IfSome, IsErr, OnOk, OnErr, IsErrOf};
 ghost use Rattle.std.specs.Str.{bytes_eq};
-ghost use Rattle.tail_outside.specs.Outside.{HasRisen, IsRead, Adds, AddsFront, SameOthers};
-ghost use Rattle.tail_outside.specs.Held.{bytes_under, bytes_or_none, fails_next, one_more, files_at_first};
+ghost use Rattle.tail_outside.specs.Held.{bytes_under, bytes_or_empty, fails_next, one_more, files_at_first};
+ghost use Rattle.tail_outside.specs.Outside.{HasRisen, IsRead, SameOthers};
 
 use crate::calls::Calls;
 use crate::{Failed, Fault, Files};
@@ -62,7 +62,8 @@ impl Model for MemFiles {
 impl MemFiles {
     /// These files. The calls with the numbers in `failing`, counted from 1, will fail.
     pub fn new(alloc: Global, files: Vec<MemFile>, failing: Vec<u64>) -> Result<MemFiles, Memory>
-        ensures { IfOk result (λ made. made ≡ files_at_first files.items failing.items) }
+        ensures ok { IsOk result }
+        ensures made { IfOk result (λ made. made ≡ files_at_first files.items failing.items) }
     {
         Ok(MemFiles {
             alloc,
@@ -92,7 +93,7 @@ fn place_of(files: &[MemFile], name: &str) -> Option<usize>
 // Adds the piece to the file of this name, which is made where it isn't there.
 fn extend(alloc: Global, files: &mut Vec<MemFile>, name: &str, piece: &[u8]) -> Result<(), Memory>
     ensures added { OnOk result (bytes_under files.new.items name.now
-        ≡ Some (bytes_or_none files.old.items name.now ++ piece.now)) }
+        ≡ Some (bytes_or_empty files.old.items name.now ++ piece.now)) }
     ensures others { SameOthers (bytes_under files.old.items) (bytes_under files.new.items) name.now }
     ensures memory { OnErr result (files.new.items ≡ files.old.items) }
 {
@@ -128,8 +129,8 @@ fn empty(alloc: Global, files: &mut Vec<MemFile>, name: &str) -> Result<(), Memo
 {
     match place_of(files, name) {
         Some(place) => {
-            let file = &mut files[place];
-            file.bytes.clear();
+            let emptied = &mut files[place];
+            emptied.bytes.clear();
         }
         None => add_file(alloc, files, name, &[])?,
     }
@@ -137,7 +138,7 @@ fn empty(alloc: Global, files: &mut Vec<MemFile>, name: &str) -> Result<(), Memo
 }
 
 impl Files for MemFiles {
-    ghost use Rattle.std.specs.Prelude.{true};
+    ghost use Rattle.std.specs.Prelude.{true, false};
 
     ghost read_faults = { λ f. f.read_faults };
 
@@ -204,7 +205,7 @@ impl Files for MemFiles {
 
     fn append(&mut self, name: &str, piece: &[u8]) -> Result<(), Fault>
         ensures added { OnOk result (bytes_under self.new.files name.now
-            ≡ Some (bytes_or_none self.old.files name.now ++ piece.now)) }
+            ≡ Some (bytes_or_empty self.old.files name.now ++ piece.now)) }
         ensures same { OnErr result (self.new.files ≡ self.old.files) }
         ensures others { SameOthers (bytes_under self.old.files) (bytes_under self.new.files) name.now }
         ensures failed { IsErrOf result Fault.Failed ↔ IsTrue (fails_next self.old.calls) }

@@ -1,6 +1,6 @@
 //! A sink in memory, which tells its bytes.
 
-ghost use Rattle.std.specs.Prelude.{◌≡◌, ◌≤◌, ◌↔◌, ◌++◌, IsTrue, IfOk, OnOk, OnErr, IsErrOf};
+ghost use Rattle.std.specs.Prelude.{◌≡◌, ◌≤◌, ◌↔◌, ◌++◌, IsTrue, IsOk, IfOk, OnOk, OnErr, IsErrOf};
 ghost use Rattle.tail_outside.specs.Held.{fails_next, one_more, sink_at_first};
 ghost use Rattle.tail_outside.specs.Outside.{HasRisen};
 
@@ -29,7 +29,8 @@ impl Model for MemSink {
 impl MemSink {
     /// An empty sink. The calls with the numbers in `failing`, counted from 1, will fail.
     pub fn new(alloc: Global, failing: Vec<u64>) -> Result<MemSink, Memory>
-        ensures { IfOk result (λ made. made ≡ sink_at_first failing.items) }
+        ensures ok { IsOk result }
+        ensures made { IfOk result (λ made. made ≡ sink_at_first failing.items) }
     {
         Ok(MemSink {
             bytes: Vec::new(alloc),

@@ -142,17 +142,17 @@ pub struct RealOut<R: Print + Drop> {
 }
 
 impl<R: Print + Drop> Model for RealOut<R> {
-    ghost use Rattle.std.specs.Prelude.{ℕ};
+    ghost use Rattle.tail_outside.specs.Seen.{RealOutSeen};
 
-    ghost Value = { ℕ };
+    ghost Value = { RealOutSeen };
 
-    ghost view = { λ s. s.faults };
+    ghost view = { λ s. record { faults = s.faults } };
 }
 
 impl<R: Print + Drop> RealOut<R> {
     /// The output of this runtime.
     pub fn new(runtime: R) -> RealOut<R>
-        ensures { result ≡ 0 }
+        ensures { result ≡ record { faults = 0 } }
     {
         RealOut { runtime, faults: 0 }
     }
@@ -161,7 +161,7 @@ impl<R: Print + Drop> RealOut<R> {
 impl<R: Print + Drop> Sink for RealOut<R> {
     ghost use Rattle.std.specs.Prelude.{false, None, ⊤};
 
-    ghost faults = { λ s. s };
+    ghost faults = { λ s. s.faults };
 
     ghost told = { λ s. None };
 
@@ -176,8 +176,8 @@ impl<R: Print + Drop> Sink for RealOut<R> {
     fn put(&mut self, piece: &[u8]) -> Result<(), Fault>
         ensures failed { IfErr result (λ fault. fault ≡ Fault.Failed) }
         ensures quiet { OnOk result (self.new ≡ self.old) }
-        ensures counts { self.old ≤ self.new }
-        ensures cause { IsErr result → HasRisen self.old self.new }
+        ensures counts { self.old.faults ≤ self.new.faults }
+        ensures cause { IsErr result → HasRisen self.old.faults self.new.faults }
     {
         match write_whole(&mut io::writer(&self.runtime), piece) {
             Ok(()) => Ok(()),

@@ -2,10 +2,10 @@
 //! A piece that passes its file's room is dropped, and nothing is told of that file from then on.
 //! A name that no file has is read as an empty file, and what is written under it is dropped.
 
-ghost use Rattle.std.specs.Prelude.{◌≡◌, ◌≢◌, ◌≤◌, ◌^◌, ℕ, List, [], false, length, map, option_map, position, IfOk, IsOk, IfSome, Some};
+ghost use Rattle.std.specs.Prelude.{◌≡◌, ◌≢◌, ◌≤◌, ◌^◌, ℕ, List, length, map, option_map, position, IfOk, IsOk};
 ghost use Rattle.std.specs.Str.{bytes_eq};
-ghost use Rattle.tail_outside.specs.Outside.{IsRead, Adds, SameOthers, StayCeased};
-ghost use Rattle.tail_outside.specs.Sure.{file_with_room, after_piece, emptied, sink_under, told_under, ceased_under, held_under, read_under};
+ghost use Rattle.tail_outside.specs.Outside.{IsRead};
+ghost use Rattle.tail_outside.specs.Sure.{file_with_room, after_piece, emptied, sink_under, held_under, read_under};
 
 use crate::mem_files::copy;
 use crate::{Failed, Fault, Files, MemFile, SureSink};

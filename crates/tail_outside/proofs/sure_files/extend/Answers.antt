@@ -4,6 +4,7 @@ use Rattle.tail_outside.proofs.HeldLemmas.{first_under-place, first_under-set, o
 use Rattle.tail_outside.proofs.sure_files.extend.Goals as goal
 use Rattle.tail_outside.specs.Sure.{after_piece, sink_under}
 
+-- the file stands at its place, with its sink changed
 pub returns-in-Some-clause-after : goal.returns-in-Some-clause-after
 returns-in-Some-clause-after c =
     let found : position (λ file. bytes_eq file.name c.args.name.now) c.args.files.now.items ≡ Some c.in-Some.place = sym (rw c.deref.ensures.value at c.in-Some.ensures) in
@@ -12,11 +13,13 @@ returns-in-Some-clause-after c =
     let written = first_under-set (λ file. file.name) (λ file. file.sink) c.args.files.now.items c.args.name.now c.in-Some.place c.index_mut-file.result.now _ found c.index_mut-file.ensures.value (ap (λ file. file.name) c.file.view_is) in
     written ∙ ap Some (c.take.ensures ∙ ap (λ file. after_piece file.sink c.args.piece.now) c.file.view_is) ∙ ap (option_map (λ sink. after_piece sink c.args.piece.now)) (sym held)
 
+-- a write at its place passes the other names by
 pub returns-in-Some-clause-others : goal.returns-in-Some-clause-others
 returns-in-Some-clause-others c =
     let found : position (λ file. bytes_eq file.name c.args.name.now) c.args.files.now.items ≡ Some c.in-Some.place = sym (rw c.deref.ensures.value at c.in-Some.ensures) in
     others-set (λ file. file.name) (λ file. file.sink) c.args.files.now.items c.args.name.now c.in-Some.place c.index_mut-file.result.now _ found c.index_mut-file.ensures.value (ap (λ file. file.name) c.file.view_is)
 
+-- there is no such file, before and after
 pub returns-in_default-clause-after : goal.returns-in_default-clause-after
 returns-in_default-clause-after c =
     let missing : position (λ file. bytes_eq file.name c.args.name.now) c.args.files.now.items ≡ None = sym (rw c.deref.ensures.value at c.in_default.ensures) in
