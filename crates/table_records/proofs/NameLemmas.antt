@@ -1,5 +1,5 @@
 -- The names of a field, word by word: those before the limit are kept, and the others are only tested.
-use Rattle.std.proofs.Common.{◌≡◌, ◌∙◌, ◌<◌, ◌≤◌, ℕ, ◌+◌, Bool, true, false, ◌&&◌, sym, List, [], ◌∷◌, ◌++◌, Result, Ok, Err, length, get_or, take, drop, refl, arith, nat_lt, nat_le, take-append-drop, length-take-le, length-take, ap}
+use Rattle.std.proofs.Common.{◌≡◌, ◌∙◌, ◌<◌, ◌≤◌, ℕ, ◌+◌, Bool, true, false, sym, List, [], ◌∷◌, ◌++◌, Result, Ok, Err, length, get_or, take, refl, arith, nat_lt, nat_le, length-take-le, length-take, ap}
 use Rattle.std.specs.List.{list_all}
 use Rattle.std.proofs.lemmas.Bool.Decides.{nat_tests}
 use Rattle.std.proofs.lemmas.List.{take_all, take_more, take-take}

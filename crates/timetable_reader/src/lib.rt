@@ -6,3 +6,6 @@ mod timetable;
 
 pub use activity::RawActivity;
 pub use timetable::{ACTIVITY_LIMIT, read_timetable};
+
+#[cfg(test)]
+mod tests;

@@ -121,7 +121,11 @@ fn is_span(start: i64, end: i64) -> bool
 fn is_whole(flight: bool, from: &Name, to: &Name, resets: &[Name]) -> bool
     ensures { result ≡ is_whole flight from.now to.now resets.now }
 {
-    if flight { resets.is_empty() } else { from == to }
+    if flight {
+        resets.is_empty()
+    } else {
+        from == to
+    }
 }
 
 fn is_built(activity: &RawActivity) -> bool

@@ -1,5 +1,4 @@
-use Rattle.std.proofs.Common.{◌≡◌, ◌∙◌}
-use Rattle.std.specs.Str.{IsValidUpTo}
+use Rattle.std.proofs.Common.{◌∙◌}
 use Rattle.table_records.proofs.TextLemmas.{is_utf8-told}
 use Rattle.table_records.proofs.table.is_utf8.Goals as goal
 
