@@ -42,7 +42,7 @@ made_of activities tails =
     Ok (book_in activities tails)))
 
 -- the book of a timetable and a fleet, or the first refusal: of the timetable, of the fleet, and then of both together
-abbrev pub book_of : List ℕ → List ℕ → Result BookSeen Refusal
+unfoldable pub book_of : List ℕ → List ℕ → Result BookSeen Refusal
 book_of timetable fleet =
     look (timetable_of timetable) (λ activities.
     look (fleet_of fleet) (λ tails.

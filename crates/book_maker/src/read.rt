@@ -11,6 +11,7 @@ use tail_text::Stopped;
 use timetable_reader::read_timetable;
 
 /// The book of a timetable and a fleet, or their first refusal.
+#[tactic(auto, unfolding(crate::specs::Made::book_of))]
 pub fn read_book(alloc: Global, timetable: &[u8], fleet: &[u8]) -> Result<Book, Stopped>
     ensures { Answers (λ book. book) (book_of timetable.now fleet.now) result }
 {
