@@ -5,3 +5,4 @@ pub mod Flown
 pub mod Sums
 pub mod Costs
 pub mod Deciding
+pub mod Worked

@@ -1,0 +1,5 @@
+pub mod NameTurns
+pub mod NameLemmas
+pub mod OrderLemmas
+pub mod MadeLemmas
+pub mod RowLemmas

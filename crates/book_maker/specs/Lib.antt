@@ -1,0 +1,4 @@
+pub mod Names
+pub mod Order
+pub mod Numbered
+pub mod Made

@@ -1,0 +1,55 @@
+-- The fleet: its layout, and what a record of it says or why it is refused.
+use Rattle.std.specs.Prelude.{ℕ, Bool, ◌&&◌, List, [], ◌∷◌, length, ◌==◌, codes, Result, Ok}
+use Rattle.tail_text.specs.declared.refusal.Refusal.{Refusal}
+use Rattle.tail_text.specs.declared.refusal.Table.TheVariants.{Fleet}
+use Rattle.table_records.specs.Fields.{field_at}
+use Rattle.table_records.specs.Layout.{Layout, look, must, table_of}
+use Rattle.table_records.specs.NameLists.{names_of}
+use Rattle.table_records.specs.Values.{name_in, stamp_in}
+use Rattle.fleet_rules.specs.Carry.{carry_in, number_in}
+use Rattle.fleet_rules.specs.Tail.{RawTailSeen}
+use Rattle.fleet_rules.specs.declared.fleet.TheConstants.{TAIL_LIMIT}
+
+-- what a record says, its fields from left to right, or the code of its first fault
+abbrev pub tail_of : List (List ℕ) → Result RawTailSeen ℕ
+tail_of fields =
+    look (name_in (field_at fields 0)) (λ name.
+    look (name_in (field_at fields 1)) (λ kind.
+    look (name_in (field_at fields 2)) (λ at.
+    look (stamp_in (field_at fields 3)) (λ ready.
+    look (number_in 100_000 (field_at fields 4)) (λ fixed.
+    look (names_of (field_at fields 5)) (λ tags.
+    look (names_of (field_at fields 6)) (λ avoid.
+    look (carry_in (field_at fields 7)) (λ carry.
+    Ok (record {
+      name = name;
+      kind = kind;
+      at = at;
+      ready = ready;
+      fixed = fixed;
+      tags = tags;
+      avoid = avoid;
+      carry = carry;
+    })))))))))
+
+-- what is built so far: an aircraft with no tags, no avoided airports and no carry values
+abbrev pub is_built : RawTailSeen → Bool
+is_built t = length t.tags == 0 && (length t.avoid == 0 && length t.carry == 0)
+
+-- the aircraft, where it is one of those that are built
+abbrev pub built_of : RawTailSeen → Result RawTailSeen ℕ
+built_of t = must (is_built t) 17 (Ok t)
+
+-- the header, the most records under it, and what each says
+abbrev pub fleet : Layout RawTailSeen
+fleet = record {
+  table = Fleet;
+  header = codes "tail" ∷ codes "type" ∷ codes "at" ∷ codes "ready" ∷ codes "fixed"
+      ∷ codes "tags" ∷ codes "avoid" ∷ codes "carry" ∷ [];
+  limit = TAIL_LIMIT;
+  row_of = λ fields. look (tail_of fields) built_of;
+}
+
+-- the records of a fleet, or its first refusal
+abbrev pub fleet_of : List ℕ → Result (List RawTailSeen) Refusal
+fleet_of bytes = table_of fleet bytes

@@ -1,0 +1,4 @@
+pub mod Carry
+pub mod Fleet
+pub mod Tail
+pub mod TailParts

@@ -1,0 +1,39 @@
+-- An aircraft as its record in the fleet says it.
+use Rattle.std.specs.Prelude.{ℕ, ◌≡◌, ◌≤◌, true, List, length, All, ℤ, pos}
+use Rattle.tail_book.specs.Name.{is_name}
+use Rattle.tail_book.specs.Sound.{IsMoment, IsWithin}
+use Rattle.table_records.specs.NameLists.{AreNames}
+use Rattle.fleet_rules.specs.declared.carry.TheConstants.{CARRY_LIMIT}
+use Rattle.fleet_rules.specs.declared.tail.RawCarry.{RawCarry}
+
+-- the fields of a record: names as their bytes, ready in minutes since 1970-01-01T00:00 UTC, fixed in cost units
+pub record RawTailSeen : Type 0 where
+  pub name : List ℕ
+  pub kind : List ℕ
+  pub at : List ℕ
+  pub ready : ℤ
+  pub fixed : ℕ
+  pub tags : List (List ℕ)
+  pub avoid : List (List ℕ)
+  pub carry : List RawCarry
+
+-- a counter's name in its grammar, and a value from 0 to 10,000,000 in the counter's own unit
+pub record IsRawCarry (c : RawCarry) : Type 0 where
+  pub counter : is_name c.counter ≡ true
+  pub value : IsWithin (pos 0) (pos 10_000_000) c.value
+
+-- such values, and no more than one aircraft may come in with
+pub record AreCarried (carry : List RawCarry) : Type 0 where
+  pub each : All IsRawCarry carry
+  pub few : length carry ≤ CARRY_LIMIT
+
+-- what holds of every record by itself: its names are in the grammar and its numbers in range
+pub record IsRawTail (t : RawTailSeen) : Type 0 where
+  pub name : is_name t.name ≡ true
+  pub kind : is_name t.kind ≡ true
+  pub at : is_name t.at ≡ true
+  pub ready : IsMoment t.ready
+  pub fixed : t.fixed ≤ 100_000
+  pub tags : AreNames t.tags
+  pub avoid : AreNames t.avoid
+  pub carry : AreCarried t.carry

@@ -1,0 +1,82 @@
+//! The fleet, record by record.
+
+ghost use Rattle.std.specs.Prelude.{◌≡◌};
+ghost use Rattle.tail_text.specs.Reading.{Answers};
+ghost use Rattle.table_records.specs.NoRow.{Judges};
+ghost use Rattle.fleet_rules.specs.Fleet.{fleet, fleet_of, is_built, tail_of};
+
+use crate::RawTail;
+use crate::carry::{carry_in, number_in};
+use std::alloc::Global;
+use table_records::{Fields, NoRow, Row, name_in, names, read_table, stamp_in};
+use tail_text::{Stopped, Table};
+
+/// The most records under the header.
+// Small for as long as every legal plan is looked at.
+pub const TAIL_LIMIT: usize = 4;
+
+/// The records of a fleet in its order, or its first refusal.
+pub fn read_fleet(alloc: Global, bytes: &[u8]) -> Result<Vec<RawTail>, Stopped>
+    ensures { Answers (λ v. v.items) (fleet_of bytes.now) result }
+{
+    read_table(alloc, bytes)
+}
+
+impl Row for RawTail {
+    ghost layout = { fleet };
+
+    fn table() -> Table {
+        Table::Fleet
+    }
+
+    fn limit() -> u32 {
+        TAIL_LIMIT as u32
+    }
+
+    fn width() -> usize {
+        8
+    }
+
+    fn is_header(fields: &Fields) -> bool {
+        fields.are(&[
+            "tail", "type", "at", "ready", "fixed", "tags", "avoid", "carry",
+        ])
+    }
+
+    fn row_of(alloc: Global, fields: &Fields) -> Result<RawTail, NoRow> {
+        let tail = tail_of(alloc, fields)?;
+        if !is_built(&tail) {
+            return Err(NoRow::Code(17));
+        }
+        Ok(tail)
+    }
+}
+
+fn tail_of(alloc: Global, fields: &Fields) -> Result<RawTail, NoRow>
+    ensures { Judges (λ t. t) (tail_of fields.now) result }
+{
+    let name = name_in(fields.at(0))?;
+    let kind = name_in(fields.at(1))?;
+    let at = name_in(fields.at(2))?;
+    let ready = stamp_in(fields.at(3))?;
+    let fixed = number_in(fields.at(4), 100_000)?;
+    let tags = names(alloc, fields.at(5))?;
+    let avoid = names(alloc, fields.at(6))?;
+    let carry = carry_in(alloc, fields.at(7))?;
+    Ok(RawTail {
+        name,
+        kind,
+        at,
+        ready,
+        fixed,
+        tags,
+        avoid,
+        carry,
+    })
+}
+
+fn is_built(tail: &RawTail) -> bool
+    ensures { result ≡ is_built tail.now }
+{
+    tail.tags.is_empty() && tail.avoid.is_empty() && tail.carry.is_empty()
+}

@@ -1,0 +1,37 @@
+//! An aircraft as its record in the fleet says it.
+
+use std::marker::Model;
+use tail_book::Name;
+
+/// The value with which an aircraft comes in at a counter.
+#[derive(Clone, Copy, PartialEq, Eq, Debug)]
+pub struct RawCarry {
+    pub counter: Name,
+    pub value: i64,
+}
+
+/// An aircraft with its names not looked up yet; it is ready at a minute since 1970-01-01T00:00 UTC.
+/// Contracts see the record of its fields, with a list for each `Vec`, and that the record is good by itself.
+#[derive(Debug, Drop)]
+pub struct RawTail {
+    pub name: Name,
+    pub kind: Name,
+    pub at: Name,
+    pub ready: i64,
+    pub fixed: u64,
+    pub tags: Vec<Name>,
+    pub avoid: Vec<Name>,
+    pub carry: Vec<RawCarry>,
+}
+
+impl Model for RawTail {
+    ghost use Rattle.fleet_rules.specs.Tail.{RawTailSeen, IsRawTail};
+
+    ghost Value = { RawTailSeen };
+
+    ghost use Rattle.fleet_rules.specs.TailParts.{seen_of};
+
+    ghost view = { seen_of };
+
+    ghost invariant = { λ t. IsRawTail (seen_of t) };
+}

@@ -1,0 +1,4 @@
+pub mod Outside
+pub mod Seen
+pub mod Held
+pub mod Sure

@@ -1,0 +1,209 @@
+//! Callers through the bounds, and tables of calls over each implementation.
+
+ghost use Rattle.std.specs.Prelude.{◌≡◌, ◌≤◌, ◌++◌, false, IsTrue, IfOk, IfSome, OnOk, OnErr, IsErrOf};
+ghost use Rattle.tail_outside.specs.Outside.{HasRisen, IsRead, Adds, AddsFront, SameOthers, StayCeased};
+
+use crate::{
+    Failed, Fault, FileSink, Files, MemFile, MemFiles, MemSink, RealFiles, RealOut, Sink,
+    SureFiles, SureSink,
+};
+use std::alloc::Global;
+use std::fs;
+use std::test::Fail;
+
+// Puts one piece and then another.
+fn put_both<S: Sink>(out: &mut S, first: &[u8], second: &[u8]) -> Result<(), Fault>
+    ensures taken { OnOk result (S.ceased out.new ≡ false →
+        Adds (S.told out.old) (S.told out.new) (first.now ++ second.now)) }
+    ensures front { OnErr result (S.ceased out.new ≡ false →
+        AddsFront (S.told out.old) (S.told out.new) (first.now ++ second.now)) }
+    ensures beside { S.beside out.old out.new }
+    ensures ceases { S.ceased out.new ≡ false → S.ceased out.old ≡ false }
+    ensures counts { S.faults out.old ≤ S.faults out.new }
+    ensures cause { IsErrOf result Fault.Failed → HasRisen (S.faults out.old) (S.faults out.new) }
+{
+    if let Err(fault) = out.put(first) {
+        return Err(fault);
+    }
+    out.put(second)
+}
+
+// Begins the file, adds the piece, and reads it back.
+fn rewrite<F: Files>(
+    files: &mut F,
+    name: &str,
+    piece: &[u8],
+    into: &mut [u8],
+) -> Result<usize, Fault>
+    requires reads { IsTrue (F.lets_read files.old name.now) }
+    requires writes { IsTrue (F.lets_write files.old name.now) }
+    ensures read { IfOk result (λ n. F.ceased files.new name.now ≡ false →
+        IfSome (F.holds files.old name.now) (λ _. IsRead piece.now 0 into.new n)) }
+    ensures others { SameOthers (F.holds files.old) (F.holds files.new) name.now }
+    ensures ceases { StayCeased (F.ceased files.old) (F.ceased files.new) }
+{
+    if let Err(fault) = files.begin(name) {
+        return Err(fault);
+    }
+    if let Err(fault) = files.append(name, piece) {
+        return Err(fault);
+    }
+    match files.read_at(name, 0, into) {
+        Ok(count) => Ok(count),
+        Err(Failed) => Err(Fault::Failed),
+    }
+}
+
+fn file(alloc: Global, name: &str, bytes: &[u8]) -> Result<MemFile, Fail> {
+    Ok(MemFile {
+        name: String::from_str(alloc, name)?,
+        bytes: bytes.to_vec(alloc)?,
+    })
+}
+
+// Three files, of which two have one name.
+fn files(alloc: Global) -> Result<Vec<MemFile>, Fail> {
+    let (plan, again, log) = (
+        file(alloc, "plan", b"old")?,
+        file(alloc, "plan", b"second")?,
+        file(alloc, "log", b"abcde")?,
+    );
+    Ok(vec![in alloc; plan, again, log]?)
+}
+
+fn failing_sink(alloc: Global, number: u64) -> Result<MemSink, Fail> {
+    let listed = [number].to_vec(alloc)?;
+    Ok(MemSink::new(alloc, listed)?)
+}
+
+fn failing_files(alloc: Global, number: u64) -> Result<MemFiles, Fail> {
+    let listed = [number].to_vec(alloc)?;
+    Ok(MemFiles::new(alloc, files(alloc)?, listed)?)
+}
+
+// Each call fails in turn, and then one that is never made.
+#[test]
+fn a_listed_put_takes_nothing(rt: HostRuntime) -> Result<(), Fail> {
+    for (number, want, bytes) in [
+        (1, Err(Fault::Failed), b"".as_slice()),
+        (2, Err(Fault::Failed), b"ab".as_slice()),
+        (3, Ok(()), b"abc".as_slice()),
+    ] {
+        let mut out = failing_sink(rt.alloc(), number)?;
+        assert_eq!(rt; put_both(&mut out, b"ab", b"c"), want, "at {number}");
+        assert_eq!(rt; out.bytes(), bytes, "at {number}");
+    }
+    Ok(())
+}
+
+// A sink over a file that isn't there yet, of which the second piece fails.
+#[test]
+fn a_file_takes_pieces(rt: HostRuntime) -> Result<(), Fail> {
+    let mut out = FileSink::new(failing_files(rt.alloc(), 2)?, "new");
+    assert_eq!(rt; put_both(&mut out, b"ab", b"c"), Err(Fault::Failed));
+    assert_eq!(rt; out.into_files().bytes("new"), Some(b"ab".as_slice()));
+    Ok(())
+}
+
+// Begin, append and read fail in turn, and a file is made. The first of two with one name counts.
+#[test]
+fn a_file_is_rewritten(rt: HostRuntime) -> Result<(), Fail> {
+    for (number, name, want, bytes) in [
+        (1, "plan", Err(Fault::Failed), b"old".as_slice()),
+        (2, "plan", Err(Fault::Failed), b"".as_slice()),
+        (3, "plan", Err(Fault::Failed), b"xyz".as_slice()),
+        (4, "plan", Ok(3), b"xyz".as_slice()),
+        (4, "new", Ok(3), b"xyz".as_slice()),
+    ] {
+        let mut held = failing_files(rt.alloc(), number)?;
+        assert_eq!(rt;
+            rewrite(&mut held, name, b"xyz", &mut [0; 4]),
+            want,
+            "at {number}"
+        );
+        assert_eq!(rt; held.bytes(name), Some(bytes), "at {number}");
+    }
+    Ok(())
+}
+
+// A front of the buffer is filled, and nothing exactly at the end or in an empty buffer.
+#[test]
+fn a_file_is_read_at_a_place(rt: HostRuntime) -> Result<(), Fail> {
+    let mut held = failing_files(rt.alloc(), 0)?;
+    for (at, room, want) in [
+        (0, 2, b"ab".as_slice()),
+        (3, 4, b"de".as_slice()),
+        (5, 4, b"".as_slice()),
+        (9, 4, b"".as_slice()),
+        (0, 0, b"".as_slice()),
+    ] {
+        let mut into = [0; 4];
+        assert_eq!(rt;
+            held.read_at("log", at, &mut into[..room]),
+            Ok(want.len()),
+            "at {at}"
+        );
+        assert!(rt; into.starts_with(want), "at {at}");
+    }
+    assert_eq!(rt; held.read_at("none", 0, &mut [0; 4]), Err(Failed));
+    Ok(())
+}
+
+// The second piece fits, or passes the room by one byte and is dropped.
+#[test]
+fn a_sure_sink_drops_past_its_room(rt: HostRuntime) -> Result<(), Fail> {
+    for (room, bytes) in [
+        (3, b"abc".as_slice()),
+        (2, b"ab".as_slice()),
+        (1, b"".as_slice()),
+    ] {
+        let mut out = SureSink::new(rt.alloc(), room)?;
+        assert_eq!(rt; put_both(&mut out, b"ab", b"c"), Ok(()), "at {room}");
+        assert_eq!(rt; out.bytes(), bytes, "at {room}");
+    }
+    Ok(())
+}
+
+// The same for a file, and a name that no file has is read as an empty one.
+#[test]
+fn a_sure_file_drops_past_its_room(rt: HostRuntime) -> Result<(), Fail> {
+    for (room, name, count, bytes) in [
+        (3, "plan", 3, Some(b"xyz".as_slice())),
+        (2, "plan", 0, Some(b"".as_slice())),
+        (3, "none", 0, None),
+    ] {
+        let mut held = SureFiles::new(rt.alloc(), files(rt.alloc())?, room)?;
+        assert_eq!(rt;
+            rewrite(&mut held, name, b"xyz", &mut [0; 4]),
+            Ok(count),
+            "at {room}"
+        );
+        assert_eq!(rt; held.bytes(name), bytes, "at {room}");
+    }
+    Ok(())
+}
+
+// A file that is made, emptied, written and read back, and one that isn't there.
+#[test]
+fn a_real_file_is_rewritten(rt: HostRuntime) -> Result<(), Fail> {
+    let name = "tail_outside_written";
+    let mut real = RealFiles::new(&rt);
+    let mut into = [0; 4];
+    assert_eq!(rt; rewrite(&mut real, name, b"old", &mut into), Ok(3));
+    assert_eq!(rt; rewrite(&mut real, name, b"xyz", &mut into), Ok(3));
+    assert!(rt; into.starts_with(b"xyz"));
+    fs::remove_file(&rt, name)?;
+    assert_eq!(rt; real.read_at(name, 0, &mut into), Err(Failed));
+    Ok(())
+}
+
+// A folder is no file. The output takes what is put.
+#[test]
+fn a_folder_is_no_file(rt: HostRuntime) {
+    let mut real = RealFiles::new(&rt);
+    assert_eq!(rt; real.read_at(".", 0, &mut [0; 4]), Err(Failed));
+    assert_eq!(rt; real.begin("."), Err(Fault::Failed));
+    assert_eq!(rt; real.append(".", b"!"), Err(Fault::Failed));
+    let mut out = RealOut::new(&rt);
+    assert_eq!(rt; put_both(&mut out, b"ab", b"c"), Ok(()));
+}

@@ -1,0 +1,172 @@
+//! Curfews: whether an airport is closed when a flight would start or land.
+//!
+//! Each test of a flight goes over the book's curfews, at most 400, since the rules do not tell them by airport.
+//! Most are settled by the airport's number alone; the types of the others, at most 20, are then searched.
+
+ghost use Rattle.std.specs.Prelude.{◌≡◌, ◌<◌, length};
+ghost use Rattle.std.specs.List.{list_any};
+ghost use Rattle.tail_book.specs.Lookup.{activities, aircraft, kind_of, from_port, to_port, start_of, end_of};
+ghost use Rattle.tail_book.specs.Sound.{IsMoment};
+ghost use Rattle.tail_book.specs.Curfew.{local_minute, in_window, covers_type, forbids, stops, is_curfewed};
+
+use tail_book::{Book, Curfew};
+
+/// The minute of the airport's local day.
+fn local_minute(book: &Book, port: u32, moment: i64) -> i64
+    requires port { port < length book.now.rules.airports }
+    requires moment { IsMoment moment }
+    ensures { result ≡ local_minute book.now port moment }
+{
+    (moment + book.rules.airports[port as usize].offset).rem_euclid(1440)
+}
+
+/// Whether a local minute lies in the daily window.
+fn in_window(from: i64, to: i64, minute: i64) -> bool
+    ensures { result ≡ in_window from to minute }
+{
+    (from < to && from <= minute && minute < to) || (to < from && (from <= minute || minute < to))
+}
+
+/// Whether a list of types has the type.
+pub fn covers_type(types: &[u32], kind: u32) -> bool
+    ensures { result ≡ covers_type types.now kind }
+{
+    types.is_empty() || types.contains(&kind)
+}
+
+/// Whether a curfew closes this airport to a type at that moment.
+fn forbids(book: &Book, curfew: &Curfew, kind: u32, port: u32, moment: i64) -> bool
+    requires port { port < length book.now.rules.airports }
+    requires moment { IsMoment moment }
+    ensures { result ≡ forbids book.now curfew.now kind port moment }
+{
+    curfew.airport == port
+        && covers_type(&curfew.types, kind)
+        && in_window(curfew.from, curfew.to, local_minute(book, port, moment))
+}
+
+/// Whether a curfew's hours forbid the start of a flight.
+fn forbids_start(book: &Book, k: u32, a: u32, curfew: &Curfew) -> bool
+    requires aircraft { k < aircraft book.now }
+    requires activity { a < activities book.now }
+    ensures { result ≡ forbids book.now curfew.now (kind_of book.now k) (from_port book.now a) (start_of book.now a) }
+{
+    let flight = &book.activities[a as usize];
+    forbids(
+        book,
+        curfew,
+        book.tails[k as usize].kind,
+        flight.from,
+        flight.start,
+    )
+}
+
+/// Whether a curfew's hours forbid the landing of a flight.
+fn forbids_landing(book: &Book, k: u32, a: u32, curfew: &Curfew) -> bool
+    requires aircraft { k < aircraft book.now }
+    requires activity { a < activities book.now }
+    ensures { result ≡ forbids book.now curfew.now (kind_of book.now k) (to_port book.now a) (end_of book.now a) }
+{
+    let flight = &book.activities[a as usize];
+    forbids(
+        book,
+        curfew,
+        book.tails[k as usize].kind,
+        flight.to,
+        flight.end,
+    )
+}
+
+/// Whether a curfew keeps an aircraft from a flight, at its start or at its landing.
+fn stops(book: &Book, k: u32, a: u32, curfew: &Curfew) -> bool
+    requires aircraft { k < aircraft book.now }
+    requires activity { a < activities book.now }
+    ensures { result ≡ stops book.now k a curfew.now }
+{
+    (curfew.starts && forbids_start(book, k, a, curfew))
+        || (curfew.landings && forbids_landing(book, k, a, curfew))
+}
+
+/// Whether one of the curfews keeps an aircraft from a flight.
+fn one_stops(book: &Book, k: u32, a: u32, curfews: &[Curfew]) -> bool
+    requires aircraft { k < aircraft book.now }
+    requires activity { a < activities book.now }
+    ensures { result ≡ list_any (stops book.now k a) curfews.now }
+{
+    curfews.iter().any(|curfew| stops(book, k, a, curfew))
+}
+
+/// Whether some curfew keeps an aircraft from an activity; none keeps it from ground time.
+pub fn curfewed(book: &Book, k: u32, a: u32) -> bool
+    requires aircraft { k < aircraft book.now }
+    requires activity { a < activities book.now }
+    ensures { result ≡ is_curfewed book.now k a }
+{
+    book.activities[a as usize].flight && one_stops(book, k, a, &book.rules.curfews)
+}
+
+#[cfg(test)]
+mod tests {
+    use super::*;
+    use std::test::Fail;
+
+    // A window of the day, one past midnight and an empty one, each at its ends and a minute beside them.
+    #[test]
+    fn windows_to_the_minute(rt: HostRuntime) -> Result<(), Fail> {
+        let (day, night, empty) = ((480, 510), (1380, 360), (600, 600));
+        for ((from, to), minute, want) in [
+            (day, 479, false),
+            (day, 480, true),
+            (day, 509, true),
+            (day, 510, false),
+            (night, 1379, false),
+            (night, 1380, true),
+            (night, 0, true),
+            (night, 359, true),
+            (night, 360, false),
+            (empty, 600, false),
+            (empty, 0, false),
+        ] {
+            assert_eq!(rt;
+                in_window(from, to, minute),
+                want,
+                "{minute} in {from} to {to}"
+            );
+        }
+        Ok(())
+    }
+
+    // Landings at an airport an hour ahead of UTC that is closed from 23:00 to 06:00 there.
+    #[test]
+    fn closed_at_night(rt: HostRuntime) -> Result<(), Fail> {
+        let book = &crate::tests::book(rt.alloc())?;
+        assert!(rt; book.rules.airports.len() == 3 && book.rules.curfews.len() == 2);
+        let night = &book.rules.curfews[0];
+        for (moment, want) in [(1319, false), (1320, true), (1739, true), (1740, false)] {
+            assert_eq!(rt; forbids(book, night, 0, 0, moment), want, "at {moment}");
+        }
+        Ok(())
+    }
+
+    // Local days begin before and after those of UTC.
+    #[test]
+    fn local_minutes_over_midnight(rt: HostRuntime) -> Result<(), Fail> {
+        let book = crate::tests::book(rt.alloc())?;
+        assert!(rt; book.rules.airports.len() == 3);
+        for (port, moment, want) in [
+            (0, 0, 60),
+            (0, 1379, 1439),
+            (0, 1380, 0),
+            (2, 0, 1140),
+            (2, 299, 1439),
+            (2, 300, 0),
+        ] {
+            assert_eq!(rt;
+                local_minute(&book, port, moment),
+                want,
+                "{moment} at {port}"
+            );
+        }
+        Ok(())
+    }
+}

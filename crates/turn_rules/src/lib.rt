@@ -1,0 +1,13 @@
+//! The rules of who may fly what, and of what may come directly after what.
+#![tactic(auto)]
+
+mod connection;
+mod curfew;
+mod permission;
+
+pub use connection::{earliest_start, free_from, gap, is_in_time, is_there, link, port, turn};
+pub use curfew::curfewed;
+pub use permission::{allowed, avoids_end, avoids_start, has_tags, is_free_for, takes_type};
+
+#[cfg(test)]
+mod tests;
