@@ -6,7 +6,7 @@ use Rattle.table_records.specs.NameLists.{AreNames}
 use Rattle.fleet_rules.specs.declared.carry.TheConstants.{CARRY_LIMIT}
 use Rattle.fleet_rules.specs.declared.tail.RawCarry.{RawCarry}
 
--- the fields of a record: names as their bytes, ready in minutes since 1970-01-01T00:00 UTC, fixed in cost units
+-- the fields of a record: names as their bytes, ready in minutes since 1970-01-01T00:00 UTC, fixed as the cost of each activity
 pub record RawTailSeen : Type 0 where
   pub name : List ℕ
   pub kind : List ℕ
@@ -17,7 +17,7 @@ pub record RawTailSeen : Type 0 where
   pub avoid : List (List ℕ)
   pub carry : List RawCarry
 
--- a counter's name in its grammar, and a value from 0 to 10,000,000 in the counter's own unit
+-- a counter's name in its grammar, and what it has counted so far: minutes or landings, from 0 to 10,000,000
 pub record IsRawCarry (c : RawCarry) : Type 0 where
   pub counter : is_name c.counter ≡ true
   pub value : IsWithin (pos 0) (pos 10_000_000) c.value

@@ -8,3 +8,6 @@ mod tail;
 pub use carry::CARRY_LIMIT;
 pub use fleet::{TAIL_LIMIT, read_fleet};
 pub use tail::{RawCarry, RawTail};
+
+#[cfg(test)]
+mod tests;
