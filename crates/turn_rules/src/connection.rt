@@ -3,13 +3,14 @@
 //! Place and time are settled first, by a few reads. Only where both fit are the two activities' permissions
 //! tested, each at the cost of `allowed`.
 
-ghost use Rattle.std.specs.Prelude.{◌≡◌, ◌<◌, ◌↔◌, ◌+ℤ◌, IsTrue, nat_eq, pos, negsuc, length};
+ghost use Rattle.std.specs.Prelude.{◌≡◌, ◌<◌, ◌↔◌, ◌+ℤ◌, ◌≤ℤ◌, IsTrue, nat_eq, pos, negsuc, length};
 ghost use Rattle.tail_book.specs.Lookup.{activities, aircraft, kind_of, from_port, to_port, start_of, type_turn, port_turn};
 ghost use Rattle.tail_book.specs.Numbers.{int_le};
 ghost use Rattle.tail_book.specs.Link.{IsLink, port, free_from, gap, turn_time};
 ghost use Rattle.tail_book.specs.Sound.{IsWithin, IsMoment};
 ghost use Rattle.tail_book.specs.Tests.{is_link, is_allowed_at};
 ghost use Rattle.turn_rules.specs.InRange.{IsPlaceOf};
+ghost use Rattle.turn_rules.specs.FreeBefore.{IsFreeBefore};
 
 use crate::permission::allowed;
 use tail_book::laws::link_decides;
@@ -137,6 +138,7 @@ pub fn earliest_start(book: &Book, k: u32, from: Place, b: u32) -> i64
     requires activity { b < activities book.now }
     ensures value { result ≡ free_from book.now k from +ℤ turn_time book.now k from b }
     ensures range { IsWithin (pos 0) (pos 120_970_079) result }
+    ensures forward { free_from book.now k from ≤ℤ result }
 {
     free_from(book, k, from) + turn(book, k, from, b)
 }
@@ -146,7 +148,8 @@ pub fn is_in_time(book: &Book, k: u32, from: Place, b: u32) -> bool
     requires aircraft { k < aircraft book.now }
     requires place { IsPlaceOf book.now from }
     requires activity { b < activities book.now }
-    ensures { result ≡ int_le (free_from book.now k from +ℤ turn_time book.now k from b) (start_of book.now b) }
+    ensures value { result ≡ int_le (free_from book.now k from +ℤ turn_time book.now k from b) (start_of book.now b) }
+    ensures forward { IsTrue result → IsFreeBefore book.now k from b }
 {
     earliest_start(book, k, from, b) <= start_of(book, b)
 }
@@ -158,6 +161,7 @@ pub fn link(book: &Book, k: u32, from: Place, b: u32) -> bool
     requires activity { b < activities book.now }
     ensures means { IsTrue result ↔ IsLink book.now k from b }
     ensures tests { result ≡ is_link book.now k from b }
+    ensures forward { IsTrue result → IsFreeBefore book.now k from b }
 {
     link_decides();
     is_there(book, k, from, b)

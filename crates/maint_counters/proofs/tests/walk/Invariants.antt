@@ -1,0 +1,7 @@
+use Rattle.turn_rules.specs.InRange.{IsPlaceOf}
+use Rattle.maint_counters.specs.Counts.{AreCounts}
+use Rattle.maint_counters.proofs.tests.walk.Given as goal
+
+-- the place is of the book, and the values are counts
+abbrev pub invariant-loop-b : goal.invariant-loop-b
+invariant-loop-b g l = record { place : IsPlaceOf l.book l.from; range : AreCounts l.values }

@@ -1,0 +1,15 @@
+//! The maintenance counters along a route: what they begin with, what clears them, and what each activity adds.
+#![tactic(auto)]
+
+mod carry;
+mod counting;
+mod reset;
+mod stepping;
+
+pub use carry::start;
+pub use counting::{amount, flown};
+pub use reset::cleared;
+pub use stepping::{step, step_one};
+
+#[cfg(test)]
+mod tests;
