@@ -1,0 +1,81 @@
+-- What a run answers, when that is true, and what is printed for it.
+use Rattle.std.specs.Prelude.{ℕ, Bool, false, ◌≡◌, ◌⊎◌, ⊤, List, [], ◌∷◌, Option, Some, None, IfSome, Ok, Err}
+use Rattle.tail_book.specs.Seen.{BookSeen}
+use Rattle.tail_book.specs.Truth.{IsTrueOutcome}
+use Rattle.tail_book.specs.declared.outcome.Outcome.{Outcome}
+use Rattle.tail_book.specs.declared.outcome.Outcome.TheVariants.{Optimal, Infeasible, Between, Above}
+use Rattle.tail_outside.specs.Outside.{Adds, AddsFront, HasRisen}
+use Rattle.tailplan.specs.Decided.{IsDecided}
+use Rattle.book_maker.specs.Made.{book_of}
+use Rattle.tailplan.specs.Refused.{refusal_line, usage_line}
+use Rattle.tailplan.specs.Report.{IsPlanFor, report_lines, routes_of}
+use Rattle.tailplan.specs.Words.{FileNames, names_of}
+use Rattle.tailplan.specs.declared.answer.Answer.{Answer}
+use Rattle.tailplan.specs.declared.answer.Answer.TheVariants.{Usage, Refused, Solved, ReadFailed, Memory}
+
+-- the answer is true of the bytes of the two tables
+abbrev pub IsAnswerTo : List ℕ → List ℕ → Answer → Type 0
+IsAnswerTo timetable fleet (Refused refusal) = book_of timetable fleet ≡ Err refusal
+IsAnswerTo timetable fleet (Solved book outcome) = (book_of timetable fleet ≡ Ok book) × IsTrueOutcome book outcome × IsDecided outcome
+IsAnswerTo timetable fleet Memory = ⊤
+IsAnswerTo timetable fleet Usage = ⊥
+IsAnswerTo timetable fleet ReadFailed = ⊥
+
+-- the words give two names, and P holds of the bytes under them, where they are told
+abbrev pub OfTables : List (List ℕ) → (List ℕ → Option (List ℕ)) → (List ℕ → List ℕ → Type 0) → Type 0
+OfTables words holds P = (names : FileNames) × (names_of words ≡ Some names) × IfSome (holds names.timetable) (λ timetable. IfSome (holds names.fleet) (P timetable))
+
+-- the answer is true of these words and files, where the count of failed reads went from old to new
+abbrev pub IsTrueAnswer : List (List ℕ) → (List ℕ → Option (List ℕ)) → ℕ → ℕ → Answer → Type 0
+IsTrueAnswer words holds old new Usage = names_of words ≡ None
+IsTrueAnswer words holds old new (Refused refusal) = OfTables words holds (λ timetable fleet. IsAnswerTo timetable fleet (Refused refusal))
+IsTrueAnswer words holds old new (Solved book outcome) = OfTables words holds (λ timetable fleet. IsAnswerTo timetable fleet (Solved book outcome)) × IsDecided outcome
+IsTrueAnswer words holds old new ReadFailed = (names : FileNames) × (names_of words ≡ Some names) × HasRisen old new
+IsTrueAnswer words holds old new Memory = ⊤
+
+-- the plan of an answer is one for its book
+abbrev pub IsPrintable : Answer → Type 0
+IsPrintable Usage = ⊤
+IsPrintable (Refused refusal) = ⊤
+IsPrintable (Solved book outcome) = IsPlanFor book (routes_of outcome)
+IsPrintable ReadFailed = ⊤
+IsPrintable Memory = ⊤
+
+-- the lines that are printed for an answer
+abbrev pub lines_of : Answer → List (List ℕ)
+lines_of Usage = usage_line ∷ []
+lines_of (Refused refusal) = refusal_line refusal ∷ []
+lines_of (Solved book outcome) = report_lines book outcome
+lines_of ReadFailed = []
+lines_of Memory = []
+
+abbrev pub outcome_status : Outcome → ℕ
+outcome_status (Optimal plan cost) = 0
+outcome_status Infeasible = 1
+outcome_status (Between plan low high nodes) = 4
+outcome_status (Above low nodes) = 4
+
+abbrev pub status_of : Answer → ℕ
+status_of Usage = 2
+status_of (Refused refusal) = 3
+status_of (Solved book outcome) = outcome_status outcome
+status_of ReadFailed = 5
+status_of Memory = 7
+
+-- what a sink shows before and after a call: what it was told, the count of its faults, and whether it ceased
+pub record Shown : Type 0 where
+  pub told_before : Option (List ℕ)
+  pub told : Option (List ℕ)
+  pub faults_before : ℕ
+  pub faults : ℕ
+  pub ceased : Bool
+
+abbrev pub shown_of : Option (List ℕ) → Option (List ℕ) → ℕ → ℕ → Bool → Shown
+shown_of told_before told faults_before faults ceased = record { told_before = told_before; told = told; faults_before = faults_before; faults = faults; ceased = ceased }
+
+-- the text was printed, and the status says so; or a fault or want of memory came, and a front of it was printed
+abbrev pub IsPrinted : List ℕ → Shown → ℕ → ℕ → Type 0
+IsPrinted due shown code status =
+    ((status ≡ code) × (shown.ceased ≡ false → Adds shown.told_before shown.told due))
+    ⊎ ((status ≡ 6) × HasRisen shown.faults_before shown.faults × (shown.ceased ≡ false → AddsFront shown.told_before shown.told due))
+    ⊎ ((status ≡ 7) × (shown.ceased ≡ false → AddsFront shown.told_before shown.told due))

@@ -1,0 +1,93 @@
+//! The report of an outcome, line by line.
+
+ghost use Rattle.std.specs.Prelude.{◌≡◌, ◌++◌, ◌<◌, ◌≤◌, length, IfOk, OnOk, All, codes};
+ghost use Rattle.tail_book.specs.Lookup.{activities, activity_of, aircraft};
+ghost use Rattle.tailplan.specs.Report.{IsPlanFor, aircraft_line, aircraft_lines, first_line, ids_of, report_lines, routes_of};
+
+use std::alloc::Global;
+use tail_book::{Book, Memory, Outcome, Route};
+use tail_text::Line;
+
+/// The lines of the report.
+pub fn report_lines(alloc: Global, book: &Book, outcome: &Outcome) -> Result<Vec<Line>, Memory>
+    requires { IsPlanFor book.now (routes_of outcome.now) }
+    ensures { IfOk result (λ lines. lines.items ≡ report_lines book.now outcome.now) }
+{
+    let mut lines = Vec::new(alloc);
+    lines.push(first_line(alloc, outcome)?)?;
+    match outcome {
+        Outcome::Optimal(plan, _) => add_aircraft(alloc, book, &plan.0, &mut lines)?,
+        Outcome::Between { plan, .. } => add_aircraft(alloc, book, &plan.0, &mut lines)?,
+        Outcome::Infeasible => {}
+        Outcome::Above { .. } => {}
+    }
+    Ok(lines)
+}
+
+fn first_line(alloc: Global, outcome: &Outcome) -> Result<Line, Memory>
+    ensures { IfOk result (λ line. line ≡ first_line outcome.now) }
+{
+    let mut line = Line::new(alloc)?;
+    match outcome {
+        Outcome::Optimal(_, cost) => {
+            line.text(b"optimal ")?;
+            line.unsigned(*cost)?;
+        }
+        Outcome::Infeasible => line.text(b"infeasible")?,
+        Outcome::Between { low, high, .. } => {
+            line.text(b"limit ")?;
+            line.unsigned(*low)?;
+            line.text(b" ")?;
+            line.unsigned(*high)?;
+        }
+        Outcome::Above { low, .. } => {
+            line.text(b"limit ")?;
+            line.unsigned(*low)?;
+            line.text(b" -")?;
+        }
+    }
+    line.text(b"\n")?;
+    Ok(line)
+}
+
+// Adds the lines of the aircraft.
+fn add_aircraft(alloc: Global, book: &Book, routes: &[Route], lines: &mut Vec<Line>) -> Result<(), Memory>
+    requires { IsPlanFor book.now routes.now }
+    ensures { OnOk result (lines.new.items ≡ lines.old.items ++ aircraft_lines book.now 0 routes.now) }
+{
+    for k in 0..routes.len() {
+        lines.push(aircraft_line(alloc, book, k, &routes[k])?)?;
+    }
+    Ok(())
+}
+
+fn aircraft_line(alloc: Global, book: &Book, k: usize, route: &Route) -> Result<Line, Memory>
+    requires aircraft { k < aircraft book.now }
+    requires activities { All (λ a. a < activities book.now) route.now }
+    ensures { IfOk result (λ line. line ≡ aircraft_line book.now k route.now) }
+{
+    let mut line = Line::new(alloc)?;
+    line.text(book.tails[k].name.as_bytes())?;
+    line.text(b":")?;
+    add_ids(book, &route.0, &mut line)?;
+    line.text(b"\n")?;
+    Ok(line)
+}
+
+fn add_ids(book: &Book, route: &[u32], line: &mut Line) -> Result<(), Memory>
+    requires { All (λ a. a < activities book.now) route.now }
+    ensures { OnOk result (line.new ≡ line.old ++ ids_of book.now route.now) }
+{
+    for a in route {
+        add_id(book, *a, line)?;
+    }
+    Ok(())
+}
+
+fn add_id(book: &Book, a: u32, line: &mut Line) -> Result<(), Memory>
+    requires { a < activities book.now }
+    ensures { OnOk result (line.new ≡ line.old ++ codes " " ++ (activity_of book.now a).id) }
+{
+    line.text(b" ")?;
+    line.text(book.activities[a as usize].id.as_bytes())
+}

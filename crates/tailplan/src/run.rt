@@ -1,0 +1,155 @@
+//! A whole run: the words, the tables, the least plan, and what is printed.
+
+ghost use Rattle.std.specs.Prelude.{◌≡◌, ◌≤◌, ◌⊎◌, ℕ, List, map, string_bytes, IfOk, IfSome, IsErrOf, IsTrue, None, Ok, Err, false, take};
+ghost use Rattle.tail_book.specs.Seen.{BookSeen};
+ghost use Rattle.tail_book.specs.Truth.{IsTrueOutcome, HasNoPlan};
+ghost use Rattle.tail_outside.specs.Outside.{Adds, HasRisen, SameNames};
+ghost use Rattle.tailplan.specs.Answers.{IsAnswerTo, IsPrintable, IsPrinted, IsTrueAnswer, lines_of, shown_of, status_of};
+ghost use Rattle.tailplan.specs.Lines.{text_of};
+ghost use Rattle.tailplan.specs.Report.{report};
+ghost use Rattle.tailplan.specs.Words.{names_of};
+ghost use Rattle.tailplan.specs.declared.answer.Answer.{Answer};
+ghost use Rattle.book_maker.specs.Made.{book_of};
+ghost use Rattle.tailplan.specs.declared.reading.TheConstants.{READ_LIMIT};
+
+use crate::answer::Answer;
+use crate::enumerate::least_plan;
+use crate::lines::{lines_of, put_lines};
+use crate::reading::{ReadFail, read_all};
+use book_maker::read_book;
+use std::alloc::Global;
+use tail_book::{Outcome, laws};
+use tail_outside::{Fault, Files, Sink};
+use tail_text::Stopped;
+
+/// How a run ended.
+#[derive(Clone, Copy, PartialEq, Eq, Debug)]
+pub struct Status(pub u8);
+
+/// How a run ended, and the files as they stand.
+#[derive(Drop)]
+pub struct Ran<F> {
+    pub status: Status,
+    pub files: F,
+}
+
+/// Plans the timetable and the fleet that the words name: prints a legal plan of least cost, or that no plan is
+/// legal, or why the words or a table are refused. The files are handed back as they stand.
+pub fn solve_run<F: Files, S: Sink>(
+    alloc: Global,
+    words: &[String],
+    files: F,
+    out: &mut S,
+) -> Ran<F>
+    requires { IfSome (names_of (map string_bytes words.now)) (λ names. IsTrue (F.lets_read files names.timetable) × IsTrue (F.lets_read files names.fleet)) }
+
+    // Some answer is true of the words and the files, and it was printed.
+    ensures answered { (answer : Answer) × IsTrueAnswer (map string_bytes words.now) (F.holds files) (F.read_faults files) (F.read_faults result.files) answer
+        × IsPrinted (text_of (lines_of answer)) (shown_of (S.told out.old) (S.told out.new) (S.faults out.old) (S.faults out.new) (S.ceased out.new)) (status_of answer) result.status.0 }
+
+    ensures same { (other : List ℕ) → F.holds result.files other ≡ F.holds files other }
+    ensures beside { S.beside out.old out.new }
+{
+    let mut files = files;
+    let answer = answer_of(alloc, words, &mut files);
+    let status = print(alloc, &answer, out);
+    Ran { status, files }
+}
+
+/// The bytes of the two tables.
+#[derive(Debug, Drop)]
+pub struct Tables {
+    pub timetable: Vec<u8>,
+    pub fleet: Vec<u8>,
+}
+
+// The bytes of the tables under two names.
+fn read_tables<F: Files>(
+    alloc: Global,
+    files: &mut F,
+    timetable: &str,
+    fleet: &str,
+) -> Result<Tables, ReadFail>
+    requires timetable { IsTrue (F.lets_read files.old timetable.now) }
+    requires fleet { IsTrue (F.lets_read files.old fleet.now) }
+    ensures timetable { IfOk result (λ t. IfSome (F.holds files.old timetable.now) (λ bytes. t.timetable.items ≡ take READ_LIMIT bytes)) }
+    ensures fleet { IfOk result (λ t. IfSome (F.holds files.old fleet.now) (λ bytes. t.fleet.items ≡ take READ_LIMIT bytes)) }
+    ensures same { (other : List ℕ) → F.holds files.new other ≡ F.holds files.old other }
+    ensures counts { F.read_faults files.old ≤ F.read_faults files.new }
+    ensures cause { IsErrOf result ReadFail.Failed → HasRisen (F.read_faults files.old) (F.read_faults files.new) }
+{
+    let timetable = match read_all(alloc, files, timetable) {
+        Ok(bytes) => bytes,
+        Err(fail) => return Err(fail),
+    };
+    match read_all(alloc, files, fleet) {
+        Ok(fleet) => Ok(Tables { timetable, fleet }),
+        Err(fail) => Err(fail),
+    }
+}
+
+// The answer to the bytes of the tables.
+fn solved(alloc: Global, timetable: &[u8], fleet: &[u8]) -> Answer
+    ensures answer { IsAnswerTo timetable.now fleet.now result }
+    ensures printable { IsPrintable result }
+{
+    let book = match read_book(alloc, timetable, fleet) {
+        Ok(book) => book,
+        Err(Stopped::Refused(refusal)) => return Answer::Refused(refusal),
+        Err(Stopped::Memory) => return Answer::Memory,
+    };
+    laws::every_book_is_sound(&book);
+    laws::legal_routes_rise();
+    match least_plan(alloc, &book) {
+        Ok(outcome) => Answer::Solved(book, outcome),
+        Err(_) => Answer::Memory,
+    }
+}
+
+// The answer to the words.
+fn answer_of<F: Files>(alloc: Global, words: &[String], files: &mut F) -> Answer
+    requires { IfSome (names_of (map string_bytes words.now)) (λ names. IsTrue (F.lets_read files.old names.timetable) × IsTrue (F.lets_read files.old names.fleet)) }
+    ensures answer { IsTrueAnswer (map string_bytes words.now) (F.holds files.old) (F.read_faults files.old) (F.read_faults files.new) result }
+    ensures printable { IsPrintable result }
+    ensures same { (other : List ℕ) → F.holds files.new other ≡ F.holds files.old other }
+{
+    let [_, timetable, fleet] = words else {
+        return Answer::Usage;
+    };
+    match read_tables(alloc, files, timetable.as_str(), fleet.as_str()) {
+        Ok(tables) => solved(alloc, &tables.timetable, &tables.fleet),
+        Err(ReadFail::Failed) => Answer::ReadFailed,
+        Err(ReadFail::Memory) => Answer::Memory,
+    }
+}
+
+fn status_of(answer: &Answer) -> Status
+    ensures { result.0 ≡ status_of answer.now }
+{
+    Status(match answer {
+        Answer::Solved(_, Outcome::Optimal(_, _)) => 0,
+        Answer::Solved(_, Outcome::Infeasible) => 1,
+        Answer::Usage => 2,
+        Answer::Refused(_) => 3,
+        Answer::Solved(_, Outcome::Between { .. }) => 4,
+        Answer::Solved(_, Outcome::Above { .. }) => 4,
+        Answer::ReadFailed => 5,
+        Answer::Memory => 7,
+    })
+}
+
+// Prints the answer.
+fn print<S: Sink>(alloc: Global, answer: &Answer, out: &mut S) -> Status
+    requires { IsPrintable answer.now }
+    ensures printed { IsPrinted (text_of (lines_of answer.now)) (shown_of (S.told out.old) (S.told out.new) (S.faults out.old) (S.faults out.new) (S.ceased out.new)) (status_of answer.now) result.0 }
+    ensures beside { S.beside out.old out.new }
+{
+    let Ok(lines) = lines_of(alloc, answer) else {
+        return Status(7);
+    };
+    match put_lines(&lines, out) {
+        Ok(()) => status_of(answer),
+        Err(Fault::Failed) => Status(6),
+        Err(Fault::Memory) => Status(7),
+    }
+}
