@@ -10,3 +10,4 @@ pub mod ReadLemmas
 pub mod Printable
 pub mod Cut
 pub mod WordLemmas
+pub mod Promised

@@ -6,3 +6,4 @@ pub mod Report
 pub mod Refused
 pub mod Words
 pub mod Answers
+pub mod Promises

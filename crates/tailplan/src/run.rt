@@ -1,12 +1,13 @@
 //! A whole run: the words, the tables, the least plan, and what is printed.
 
-ghost use Rattle.std.specs.Prelude.{◌≡◌, ◌≤◌, ◌⊎◌, ℕ, List, map, string_bytes, IfOk, IfSome, IsErrOf, IsTrue, None, Ok, Err, false, take};
+ghost use Rattle.std.specs.Prelude.{◌≡◌, ◌≤◌, ◌⊎◌, ℕ, List, map, string_bytes, IfOk, IfSome, IsErrOf, IsTrue, None, Ok, Err, [], take};
 ghost use Rattle.tail_book.specs.Seen.{BookSeen};
-ghost use Rattle.tail_book.specs.Truth.{IsTrueOutcome, HasNoPlan};
-ghost use Rattle.tail_outside.specs.Outside.{Adds, HasRisen, SameNames};
-ghost use Rattle.tailplan.specs.Answers.{IsAnswerTo, IsPrintable, IsPrinted, IsTrueAnswer, lines_of, shown_of, status_of};
+ghost use Rattle.tail_outside.specs.Outside.{HasRisen};
+ghost use Rattle.tailplan.specs.Answers.{IsAnswerTo, IsPrintable, IsPrinted, IsTrueAnswer, OfTables, lines_of, shown_of, status_of};
+ghost use Rattle.tailplan.specs.Promises.{AreNamed, IsUnlessStopped, Prints, PrintsInfeasible, PrintsLeastPlan, PrintsRefusal};
+ghost use Rattle.tailplan.specs.Refused.{usage_line};
+ghost use Rattle.tail_text.specs.declared.refusal.Refusal.{Refusal};
 ghost use Rattle.tailplan.specs.Lines.{text_of};
-ghost use Rattle.tailplan.specs.Report.{report};
 ghost use Rattle.tailplan.specs.Words.{names_of};
 ghost use Rattle.tailplan.specs.declared.answer.Answer.{Answer};
 ghost use Rattle.book_maker.specs.Made.{book_of};
@@ -43,10 +44,28 @@ pub fn solve_run<F: Files, S: Sink>(
 ) -> Ran<F>
     requires { IfSome (names_of (map string_bytes words.now)) (λ names. IsTrue (F.lets_read files names.timetable) × IsTrue (F.lets_read files names.fleet)) }
 
-    // Some answer is true of the words and the files, and it was printed.
+    // What each status says, where the files tell their bytes and the sink what it took.
+    ensures least { result.status.0 ≡ 0 → OfTables (map string_bytes words.now) (F.holds files) (PrintsLeastPlan (shown_of (S.told out.old) (S.told out.new) (S.faults out.old) (S.faults out.new) (S.ceased out.new))) }
+    ensures infeasible { result.status.0 ≡ 1 → OfTables (map string_bytes words.now) (F.holds files) (PrintsInfeasible (shown_of (S.told out.old) (S.told out.new) (S.faults out.old) (S.faults out.new) (S.ceased out.new))) }
+    ensures usage { result.status.0 ≡ 2 → (names_of (map string_bytes words.now) ≡ None) × Prints (shown_of (S.told out.old) (S.told out.new) (S.faults out.old) (S.faults out.new) (S.ceased out.new)) usage_line }
+    ensures refused { result.status.0 ≡ 3 → OfTables (map string_bytes words.now) (F.holds files) (PrintsRefusal (shown_of (S.told out.old) (S.told out.new) (S.faults out.old) (S.faults out.new) (S.ceased out.new))) }
+    ensures read_failed { result.status.0 ≡ 5 → HasRisen (F.read_faults files) (F.read_faults result.files) × Prints (shown_of (S.told out.old) (S.told out.new) (S.faults out.old) (S.faults out.new) (S.ceased out.new)) [] }
+    ensures write_failed { result.status.0 ≡ 6 → HasRisen (S.faults out.old) (S.faults out.new) }
+
+    // When each comes.
+    ensures words_refused { names_of (map string_bytes words.now) ≡ None → IsUnlessStopped 2 result.status.0 }
+    ensures tables_refused { (timetable fleet : List ℕ) (refusal : Refusal) → AreNamed (map string_bytes words.now) (F.holds files) timetable fleet
+        → book_of timetable fleet ≡ Err refusal → (result.status.0 ≡ 5) ⊎ IsUnlessStopped 3 result.status.0 }
+    ensures answers { (timetable fleet : List ℕ) (book : BookSeen) → AreNamed (map string_bytes words.now) (F.holds files) timetable fleet
+        → book_of timetable fleet ≡ Ok book → ¬ HasRisen (F.read_faults files) (F.read_faults result.files) → ¬ HasRisen (S.faults out.old) (S.faults out.new)
+        → (result.status.0 ≡ 0) ⊎ ((result.status.0 ≡ 1) ⊎ (result.status.0 ≡ 7)) }
+
+    // In each case some answer is true of the words and the files, and what was printed is its text, or a front of it
+    // after a failed write or want of memory.
     ensures answered { (answer : Answer) × IsTrueAnswer (map string_bytes words.now) (F.holds files) (F.read_faults files) (F.read_faults result.files) answer
         × IsPrinted (text_of (lines_of answer)) (shown_of (S.told out.old) (S.told out.new) (S.faults out.old) (S.faults out.new) (S.ceased out.new)) (status_of answer) result.status.0 }
 
+    // Nothing else changes.
     ensures same { (other : List ℕ) → F.holds result.files other ≡ F.holds files other }
     ensures beside { S.beside out.old out.new }
 {

@@ -1,0 +1,49 @@
+-- What a run promises, status by status.
+use Rattle.std.specs.Prelude.{ℕ, false, ◌≡◌, ◌⊎◌, List, [], Option, Some, None, Ok, Err}
+use Rattle.tail_book.specs.Seen.{BookSeen}
+use Rattle.tail_book.specs.Truth.{HasNoPlan, IsTrueOutcome}
+use Rattle.tail_book.specs.declared.outcome.Outcome.TheVariants.{Optimal, Infeasible}
+use Rattle.tail_outside.specs.Outside.{Adds, HasRisen}
+use Rattle.tail_text.specs.declared.refusal.Refusal.{Refusal}
+use Rattle.book_maker.specs.Made.{book_of}
+use Rattle.tailplan.specs.Answers.{Shown}
+use Rattle.tailplan.specs.Refused.{refusal_line}
+use Rattle.tailplan.specs.Report.{report}
+use Rattle.tailplan.specs.Words.{FileNames, names_of}
+
+-- the sink took exactly this text in the call, where it tells what it took
+abbrev pub Prints : Shown → List ℕ → Type 0
+Prints shown text = shown.ceased ≡ false → Adds shown.told_before shown.told text
+
+-- the tables are a book, and the report of a plan was printed that is legal, has the printed cost, and is undercut by no legal plan
+pub record PrintsLeastPlan (shown : Shown) (timetable fleet : List ℕ) : Type 0 where
+  pub book : BookSeen
+  pub plan : List (List ℕ)
+  pub cost : ℕ
+  pub is : book_of timetable fleet ≡ Ok book
+  pub truth : IsTrueOutcome book (Optimal plan cost)
+  pub printed : Prints shown (report book (Optimal plan cost))
+
+-- the tables are a book of which no plan is legal, and that was printed
+pub record PrintsInfeasible (shown : Shown) (timetable fleet : List ℕ) : Type 0 where
+  pub book : BookSeen
+  pub is : book_of timetable fleet ≡ Ok book
+  pub truth : HasNoPlan book
+  pub printed : Prints shown (report book Infeasible)
+
+-- the tables are refused, and the first refusal was printed
+pub record PrintsRefusal (shown : Shown) (timetable fleet : List ℕ) : Type 0 where
+  pub refusal : Refusal
+  pub is : book_of timetable fleet ≡ Err refusal
+  pub printed : Prints shown (refusal_line refusal)
+
+-- the words name two files that hold these bytes
+pub record AreNamed (words : List (List ℕ)) (holds : List ℕ → Option (List ℕ)) (timetable fleet : List ℕ) : Type 0 where
+  pub names : FileNames
+  pub given : names_of words ≡ Some names
+  pub timetable_held : holds names.timetable ≡ Some timetable
+  pub fleet_held : holds names.fleet ≡ Some fleet
+
+-- the status is this one, unless a write failed or memory was wanting
+abbrev pub IsUnlessStopped : ℕ → ℕ → Type 0
+IsUnlessStopped code status = (status ≡ code) ⊎ ((status ≡ 6) ⊎ (status ≡ 7))
