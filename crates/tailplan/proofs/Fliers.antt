@@ -121,8 +121,7 @@ assignment_of rise once book sound plan legal =
     let is : (k : ℕ) → k < aircraft book → flown_by k who ≡ route_of plan k = λ k lt.
     route_is plan k 0 (activities book) (route_of plan k)
     (subst (λ (n : ℕ). RisesWithin 0 n (route_of plan k)) (omega arith) (rises (activities book) (route_of plan k) (rise book sound k (route_of plan k) (legal.routes k lt))))
-    (λ a low high. stands_with_flier once book plan legal a (omega (arith, high)) k) in
-    (
+    (λ a low high. stands_with_flier once book plan legal a (omega (arith, high)) k) in (
       who,
       record {
         whole = length-fliers_from plan 0 (activities book);

@@ -93,11 +93,10 @@ module _ (book : BookSeen) (a : ℕ) (trial : Trial) (h : IsTrial book a trial) 
       let n = assigned (omega arith) in
       let there : x ≡ end_of_route k (take a trial.fliers.items) = at ∙ h.standing k lt in
       let here : step book k x a (values_at book trial.values.items k x) ≡ step book k (end_of_route k (take a trial.fliers.items)) a (counters_after book k (flown_by k (take a trial.fliers.items))) =
-      ap (λ (y : Place). step book k y a (values_at book trial.values.items k y)) there ∙ ap (step book k (end_of_route k (take a trial.fliers.items)) a) (h.counted k lt) in
-      (
+      ap (λ (y : Place). step book k y a (values_at book trial.values.items k y)) there ∙ ap (step book k (end_of_route k (take a trial.fliers.items)) a) (h.counted k lt) in (
         subst (λ (y : Place). IsLink book k y a) (sym there) (subst (λ (b : ℕ). IsLink book k (end_of_route k (take a trial.fliers.items)) b) n goes.link),
         subst (WithinLimits book.rules.counters) (sym here)
-        (subst (λ (b : ℕ). WithinLimits book.rules.counters (step book k (end_of_route k (take a trial.fliers.items)) b (counters_after book k (flown_by k (take a trial.fliers.items))))) n goes.limits),
+            (subst (λ (b : ℕ). WithinLimits book.rules.counters (step book k (end_of_route k (take a trial.fliers.items)) b (counters_after book k (flown_by k (take a trial.fliers.items))))) n goes.limits),
       )
 
 -- going on: activity a flown by aircraft k, its row written

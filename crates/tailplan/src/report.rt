@@ -51,7 +51,12 @@ fn first_line(alloc: Global, outcome: &Outcome) -> Result<Line, Memory>
 }
 
 // Adds the lines of the aircraft.
-fn add_aircraft(alloc: Global, book: &Book, routes: &[Route], lines: &mut Vec<Line>) -> Result<(), Memory>
+fn add_aircraft(
+    alloc: Global,
+    book: &Book,
+    routes: &[Route],
+    lines: &mut Vec<Line>,
+) -> Result<(), Memory>
     requires { IsPlanFor book.now routes.now }
     ensures { OnOk result (lines.new.items ≡ lines.old.items ++ aircraft_lines book.now 0 routes.now) }
 {

@@ -8,3 +8,299 @@ use tail_outside::{MemFile, MemFiles, MemSink};
 const TIMETABLE: &str = "id,kind,from,to,start,end,types,tags,tail,resets\n";
 
 const FLEET: &str = "tail,type,at,ready,fixed,tags,avoid,carry\n";
+
+const THERE: &str = "F1,flight,ARN,OSL,2025-03-03T06:00,2025-03-03T07:00,,,,\n";
+
+const THERE_AND_BACK: &str = "F1,flight,ARN,OSL,2025-03-03T06:00,2025-03-03T07:00,,,,\n\
+F2,flight,OSL,ARN,2025-03-03T07:30,2025-03-03T08:30,,,,\n";
+
+const AT_ARLANDA: &str = "A1,P,ARN,2025-03-03T05:00,0,,,\n";
+
+/// How a run ended, and what it printed.
+#[derive(Debug, Drop)]
+struct Seen {
+    status: Status,
+    printed: Vec<u8>,
+}
+
+fn text_of(alloc: Global, parts: &[&str]) -> Result<Vec<u8>, Fail> {
+    let mut text = Vec::new(alloc);
+    for part in parts {
+        text.extend_from_slice(part.as_bytes())?;
+    }
+    Ok(text)
+}
+
+fn file_of(alloc: Global, name: &str, bytes: Vec<u8>) -> Result<MemFile, Fail> {
+    let name = String::from_str(alloc, name)?;
+    Ok(MemFile { name, bytes })
+}
+
+fn words_of(alloc: Global, words: &[&str]) -> Result<Vec<String>, Fail> {
+    let mut all = Vec::new(alloc);
+    for word in words {
+        all.push(String::from_str(alloc, word)?)?;
+    }
+    Ok(all)
+}
+
+fn seen_of(alloc: Global, words: &[&str], files: MemFiles, sink: MemSink) -> Result<Seen, Fail> {
+    let words = words_of(alloc, words)?;
+    let mut sink = sink;
+    let ran = solve_run(alloc, &words, files, &mut sink);
+    let printed = sink.bytes().to_vec(alloc)?;
+    Ok(Seen {
+        status: ran.status,
+        printed,
+    })
+}
+
+// A run over the texts of two tables.
+fn run_on(alloc: Global, timetable: &[&str], fleet: &[&str]) -> Result<Seen, Fail> {
+    let timetable = file_of(alloc, "t", text_of(alloc, timetable)?)?;
+    let fleet = file_of(alloc, "f", text_of(alloc, fleet)?)?;
+    let files = MemFiles::new(alloc, vec![in alloc; timetable, fleet]?, Vec::new(alloc))?;
+    let sink = MemSink::new(alloc, Vec::new(alloc))?;
+    seen_of(alloc, &["tailplan", "t", "f"], files, sink)
+}
+
+// The same over two flights and one aircraft, where these calls of the files and of the sink fail.
+fn run_failing(alloc: Global, reads: &[u64], puts: &[u64]) -> Result<Seen, Fail> {
+    let timetable = file_of(alloc, "t", text_of(alloc, &[TIMETABLE, THERE_AND_BACK])?)?;
+    let fleet = file_of(alloc, "f", text_of(alloc, &[FLEET, AT_ARLANDA])?)?;
+    let files = MemFiles::new(
+        alloc,
+        vec![in alloc; timetable, fleet]?,
+        reads.to_vec(alloc)?,
+    )?;
+    let sink = MemSink::new(alloc, puts.to_vec(alloc)?)?;
+    seen_of(alloc, &["tailplan", "t", "f"], files, sink)
+}
+
+// The least plans were worked out by hand.
+#[test]
+fn least_plans_are_printed(rt: HostRuntime) -> Result<(), Fail> {
+    for (records, aircraft, status, printed) in [
+        // a gap that is exactly the turn, and one a minute shorter
+        (THERE_AND_BACK, AT_ARLANDA, 0, "optimal 120\nA1: F1 F2\n"),
+        (
+            "F1,flight,ARN,OSL,2025-03-03T06:00,2025-03-03T07:00,,,,\n\
+F2,flight,OSL,ARN,2025-03-03T07:29,2025-03-03T08:30,,,,\n",
+            AT_ARLANDA,
+            1,
+            "infeasible\n",
+        ),
+        // no activities, with two aircraft and with none
+        (
+            "",
+            "A1,P,ARN,2025-03-03T05:00,0,,,\nA2,P,ARN,2025-03-03T05:00,0,,,\n",
+            0,
+            "optimal 0\nA1:\nA2:\n",
+        ),
+        ("", "", 0, "optimal 0\n"),
+        // a flight and no aircraft
+        (THERE, "", 1, "infeasible\n"),
+        // two aircraft that must swap the order of the table
+        (
+            "F1,flight,ARN,OSL,2025-03-03T06:00,2025-03-03T07:00,,,,\n\
+F2,flight,OSL,ARN,2025-03-03T06:00,2025-03-03T07:00,,,,\n",
+            "A1,P,OSL,2025-03-03T05:00,0,,,\nA2,P,ARN,2025-03-03T05:00,0,,,\n",
+            0,
+            "optimal 120\nA1: F2\nA2: F1\n",
+        ),
+        // a fixed amount that decides
+        (
+            THERE,
+            "A1,P,ARN,2025-03-03T05:00,50,,,\nA2,P,ARN,2025-03-03T05:00,7,,,\n",
+            0,
+            "optimal 67\nA1:\nA2: F1\n",
+        ),
+        // a flight that nobody can reach
+        (THERE, "A1,P,LHR,2025-03-03T05:00,0,,,\n", 1, "infeasible\n"),
+        // an aircraft ready in time, and one ready a minute too late
+        (
+            THERE,
+            "A1,P,ARN,2025-03-03T06:00,0,,,\n",
+            0,
+            "optimal 60\nA1: F1\n",
+        ),
+        (THERE, "A1,P,ARN,2025-03-03T06:01,0,,,\n", 1, "infeasible\n"),
+        // a turn that is missed by one aircraft, and flown by two
+        (
+            "F1,flight,ARN,OSL,2025-03-03T06:00,2025-03-03T07:00,,,,\n\
+F2,flight,OSL,ARN,2025-03-03T07:29,2025-03-03T08:29,,,,\n",
+            "A1,P,ARN,2025-03-03T05:00,0,,,\nA2,P,OSL,2025-03-03T05:00,0,,,\n",
+            0,
+            "optimal 120\nA1: F1\nA2: F2\n",
+        ),
+        // one aircraft flies all, since the other costs more for each
+        (
+            "F3,flight,ARN,LHR,2025-03-03T09:00,2025-03-03T11:00,,,,\n\
+F1,flight,ARN,OSL,2025-03-03T06:00,2025-03-03T07:00,,,,\n\
+F2,flight,OSL,ARN,2025-03-03T07:30,2025-03-03T08:30,,,,\n",
+            "A1,P,ARN,2025-03-03T05:00,10,,,\nA2,P,ARN,2025-03-03T05:00,3,,,\n",
+            0,
+            "optimal 249\nA1:\nA2: F1 F2 F3\n",
+        ),
+        // the dearer aircraft has to fly the second of two at once, where it is
+        (
+            "F1,flight,ARN,OSL,2025-03-03T06:00,2025-03-03T07:00,,,,\n\
+F2,flight,OSL,LHR,2025-03-03T06:30,2025-03-03T08:30,,,,\n",
+            "A1,P,ARN,2025-03-03T05:00,1,,,\nA2,P,OSL,2025-03-03T05:00,1000,,,\n",
+            0,
+            "optimal 1181\nA1: F1\nA2: F2\n",
+        ),
+    ] {
+        let seen = run_on(rt.alloc(), &[TIMETABLE, records], &[FLEET, aircraft])?;
+        assert_eq!(rt; seen.status, Status(status), "{records}{aircraft}");
+        assert!(rt;
+            seen.printed.as_slice() == printed.as_bytes(),
+            "{records}{aircraft}"
+        );
+    }
+    Ok(())
+}
+
+// Each refusal that can come, at its place, and of two faults the earlier one.
+#[test]
+fn refusals_name_their_place(rt: HostRuntime) -> Result<(), Fail> {
+    let good = [TIMETABLE, THERE_AND_BACK];
+    for (records, aircraft, printed) in [
+        (
+            THERE,
+            "A1,P,ARN,2025-03-03T05:00,100001,,,\n",
+            "refused 9 fleet 2\n",
+        ),
+        (
+            THERE,
+            "A1,P,ARN,2025-03-03T05:00,0,,,\nA1,P,ARN,2025-03-03T05:00,0,,,\n",
+            "refused 11 fleet 3\n",
+        ),
+        (
+            THERE,
+            "A1,P,ARN,2025-03-03T05:00,0,VIP,,\n",
+            "refused 17 fleet 2\n",
+        ),
+        (
+            "F1,train,ARN,OSL,2025-03-03T06:00,2025-03-03T07:00,,,,\n",
+            AT_ARLANDA,
+            "refused 8 timetable 2\n",
+        ),
+        (
+            "F1,train,ARN,OSL,6:00,2025-03-03T07:00,,,,\n",
+            AT_ARLANDA,
+            "refused 8 timetable 2\n",
+        ),
+        (
+            "F1,flight,ARN,OSL,2025-03-03T06:00,2025-03-03T06:00,,,,\n",
+            AT_ARLANDA,
+            "refused 7 timetable 2\n",
+        ),
+        (
+            "F1,ground,ARN,OSL,2025-03-03T06:00,2025-03-03T07:00,,,,\n",
+            AT_ARLANDA,
+            "refused 16 timetable 2\n",
+        ),
+        (
+            "G1,ground,ARN,ARN,2025-03-03T06:00,2025-03-03T07:00,,,,\n",
+            AT_ARLANDA,
+            "refused 17 timetable 2\n",
+        ),
+        (
+            "F 1,flight,ARN,OSL,2025-03-03T06:00,2025-03-03T07:00,,,,\n",
+            "A1,P,ARN\n",
+            "refused 5 timetable 2\n",
+        ),
+        (THERE, "A1,P,ARN\n", "refused 4 fleet 2\n"),
+    ] {
+        let seen = run_on(rt.alloc(), &[TIMETABLE, records], &[FLEET, aircraft])?;
+        assert_eq!(rt; seen.status, Status(3), "{records}{aircraft}");
+        assert!(rt;
+            seen.printed.as_slice() == printed.as_bytes(),
+            "{records}{aircraft}"
+        );
+    }
+    for (timetable, printed) in [
+        (
+            [
+                TIMETABLE,
+                "F1,flight,ARN,OSL,2025-02-30T06:00,2025-03-03T07:00,,,,\n",
+            ],
+            "refused 6 timetable 2\n",
+        ),
+        (
+            [
+                TIMETABLE,
+                "F1,flight,ARN,OSL,2025-03-03T06:00,2025-03-03T07:00,,,,\n\nF1,flight,OSL,ARN,2025-03-03T07:30,2025-03-03T08:30,,,,\n",
+            ],
+            "refused 11 timetable 3\n",
+        ),
+        (["", ""], "refused 3 timetable 1\n"),
+    ] {
+        let seen = run_on(rt.alloc(), &timetable, &[FLEET, AT_ARLANDA])?;
+        assert_eq!(rt; seen.status, Status(3), "{printed}");
+        assert!(rt; seen.printed.as_slice() == printed.as_bytes(), "{printed}");
+    }
+    let seen = run_on(rt.alloc(), &good, &[FLEET, AT_ARLANDA])?;
+    assert_eq!(rt; seen.status, Status(0));
+    Ok(())
+}
+
+// A write that fails ends the run with what was printed before it, a read that fails with nothing printed.
+#[test]
+fn faults_end_a_run(rt: HostRuntime) -> Result<(), Fail> {
+    for (reads, puts, status, printed) in [
+        ([0, 0], [2, 2], 6, "optimal 120\n"),
+        ([0, 0], [1, 2], 6, ""),
+        ([1, 1], [0, 0], 5, ""),
+        ([3, 3], [0, 0], 5, ""),
+    ] {
+        let seen = run_failing(rt.alloc(), &reads, &puts)?;
+        assert_eq!(rt; seen.status, Status(status), "{reads:?} {puts:?}");
+        assert!(rt;
+            seen.printed.as_slice() == printed.as_bytes(),
+            "{reads:?} {puts:?}"
+        );
+    }
+    Ok(())
+}
+
+// Only the program's name and two names are good words.
+#[test]
+fn other_words_are_refused(rt: HostRuntime) -> Result<(), Fail> {
+    for words in [
+        [].as_slice(),
+        &["tailplan"],
+        &["tailplan", "t"],
+        &["tailplan", "t", "f", "r"],
+    ] {
+        let files = MemFiles::new(rt.alloc(), Vec::new(rt.alloc()), Vec::new(rt.alloc()))?;
+        let sink = MemSink::new(rt.alloc(), Vec::new(rt.alloc()))?;
+        let seen = seen_of(rt.alloc(), words, files, sink)?;
+        assert_eq!(rt; seen.status, Status(2));
+        assert!(rt; seen.printed.as_slice() == b"usage: tailplan TIMETABLE FLEET\n".as_slice());
+    }
+    Ok(())
+}
+
+// A table of one byte more than a table may have is refused, whatever it says.
+#[test]
+fn a_table_may_be_too_big(rt: HostRuntime) -> Result<(), Fail> {
+    let mut big = text_of(rt.alloc(), &[TIMETABLE])?;
+    let padding = vec![in rt.alloc(); b'\n'; 65_536]?;
+    while big.len() < 16_777_217 {
+        big.extend_from_slice(&padding)?;
+    }
+    let timetable = file_of(rt.alloc(), "t", big)?;
+    let fleet = file_of(rt.alloc(), "f", text_of(rt.alloc(), &[FLEET, AT_ARLANDA])?)?;
+    let files = MemFiles::new(
+        rt.alloc(),
+        vec![in rt.alloc(); timetable, fleet]?,
+        Vec::new(rt.alloc()),
+    )?;
+    let sink = MemSink::new(rt.alloc(), Vec::new(rt.alloc()))?;
+    let seen = seen_of(rt.alloc(), &["tailplan", "t", "f"], files, sink)?;
+    assert_eq!(rt; seen.status, Status(3));
+    assert!(rt; seen.printed.as_slice() == b"refused 1 timetable 0\n".as_slice());
+    Ok(())
+}
