@@ -8,7 +8,7 @@
 
 ghost use Rattle.std.specs.Prelude.{◌≡◌, ◌<◌, ◌≤◌, ◌≤ℤ◌, ◌+ℤ◌, ◌↔◌, IsTrue, ◌^◌, pos, length};
 ghost use Rattle.tail_book.specs.Lookup.{activities, aircraft, resets_of};
-ghost use Rattle.tail_book.specs.Numbers.{contains};
+ghost use Rattle.tail_book.specs.Numbers.{contains, int_le};
 ghost use Rattle.tail_book.specs.Counters.{step_one, step_from, step, WithinLimits};
 ghost use Rattle.tail_book.specs.Sound.{IsWithin};
 ghost use Rattle.tail_book.specs.Tests.{within_limits};
@@ -55,6 +55,13 @@ pub fn step_one(
     if clears { added } else { value + added }
 }
 
+/// Whether a value is within its counter's limit.
+fn is_within(counter: &Counter, value: i64) -> bool
+    ensures { result ≡ int_le value counter.now.limit }
+{
+    value <= counter.limit
+}
+
 /// Steps each counter, and answers whether all are within their limits.
 fn step_all(
     book: &Book,
@@ -79,7 +86,7 @@ fn step_all(
         let counter = &counters[c];
         let next = step_one(book, k, from, b, c as u32, counter, values[c]);
         values[c] = next;
-        within &= next <= counter.limit;
+        within &= is_within(counter, next);
     }
     within
 }

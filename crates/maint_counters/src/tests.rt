@@ -287,3 +287,51 @@ fn counters_along_routes(rt: HostRuntime) -> Result<(), Fail> {
     }
     Ok(())
 }
+
+// A check from midnight to noon at OSL: no minutes flown, no landing, and half a day since the place before it. A
+// flight there counts as all three, and only from its start where the stop cleared the days.
+#[test]
+fn what_an_activity_adds(rt: HostRuntime) -> Result<(), Fail> {
+    let book = book(rt.alloc())?;
+    assert!(rt; book.tails.len() == 2 && book.activities.len() == 9);
+    for (kind, check, flight, anew) in [
+        (CounterKind::Minutes, 0, 60, 60),
+        (CounterKind::Landings, 0, 1, 1),
+        (CounterKind::Days, 720, 810, 60),
+    ] {
+        assert_eq!(rt;
+            amount(&book, B, Place::Carry, G1, false, kind),
+            check,
+            "{kind:?}"
+        );
+        assert_eq!(rt;
+            amount(&book, B, Place::Carry, H1, false, kind),
+            flight,
+            "{kind:?}"
+        );
+        assert_eq!(rt;
+            amount(&book, B, Place::Carry, H1, true, kind),
+            anew,
+            "{kind:?}"
+        );
+    }
+    Ok(())
+}
+
+// A stop of half an hour at OSL clears what OSL is a base of.
+#[test]
+fn what_clears_a_counter(rt: HostRuntime) -> Result<(), Fail> {
+    let made = book(rt.alloc())?;
+    let book = &made;
+    assert!(rt; book.tails.len() == 2 && book.activities.len() == 9);
+    assert!(rt; book.rules.counters.len() == 3);
+    for (c, want) in [(0, false), (1, true), (2, false)] {
+        let counter = &book.rules.counters[c];
+        assert_eq!(rt;
+            cleared(book, A, Place::After(F1), F2, counter),
+            want,
+            "counter {c}"
+        );
+    }
+    Ok(())
+}
