@@ -3,3 +3,4 @@ pub mod NameLemmas
 pub mod OrderLemmas
 pub mod MadeLemmas
 pub mod RowLemmas
+pub mod Examples

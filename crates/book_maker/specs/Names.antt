@@ -7,11 +7,12 @@ use Rattle.std.specs.Str.{bytes_eq}
 abbrev pub is_among : List (List ℕ) → List ℕ → Bool
 is_among names x = list_any (bytes_eq x) names
 
--- the place, counted from 0, of the first name that equals an earlier one, where some were seen before
+-- the place, counted from 0, of the first name that equals one of those seen before or an earlier one
 unfoldable pub repeat_from : List (List ℕ) → List (List ℕ) → Option ℕ
 repeat_from seen [] = None
 repeat_from seen (x ∷ xs) = if is_among seen x then Some (length seen) else repeat_from (seen ++ x ∷ []) xs
 
+-- the place, counted from 0, of the first name of a list that equals an earlier one
 abbrev pub first_repeat : List (List ℕ) → Option ℕ
 first_repeat = repeat_from []
 

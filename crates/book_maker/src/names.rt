@@ -1,4 +1,5 @@
 //! Names that repeat, and the numbers that names get.
+//! A set that keeps the order of insertion finds a name at once, so each list of names is passed over once.
 
 ghost use Rattle.std.specs.Prelude.{◌≡◌, ◌<◌, ◌^◌, length, IfOk, IfSome, IsTrue};
 ghost use Rattle.book_maker.specs.Names.{distinct_names, first_repeat, is_among, number_in};

@@ -57,15 +57,16 @@ fn names_are_numbered_by_first_appearance(rt: HostRuntime) -> Result<(), Fail> {
             "{name}"
         );
     }
+    let rules = &book.rules;
     let kinds = ["B738", "A320"];
-    assert_eq!(rt; book.rules.kinds.len(), kinds.len());
-    for (kind, name) in book.rules.kinds.iter().zip(kinds) {
+    assert_eq!(rt; rules.kinds.len(), kinds.len());
+    for (kind, name) in rules.kinds.iter().zip(kinds) {
         assert_eq!(rt; kind.name.as_bytes(), name.as_bytes());
         assert_eq!(rt; (kind.rate, kind.turn), (1, 30), "{name}");
     }
     let airports = ["OSL", "ARN", "CPH", "BGO"];
-    assert_eq!(rt; book.rules.airports.len(), airports.len());
-    for (airport, name) in book.rules.airports.iter().zip(airports) {
+    assert_eq!(rt; rules.airports.len(), airports.len());
+    for (airport, name) in rules.airports.iter().zip(airports) {
         assert_eq!(rt; airport.name.as_bytes(), name.as_bytes());
         assert_eq!(rt; (airport.offset, airport.turn), (0, 0), "{name}");
     }
