@@ -1,19 +1,13 @@
 -- Assignments and legal plans are the same: a legal plan's routes rise, and each activity stands in one of them.
-use Rattle.std.proofs.Common.{◌≡◌, ◌≢◌, ◌∙◌, ℕ, zero, suc, ◌+◌, ◌-◌, ◌<◌, ◌≤◌, ◌⊎◌, inl, inr, Bool, true, false, cond, arith, List, [], ◌∷◌, ◌++◌, length, get_or, refl, sym, ap, ap₂, add-one, zero-add, append_assoc, length-append, if◌then◌else◌}
-use Rattle.std.specs.Prelude.{All, count_by, nat_eq, ⊤}
-use Rattle.std.proofs.lemmas.Bool.{eqb-true, eq-eqb, ne_eqb, both_ways, cases_Bool, or_cases}
+use Rattle.std.proofs.Common.{◌≡◌, ◌≢◌, ◌∙◌, ℕ, zero, suc, ◌+◌, ◌<◌, ◌≤◌, ◌⊎◌, inl, inr, Bool, true, false, cond, arith, List, [], ◌∷◌, ◌++◌, length, get_or, refl, ap, zero-add, if◌then◌else◌}
+use Rattle.std.specs.Prelude.{count_by, nat_eq}
+use Rattle.std.proofs.lemmas.Bool.{eqb-true, eq-eqb, ne_eqb, both_ways, cases_Bool}
 use Rattle.std.proofs.lemmas.List.Sums.{sum_by-cons, sum_by-append}
-use Rattle.std.proofs.lemmas.List.Elements.{All-head, All-tail}
 use Rattle.std.specs.List.{flat_map}
 use Rattle.tail_book.specs.Seen.{BookSeen}
-use Rattle.tail_book.specs.declared.place.Place.{Place}
-use Rattle.tail_book.specs.declared.place.Place.TheVariants.{Carry, After}
-use Rattle.tail_book.specs.Lookup.{activities, aircraft}
-use Rattle.tail_book.specs.Numbers.{contains}
-use Rattle.tail_book.specs.Route.{IsLegalRoute}
+use Rattle.tail_book.specs.Lookup.{aircraft}
 use Rattle.tail_book.specs.Plan.{route_of, times_flown, IsLegalPlan}
-use Rattle.tail_book.specs.Rising.{IsBefore, IsRisingFrom}
-use Rattle.tailplan.specs.Assignment.{flown_from, flown_by, routes_from, plan_of, IsLegalSoFar, IsLegalAssignment}
+use Rattle.tailplan.specs.Assignment.{flown_from, flown_by, routes_from, plan_of, IsLegalAssignment}
 
 -- an aircraft more at the end
 pub flown_from-push : (k i j : ℕ) (who : List ℕ) → flown_from k i (who ++ j ∷ []) ≡ flown_from k i who ++ (if nat_eq j k then (i + length who) ∷ [] else [])

@@ -1,13 +1,13 @@
 -- A table that is read only up to one byte more than a table may have reads as the whole of it: both are too big.
-use Rattle.std.proofs.Common.{◌≡◌, ◌∙◌, ℕ, ◌+◌, ◌<◌, ◌≤◌, ◌⊎◌, inl, inr, Bool, true, false, arith, List, length, take, refl, ap, ap₂, subst, sym, length-take-le}
+use Rattle.std.proofs.Common.{◌≡◌, ◌∙◌, ℕ, ◌+◌, ◌<◌, ◌≤◌, ◌⊎◌, inl, inr, false, arith, List, length, take, refl, ap, ap₂, subst, sym, length-take-le}
 use Rattle.std.proofs.lemmas.Bool.Decides.{nat_tests}
 use Rattle.std.proofs.lemmas.List.{take_all}
 use Rattle.std.specs.Prelude.{nat_le, Option, None, Some, IfSome, Result}
 use Rattle.book_maker.specs.Made.{book_of, made_of}
-use Rattle.fleet_rules.specs.Fleet.{fleet as fleet_layout, fleet_of}
-use Rattle.table_records.specs.Layout.{Layout, look, must, table_of}
+use Rattle.fleet_rules.specs.Fleet.{fleet as fleet_layout}
+use Rattle.table_records.specs.Layout.{Layout, look, table_of}
 use Rattle.table_records.specs.declared.table.TheConstants.{SIZE_LIMIT}
-use Rattle.timetable_reader.specs.Timetable.{timetable as timetable_layout, timetable_of}
+use Rattle.timetable_reader.specs.Timetable.{timetable as timetable_layout}
 use Rattle.tailplan.specs.Answers.{IsAnswerTo, IsTrueAnswer}
 use Rattle.tailplan.specs.Words.{FileNames, names_of}
 use Rattle.tailplan.specs.declared.answer.Answer.TheVariants.{Usage, Refused, Solved, ReadFailed, Memory}

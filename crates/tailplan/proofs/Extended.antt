@@ -1,6 +1,6 @@
 -- One activity more: whether an assignment stays legal, what it costs, and what its completions owe.
-use Rattle.std.proofs.Common.{◌≡◌, ◌≢◌, ◌∙◌, ℕ, zero, suc, ℤ, ◌+◌, ◌<◌, ◌≤◌, inl, inr, Bool, true, false, arith, List, [], ◌∷◌, ◌++◌, length, get_or, refl, sym, ap, if◌then◌else◌, subst, append_assoc, add_assoc, add_comm, length-append}
-use Rattle.std.specs.Prelude.{All, nat_eq, ⊤}
+use Rattle.std.proofs.Common.{◌≡◌, ◌≢◌, ◌∙◌, ℕ, zero, suc, ℤ, ◌+◌, ◌<◌, ◌≤◌, inl, inr, Bool, true, false, arith, List, [], ◌∷◌, ◌++◌, length, refl, sym, ap, if◌then◌else◌, subst, add_assoc}
+use Rattle.std.specs.Prelude.{nat_eq}
 use Rattle.std.proofs.lemmas.Bool.{eqb-true, eq-eqb, ne_eqb, both_ways, cases_Bool}
 use Rattle.std.proofs.lemmas.List.{append-nil}
 use Rattle.std.proofs.lemmas.List.Elements.{All-push}
@@ -10,10 +10,10 @@ use Rattle.tail_book.specs.declared.place.Place.TheVariants.{Carry, After}
 use Rattle.tail_book.specs.Lookup.{activities, aircraft, carry_of}
 use Rattle.tail_book.specs.Link.{IsLink}
 use Rattle.tail_book.specs.Counters.{step, WithinLimits}
-use Rattle.tail_book.specs.Route.{IsLegalFrom, IsLegalRoute, counters_from, counters_after, place_after}
+use Rattle.tail_book.specs.Route.{IsLegalFrom, IsLegalRoute, counters_from, place_after}
 use Rattle.tail_book.specs.Cost.{activity_cost, connection_cost, cost_from, route_cost, cost_of_routes}
-use Rattle.tailplan.specs.Assignment.{flown_from, flown_by, routes_from, plan_of, IsLegalSoFar, IsLegalAssignment, assignment_cost}
-use Rattle.tailplan.specs.Enumeration.{end_of_route, GoesOn, next_cost}
+use Rattle.tailplan.specs.Assignment.{flown_from, flown_by, routes_from, IsLegalSoFar, IsLegalAssignment, assignment_cost}
+use Rattle.tailplan.specs.Enumeration.{GoesOn, next_cost}
 use Rattle.tailplan.proofs.Assigned.{flown_from-push}
 
 -- a route and what follows it

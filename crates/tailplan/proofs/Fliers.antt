@@ -1,17 +1,15 @@
 -- Every legal plan is the plan of an assignment: each activity has one flier, and the numbers of a route rise.
-use Rattle.std.proofs.Common.{◌≡◌, ◌≢◌, ◌∙◌, ℕ, zero, suc, ◌+◌, ◌<◌, ◌≤◌, ◌⊎◌, inl, inr, Bool, true, false, arith, List, [], ◌∷◌, length, get_or, refl, sym, ap, ap₂, add-one, if◌then◌else◌, subst}
-use Rattle.std.specs.Prelude.{All, nat_eq, ⊤, ◌||◌}
-use Rattle.std.proofs.lemmas.Bool.{eqb-true, eq-eqb, ne_eqb, both_ways, cases_Bool, or_cases, or_right, or_left}
+use Rattle.std.proofs.Common.{◌≡◌, ◌≢◌, ◌∙◌, ℕ, zero, suc, ◌+◌, ◌<◌, ◌≤◌, inl, inr, Bool, true, false, arith, List, [], ◌∷◌, length, get_or, refl, sym, ap, ap₂, if◌then◌else◌, subst}
+use Rattle.std.specs.Prelude.{nat_eq, ⊤}
+use Rattle.std.proofs.lemmas.Bool.{eqb-true, eq-eqb, ne_eqb, both_ways, cases_Bool, or_left}
 use Rattle.tail_book.specs.Seen.{BookSeen}
-use Rattle.tail_book.specs.declared.place.Place.{Place}
 use Rattle.tail_book.specs.declared.place.Place.TheVariants.{Carry, After}
 use Rattle.tail_book.specs.Lookup.{activities, aircraft}
 use Rattle.tail_book.specs.Numbers.{contains}
-use Rattle.tail_book.specs.Route.{IsLegalRoute}
 use Rattle.tail_book.specs.Plan.{route_of, IsLegalPlan}
 use Rattle.tail_book.specs.Rising.{IsRisingFrom, LegalRoutesRise, EachIsFlownOnce}
 use Rattle.tail_book.specs.Sound.{IsBook}
-use Rattle.tailplan.specs.Assignment.{flown_from, flown_by, routes_from, plan_of, IsLegalSoFar, IsLegalAssignment}
+use Rattle.tailplan.specs.Assignment.{flown_from, flown_by, routes_from, plan_of, IsLegalAssignment}
 
 -- the first aircraft whose route has the activity
 abbrev flier_of : List (List ℕ) → ℕ → ℕ

@@ -1,11 +1,9 @@
 -- From an answer that is true and printed to what each status promises.
-use Rattle.std.proofs.Common.{◌≡◌, ◌≢◌, ◌∙◌, ℕ, ◌⊎◌, inl, inr, arith, List, [], ◌∷◌, Option, Some, None, Ok, Err, IfSome, refl, ap, subst, sym}
-use Rattle.std.specs.Prelude.{Result}
+use Rattle.std.proofs.Common.{◌≡◌, ◌≢◌, ◌∙◌, ℕ, ◌⊎◌, inl, inr, arith, List, [], ◌∷◌, Option, Some, None, Ok, Err, IfSome, ap, subst, sym}
 use Rattle.std.proofs.lemmas.List.{append-nil}
 use Rattle.tail_book.specs.Seen.{BookSeen}
-use Rattle.tail_book.specs.declared.outcome.Outcome.{Outcome}
 use Rattle.tail_book.specs.declared.outcome.Outcome.TheVariants.{Optimal, Infeasible, Between, Above}
-use Rattle.tail_outside.specs.Outside.{Adds, AddsFront, HasRisen}
+use Rattle.tail_outside.specs.Outside.{HasRisen}
 use Rattle.tail_text.specs.declared.refusal.Refusal.{Refusal}
 use Rattle.book_maker.specs.Made.{book_of}
 use Rattle.tailplan.specs.Answers.{IsAnswerTo, IsPrinted, IsTrueAnswer, OfTables, Shown, lines_of, status_of}

@@ -1,5 +1,5 @@
 -- The steps of the enumeration: going on with one activity, coming back, and what is tried then.
-use Rattle.std.proofs.Common.{◌≡◌, ◌≢◌, ◌∙◌, ℕ, suc, ℤ, pos, ◌+◌, ◌*◌, ◌<◌, ◌≤◌, ◌⊎◌, inl, inr, true, false, arith, List, [], ◌∷◌, ◌++◌, length, get_or, set, take, drop, refl, sym, ap, ap₂, subst, append_assoc, add-one, length-append, length-take-le}
+use Rattle.std.proofs.Common.{◌≡◌, ◌≢◌, ◌∙◌, ℕ, ℤ, pos, ◌+◌, ◌*◌, ◌<◌, ◌≤◌, ◌⊎◌, inl, inr, arith, List, [], ◌∷◌, ◌++◌, length, get_or, take, drop, refl, sym, ap, ap₂, subst, append_assoc, add-one, length-append, length-take-le}
 use Rattle.std.proofs.lemmas.Int.{ints}
 use Rattle.std.proofs.lemmas.Bool.{eqb-true, eq-eqb, both_ways, cases_Bool}
 use Rattle.std.proofs.lemmas.List.{append-nil, get_or-set_same, get_or-set_other, take-take, length-set, set-get_or, set-set}
@@ -19,8 +19,8 @@ use Rattle.tailplan.specs.declared.enumerate.Trial.{Trial}
 use Rattle.tailplan.specs.declared.enumerate.Best.{Best}
 use Rattle.tailplan.specs.declared.enumerate.Advance.{Advance}
 use Rattle.tail_book.specs.Cost.{activity_cost, connection_cost}
-use Rattle.tailplan.specs.Assignment.{flown_from, flown_by, IsLegalSoFar, IsLegalAssignment, assignment_cost}
-use Rattle.tailplan.specs.Enumeration.{Advances, AgreesBelow, GoesOn, HasRow, HasTried, IsBest, IsCount, IsNoBetter, IsPlaceBefore, IsTrial, end_of_route, next_cost, row_of, values_after, values_at, width_of, with_row}
+use Rattle.tailplan.specs.Assignment.{flown_from, flown_by, assignment_cost}
+use Rattle.tailplan.specs.Enumeration.{Advances, AgreesBelow, GoesOn, HasRow, HasTried, IsCount, IsNoBetter, IsPlaceBefore, IsTrial, end_of_route, row_of, values_after, values_at, width_of, with_row}
 use Rattle.turn_rules.specs.InRange.{IsPlaceOf}
 use Rattle.tailplan.proofs.Extended.{completed, cost_more, counters_push, flown_by-other, flown_by-same, legal_more, place_push}
 use Rattle.tailplan.proofs.Rows.{row_below, row_of_front, with_row-front, with_row-row, with_row-through, length-with_row}

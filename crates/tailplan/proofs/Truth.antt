@@ -1,15 +1,15 @@
 -- The best of all assignments is a least plan.
-use Rattle.std.proofs.Common.{◌≡◌, ◌∙◌, ℕ, ◌≤◌, false, true, List, [], ap, sym, subst}
+use Rattle.std.proofs.Common.{◌≡◌, ℕ, ◌≤◌, false, true, List, [], subst}
 use Rattle.std.proofs.lemmas.Bool.{both_ways}
 use Rattle.tail_book.specs.Seen.{BookSeen}
 use Rattle.tail_book.specs.Cost.{plan_cost}
 use Rattle.tail_book.specs.Plan.{IsLegalPlan}
 use Rattle.tail_book.specs.Rising.{LegalRoutesRise, EachIsFlownOnce}
 use Rattle.tail_book.specs.Sound.{IsBook}
-use Rattle.tail_book.specs.Truth.{CostsAtLeast, IsPlanOf, IsTrueOutcome}
+use Rattle.tail_book.specs.Truth.{IsPlanOf, IsTrueOutcome}
 use Rattle.tail_book.specs.declared.outcome.Outcome.TheVariants as outcome
 use Rattle.tailplan.specs.declared.enumerate.Best.{Best}
-use Rattle.tailplan.specs.Assignment.{IsLegalAssignment, assignment_cost, plan_of}
+use Rattle.tailplan.specs.Assignment.{plan_of}
 use Rattle.tailplan.specs.Enumeration.{HasTried, IsBest}
 use Rattle.tailplan.proofs.Assigned.{legal_plan_of}
 use Rattle.tailplan.proofs.Fliers.{assignment_of}

@@ -1,5 +1,5 @@
 -- The two names that three words give.
-use Rattle.std.proofs.Common.{◌≡◌, ◌<◌, ◌≤◌, zero, suc, arith, List, [], ◌∷◌, Some, ap₂, get_or, length, map, string_bytes, sym}
+use Rattle.std.proofs.Common.{◌≡◌, ◌<◌, ◌≤◌, arith, List, [], ◌∷◌, Some, ap₂, get_or, length, map, string_bytes, sym}
 use Rattle.std.specs.Prelude.{String, ℕ}
 use Rattle.std.specs.declared.alloc.Global.{Global}
 use Rattle.tailplan.specs.Words.{FileNames, names_of}

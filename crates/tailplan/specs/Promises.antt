@@ -1,9 +1,9 @@
 -- What a run promises, status by status.
-use Rattle.std.specs.Prelude.{ℕ, false, ◌≡◌, ◌⊎◌, List, [], Option, Some, None, Ok, Err}
+use Rattle.std.specs.Prelude.{ℕ, false, ◌≡◌, ◌⊎◌, List, Option, Some, Ok, Err}
 use Rattle.tail_book.specs.Seen.{BookSeen}
 use Rattle.tail_book.specs.Truth.{HasNoPlan, IsTrueOutcome}
 use Rattle.tail_book.specs.declared.outcome.Outcome.TheVariants.{Optimal, Infeasible}
-use Rattle.tail_outside.specs.Outside.{Adds, HasRisen}
+use Rattle.tail_outside.specs.Outside.{Adds}
 use Rattle.tail_text.specs.declared.refusal.Refusal.{Refusal}
 use Rattle.book_maker.specs.Made.{book_of}
 use Rattle.tailplan.specs.Answers.{Shown}

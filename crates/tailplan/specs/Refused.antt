@@ -1,5 +1,5 @@
 -- What is printed where the words or a table are refused.
-use Rattle.std.specs.Prelude.{ℕ, List, [], ◌++◌, codes, decimal}
+use Rattle.std.specs.Prelude.{ℕ, List, ◌++◌, codes, decimal}
 use Rattle.tail_text.specs.declared.refusal.Refusal.{Refusal}
 use Rattle.tail_text.specs.declared.refusal.Table.{Table}
 use Rattle.tail_text.specs.declared.refusal.Table.TheVariants.{Timetable, Fleet, Rules, Plan}

@@ -286,10 +286,10 @@ fn other_words_are_refused(rt: HostRuntime) -> Result<(), Fail> {
 // A table of one byte more than a table may have is refused, whatever it says.
 #[test]
 fn a_table_may_be_too_big(rt: HostRuntime) -> Result<(), Fail> {
-    let mut big = text_of(rt.alloc(), &[TIMETABLE])?;
-    let padding = vec![in rt.alloc(); b'\n'; 65_536]?;
-    while big.len() < 16_777_217 {
-        big.extend_from_slice(&padding)?;
+    let piece = vec![in rt.alloc(); b'\n'; 65_536]?;
+    let mut big = text_of(rt.alloc(), &["\n"])?;
+    for _ in 0..256 {
+        big.extend_from_slice(&piece)?;
     }
     let timetable = file_of(rt.alloc(), "t", big)?;
     let fleet = file_of(rt.alloc(), "f", text_of(rt.alloc(), &[FLEET, AT_ARLANDA])?)?;

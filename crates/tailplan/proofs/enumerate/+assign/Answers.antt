@@ -1,10 +1,7 @@
-use Rattle.std.proofs.Common.{◌≡◌, ◌∙◌, ◌<◌, ◌+◌, ◌*◌, ◌++◌, ◌∷◌, [], ℕ, List, ap, arith, below_more, length, refl, subst, sym, take}
+use Rattle.std.proofs.Common.{◌≡◌, ◌∙◌, ◌++◌, ◌∷◌, [], ℕ, List, ap, arith, below_more, refl, subst, take}
 use Rattle.std.specs.Prelude.{slice_set}
-use Rattle.tail_book.specs.Lookup.{activities, aircraft}
 use Rattle.tail_book.specs.declared.place.Place.{Place}
-use Rattle.tailplan.specs.Assignment.{assignment_cost}
-use Rattle.tailplan.specs.Enumeration.{AgreesBelow, HasTried}
-use Rattle.tailplan.proofs.Extended.{cost_more}
+use Rattle.tailplan.specs.Enumeration.{HasTried}
 use Rattle.tailplan.proofs.Trials.{back_from, going_costs, returned, tried_from, tried_nothing}
 use Rattle.tailplan.proofs.enumerate.+assign.Goals as goal
 

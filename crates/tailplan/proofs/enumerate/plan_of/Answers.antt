@@ -1,4 +1,4 @@
-use Rattle.tailplan.proofs.Built.{no_more_routes, route_turn}
+use Rattle.tailplan.proofs.Built.{route_turn}
 use Rattle.tailplan.proofs.enumerate.plan_of.Goals as goal
 
 pub loop-k-preserved : goal.loop-k-preserved
