@@ -3,7 +3,7 @@
 use crate::run::{Status, solve_run};
 use std::alloc::Global;
 use std::test::Fail;
-use tail_outside::{MemFile, MemFiles, MemSink};
+use tail_outside::{Files, MemFile, MemFiles, MemSink, SureFiles, SureSink};
 
 const TIMETABLE: &str = "id,kind,from,to,start,end,types,tags,tail,resets\n";
 
@@ -55,6 +55,13 @@ fn seen_of(alloc: Global, words: &[&str], files: MemFiles, sink: MemSink) -> Res
     })
 }
 
+// The tables of two flights and one aircraft.
+fn tables_of(alloc: Global) -> Result<Vec<MemFile>, Fail> {
+    let timetable = file_of(alloc, "t", text_of(alloc, &[TIMETABLE, THERE_AND_BACK])?)?;
+    let fleet = file_of(alloc, "f", text_of(alloc, &[FLEET, AT_ARLANDA])?)?;
+    Ok(vec![in alloc; timetable, fleet]?)
+}
+
 // A run over the texts of two tables.
 fn run_on(alloc: Global, timetable: &[&str], fleet: &[&str]) -> Result<Seen, Fail> {
     let timetable = file_of(alloc, "t", text_of(alloc, timetable)?)?;
@@ -64,15 +71,9 @@ fn run_on(alloc: Global, timetable: &[&str], fleet: &[&str]) -> Result<Seen, Fai
     seen_of(alloc, &["tailplan", "t", "f"], files, sink)
 }
 
-// The same over two flights and one aircraft, where these calls of the files and of the sink fail.
+// A run over two flights and one aircraft, where these calls of the files and of the sink fail.
 fn run_failing(alloc: Global, reads: &[u64], puts: &[u64]) -> Result<Seen, Fail> {
-    let timetable = file_of(alloc, "t", text_of(alloc, &[TIMETABLE, THERE_AND_BACK])?)?;
-    let fleet = file_of(alloc, "f", text_of(alloc, &[FLEET, AT_ARLANDA])?)?;
-    let files = MemFiles::new(
-        alloc,
-        vec![in alloc; timetable, fleet]?,
-        reads.to_vec(alloc)?,
-    )?;
+    let files = MemFiles::new(alloc, tables_of(alloc)?, reads.to_vec(alloc)?)?;
     let sink = MemSink::new(alloc, puts.to_vec(alloc)?)?;
     seen_of(alloc, &["tailplan", "t", "f"], files, sink)
 }
@@ -302,5 +303,37 @@ fn a_table_may_be_too_big(rt: HostRuntime) -> Result<(), Fail> {
     let seen = seen_of(rt.alloc(), &["tailplan", "t", "f"], files, sink)?;
     assert_eq!(rt; seen.status, Status(3));
     assert!(rt; seen.printed.as_slice() == b"refused 1 timetable 0\n".as_slice());
+    Ok(())
+}
+
+// A run over files and a sink that took their room at once. One byte less of room drops the line that passes it.
+#[test]
+fn a_report_fits_its_room(rt: HostRuntime) -> Result<(), Fail> {
+    let words = words_of(rt.alloc(), &["tailplan", "t", "f"])?;
+    for (room, printed) in [
+        (64, "optimal 120\nA1: F1 F2\n"),
+        (22, "optimal 120\nA1: F1 F2\n"),
+        (21, "optimal 120\n"),
+    ] {
+        let files = SureFiles::new(rt.alloc(), tables_of(rt.alloc())?, 256)?;
+        let mut sink = SureSink::new(rt.alloc(), room)?;
+        let ran = solve_run(rt.alloc(), &words, files, &mut sink);
+        assert_eq!(rt; ran.status, Status(0), "{room}");
+        assert!(rt; sink.bytes() == printed.as_bytes(), "{room}");
+    }
+    Ok(())
+}
+
+// A timetable that is written into its room is read from there; one byte less of room drops it.
+#[test]
+fn a_timetable_fits_its_room(rt: HostRuntime) -> Result<(), Fail> {
+    let text = text_of(rt.alloc(), &[TIMETABLE, THERE_AND_BACK])?;
+    for (room, held) in [(text.len(), text.len()), (text.len().saturating_sub(1), 0)] {
+        let mut files = SureFiles::new(rt.alloc(), tables_of(rt.alloc())?, room)?;
+        assert!(rt; files.begin("t").is_ok());
+        assert!(rt; files.append("t", &text).is_ok());
+        let bytes = files.bytes("t").ok_or("no file")?;
+        assert!(rt; bytes == &text[..held], "{room}");
+    }
     Ok(())
 }
