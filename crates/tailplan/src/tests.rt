@@ -62,13 +62,18 @@ fn tables_of(alloc: Global) -> Result<Vec<MemFile>, Fail> {
     Ok(vec![in alloc; timetable, fleet]?)
 }
 
-// A run over the texts of two tables.
-fn run_on(alloc: Global, timetable: &[&str], fleet: &[&str]) -> Result<Seen, Fail> {
-    let timetable = file_of(alloc, "t", text_of(alloc, timetable)?)?;
-    let fleet = file_of(alloc, "f", text_of(alloc, fleet)?)?;
+// A run over the bytes of two tables.
+fn run_over(alloc: Global, timetable: Vec<u8>, fleet: Vec<u8>) -> Result<Seen, Fail> {
+    let timetable = file_of(alloc, "t", timetable)?;
+    let fleet = file_of(alloc, "f", fleet)?;
     let files = MemFiles::new(alloc, vec![in alloc; timetable, fleet]?, Vec::new(alloc))?;
     let sink = MemSink::new(alloc, Vec::new(alloc))?;
     seen_of(alloc, &["tailplan", "t", "f"], files, sink)
+}
+
+// A run over the texts of two tables.
+fn run_on(alloc: Global, timetable: &[&str], fleet: &[&str]) -> Result<Seen, Fail> {
+    run_over(alloc, text_of(alloc, timetable)?, text_of(alloc, fleet)?)
 }
 
 // A run over two flights and one aircraft, where these calls of the files and of the sink fail.
@@ -76,6 +81,19 @@ fn run_failing(alloc: Global, reads: &[u64], puts: &[u64]) -> Result<Seen, Fail>
     let files = MemFiles::new(alloc, tables_of(alloc)?, reads.to_vec(alloc)?)?;
     let sink = MemSink::new(alloc, puts.to_vec(alloc)?)?;
     seen_of(alloc, &["tailplan", "t", "f"], files, sink)
+}
+
+// Two flights and one aircraft, where memory doesn't run out.
+#[test]
+fn answers_with_ample_memory(rt: HostRuntime) -> Result<(), Fail> {
+    let seen = run_on(
+        rt.alloc(),
+        &[TIMETABLE, THERE_AND_BACK],
+        &[FLEET, AT_ARLANDA],
+    )?;
+    assert_eq!(rt; seen.status, Status(0));
+    assert!(rt; seen.printed.as_slice() == b"optimal 120\nA1: F1 F2\n".as_slice());
+    Ok(())
 }
 
 // The least plans were worked out by hand.
@@ -165,7 +183,6 @@ F2,flight,OSL,LHR,2025-03-03T06:30,2025-03-03T08:30,,,,\n",
 // Each refusal that can come, at its place, and of two faults the earlier one.
 #[test]
 fn refusals_name_their_place(rt: HostRuntime) -> Result<(), Fail> {
-    let good = [TIMETABLE, THERE_AND_BACK];
     for (records, aircraft, printed) in [
         (
             THERE,
@@ -242,8 +259,6 @@ fn refusals_name_their_place(rt: HostRuntime) -> Result<(), Fail> {
         assert_eq!(rt; seen.status, Status(3), "{printed}");
         assert!(rt; seen.printed.as_slice() == printed.as_bytes(), "{printed}");
     }
-    let seen = run_on(rt.alloc(), &good, &[FLEET, AT_ARLANDA])?;
-    assert_eq!(rt; seen.status, Status(0));
     Ok(())
 }
 
@@ -292,17 +307,46 @@ fn a_table_may_be_too_big(rt: HostRuntime) -> Result<(), Fail> {
     for _ in 0..256 {
         big.extend_from_slice(&piece)?;
     }
-    let timetable = file_of(rt.alloc(), "t", big)?;
-    let fleet = file_of(rt.alloc(), "f", text_of(rt.alloc(), &[FLEET, AT_ARLANDA])?)?;
-    let files = MemFiles::new(
-        rt.alloc(),
-        vec![in rt.alloc(); timetable, fleet]?,
-        Vec::new(rt.alloc()),
-    )?;
-    let sink = MemSink::new(rt.alloc(), Vec::new(rt.alloc()))?;
-    let seen = seen_of(rt.alloc(), &["tailplan", "t", "f"], files, sink)?;
+    let fleet = text_of(rt.alloc(), &[FLEET, AT_ARLANDA])?;
+    let seen = run_over(rt.alloc(), big, fleet)?;
     assert_eq!(rt; seen.status, Status(3));
     assert!(rt; seen.printed.as_slice() == b"refused 1 timetable 0\n".as_slice());
+    Ok(())
+}
+
+// A byte that no text has is refused, wherever it stands.
+#[test]
+fn a_table_is_text(rt: HostRuntime) -> Result<(), Fail> {
+    let timetable = text_of(rt.alloc(), &[TIMETABLE, THERE])?;
+    let mut fleet = text_of(rt.alloc(), &[FLEET, AT_ARLANDA])?;
+    fleet.push(0xff)?;
+    let seen = run_over(rt.alloc(), timetable, fleet)?;
+    assert_eq!(rt; seen.status, Status(3));
+    assert!(rt; seen.printed.as_slice() == b"refused 2 fleet 0\n".as_slice());
+    Ok(())
+}
+
+// An eleventh activity and a fifth aircraft are refused before their fields are looked at.
+#[test]
+fn a_table_may_be_too_long(rt: HostRuntime) -> Result<(), Fail> {
+    let bad = "!,,,,,,,,,\n";
+    let eleven = [
+        TIMETABLE, THERE, THERE, THERE, THERE, THERE, THERE, THERE, THERE, THERE, THERE, bad,
+    ];
+    let five = [
+        FLEET,
+        AT_ARLANDA,
+        AT_ARLANDA,
+        AT_ARLANDA,
+        AT_ARLANDA,
+        "!,,,,,,,\n",
+    ];
+    let seen = run_on(rt.alloc(), &eleven, &five)?;
+    assert_eq!(rt; seen.status, Status(3));
+    assert!(rt; seen.printed.as_slice() == b"refused 10 timetable 12\n".as_slice());
+    let seen = run_on(rt.alloc(), &[TIMETABLE, THERE], &five)?;
+    assert_eq!(rt; seen.status, Status(3));
+    assert!(rt; seen.printed.as_slice() == b"refused 10 fleet 6\n".as_slice());
     Ok(())
 }
 
