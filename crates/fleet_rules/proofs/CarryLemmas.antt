@@ -54,10 +54,6 @@ pub record AreRead (words : List (List ℕ)) (n : ℕ) (kept : List RawCarry) (t
   pub many : too_many ≡ nat_lt CARRY_LIMIT n
   pub sound : All IsRawCarry kept
 
--- before the first word
-pub AreRead-none : (words : List (List ℕ)) → AreRead words 0 [] false
-AreRead-none words = record { read = []; rest = sym (joined-nil (items_in words)); count = refl; front = refl; many = refl; sound = All-nil IsRawCarry }
-
 -- where fewer items are kept than may be, fewer have been read
 short : (n limit : ℕ) (kept read : List RawCarry) → length read ≡ n → kept ≡ take limit read → length kept < limit → n < limit
 short n limit kept read count front few = omega (arith, length-take limit read, ap length front)

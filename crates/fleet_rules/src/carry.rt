@@ -14,7 +14,8 @@ use tail_text::number;
 /// The most values that one aircraft may come in with.
 pub const CARRY_LIMIT: usize = 20;
 
-/// The values that a field lists.
+/// The values that a field lists, as `NAME=VALUE` with one space between each two. Code 5 or 9 for a bad item, and code
+/// 10 where all are good and more than 20.
 pub(crate) fn carry_in(alloc: Global, field: &[u8]) -> Result<Vec<RawCarry>, NoRow>
     ensures value { Judges (λ carry. carry.items) (carry_in field.now) result }
     ensures sound { IfOk result (λ carry. AreCarried carry.items) }

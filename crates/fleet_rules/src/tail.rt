@@ -3,7 +3,7 @@
 use std::marker::Model;
 use tail_book::Name;
 
-/// The value with which an aircraft comes in at a counter.
+/// The value with which an aircraft comes in at a counter: minutes or landings, 0 to 10,000,000.
 #[derive(Clone, Copy, PartialEq, Eq, Debug)]
 pub struct RawCarry {
     pub counter: Name,

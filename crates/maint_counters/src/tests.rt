@@ -17,7 +17,8 @@ const ARN: u32 = 0;
 
 const OSL: u32 = 1;
 
-// The aircraft: SE-A comes in at ARN at 06:00, SE-B at OSL at midnight with 1,000 minutes of its day gone.
+// The aircraft: SE-A comes in at ARN at 06:00, SE-B at OSL at midnight with 10 minutes flown, 2 landings and 1,000
+// minutes of its day gone.
 const A: u32 = 0;
 
 const B: u32 = 1;
@@ -288,8 +289,9 @@ fn counters_along_routes(rt: HostRuntime) -> Result<(), Fail> {
     Ok(())
 }
 
-// A check from midnight to noon at OSL: no minutes flown, no landing, and half a day since the place before it. A
-// flight there counts as all three, and only from its start where the stop cleared the days.
+// A check at OSL from 10:00 to 12:00, before which the aircraft has been free since midnight: no minutes flown, no
+// landing, and half a day. A flight from there counts as all three, and its days only from its start where a stop
+// cleared them.
 #[test]
 fn what_an_activity_adds(rt: HostRuntime) -> Result<(), Fail> {
     let book = book(rt.alloc())?;

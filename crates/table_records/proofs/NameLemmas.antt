@@ -54,10 +54,6 @@ pub record AreKept (words : List (List ℕ)) (n : ℕ) (names : List (List ℕ))
   pub kept : names ≡ take NAME_LIMIT (take n words)
   pub many : too_many ≡ nat_lt NAME_LIMIT n
 
--- before the first word
-pub AreKept-none : (words : List (List ℕ)) → AreKept words 0 [] false
-AreKept-none words = record { good = refl; kept = refl; many = refl }
-
 short : (n limit : ℕ) (words names : List (List ℕ)) → n ≤ length words → names ≡ take limit (take n words) → length names < limit → n < limit
 short n limit words names within kept few = omega (arith, length-take-le n words within, length-take limit (take n words), ap length kept)
 

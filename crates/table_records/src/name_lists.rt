@@ -12,7 +12,8 @@ use tail_text::name;
 /// The most names that one field may list.
 pub const NAME_LIMIT: usize = 20;
 
-/// The names that a field lists.
+/// The names that a field lists, each two with one space between them. Code 5 where one is bad, and code 10 where all
+/// are good and more than 20.
 pub fn names(alloc: Global, field: &[u8]) -> Result<Vec<Name>, NoRow>
     ensures value { Judges (λ names. names.items) (names_of field.now) result }
     ensures grammar { IfOk result (λ names. AreNames names.items) }

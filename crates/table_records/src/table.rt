@@ -22,7 +22,9 @@ pub const SIZE_LIMIT: usize = 16_777_216;
 /// Why a record gives no row.
 #[derive(Clone, Copy, PartialEq, Eq, Debug)]
 pub enum NoRow {
+    /// The record is refused with this code.
     Code(u8),
+    /// There was no memory for it.
     Memory,
 }
 

@@ -68,11 +68,6 @@ one_route test a has (route ∷ plan) (suc k) once some here =
       | inr t ↦ one_route test a has plan k one t here
     ]
 
-pub some_route : (test : List ℕ → Bool) (plan : List (List ℕ)) (k : ℕ) → test [] ≡ false → test (route_of plan k) ≡ true → list_any test plan ≡ true
-some_route test [] k none h = absurd (both_ways (test []) none h)
-some_route test (route ∷ plan) zero none h = or_left (test route) (list_any test plan) h
-some_route test (route ∷ plan) (suc k) none h = or_right (test route) (list_any test plan) (some_route test plan k none h)
-
 -- who flies an activity that is flown
 contained_from_count : (route : List ℕ) (a : ℕ) → 1 ≤ count_by (nat_eq a) route → contains route a ≡ true
 contained_from_count [] a h = absurd (omega (arith, h))

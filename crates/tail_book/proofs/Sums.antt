@@ -11,10 +11,6 @@ abbrev pub total : List ℤ → ℤ
 total [] = pos 0
 total (z ∷ zs) = z +ℤ total zs
 
-pub total-map-append : (f : ℕ → ℤ) (xs ys : List ℕ) → total (map f (xs ++ ys)) ≡ total (map f xs) +ℤ total (map f ys)
-total-map-append f [] ys = omega (arith, ints)
-total-map-append f (x ∷ xs) ys = let h = total-map-append f xs ys in omega (arith, ints)
-
 -- the sum of f below n
 abbrev pub sum_below : ℕ → (ℕ → ℤ) → ℤ
 sum_below zero f = pos 0

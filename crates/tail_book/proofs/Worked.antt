@@ -1,5 +1,5 @@
 -- Worked books: the definitions computed on books whose answers are known from outside.
-use Rattle.std.proofs.Common.{◌≡◌, ℕ, ℤ, pos, ◌+◌, true, false, List, [], ◌∷◌, Option, Some, None, refl}
+use Rattle.std.proofs.Common.{◌≡◌, ℕ, ℤ, pos, ◌+◌, ◌+ℤ◌, true, false, List, [], ◌∷◌, Option, Some, None, refl}
 use Rattle.std.specs.Prelude.{codes}
 use Rattle.tail_book.specs.Seen.{ActivitySeen, TailSeen, CurfewSeen, CounterSeen, RulesSeen, BookSeen}
 use Rattle.tail_book.specs.declared.place.Place.TheVariants.{Carry, After}
@@ -10,6 +10,7 @@ use Rattle.tail_book.specs.declared.rules.CounterKind.TheVariants.{Minutes, Land
 use Rattle.tail_book.specs.Counters.{step}
 use Rattle.tail_book.specs.Cost.{plan_cost}
 use Rattle.tail_book.specs.Curfew.{is_curfewed}
+use Rattle.tail_book.specs.Link.{gap}
 use Rattle.tail_book.specs.Route.{counters_after}
 use Rattle.tail_book.specs.Tests.{is_legal_plan, is_legal_route, is_link}
 
@@ -140,6 +141,9 @@ checked resets = record {
 }
 
 -- the calendar ran on: 1,600 minutes at 10:00, and 120 more in the check
+days_at_its_start : pos 1000 +ℤ gap (checked []) 0 Carry 0 ≡ pos 1600
+days_at_its_start = refl
+
 days_run_on : step (checked []) 0 Carry 0 (pos 1000 ∷ []) ≡ pos 1720 ∷ []
 days_run_on = refl
 

@@ -19,5 +19,6 @@ ActivitiesCostAtMost = (book : BookSeen) → IsBook book → (k a : ℕ) → a <
 abbrev pub ConnectionsCostAtMost : Type 0
 ConnectionsCostAtMost = (book : BookSeen) → IsBook book → (k : ℕ) (x : Place) (b : ℕ) → connection_cost book k x b ≤ 1_000_000
 
+-- a legal plan costs at most two million for each activity
 abbrev pub LegalPlansCostAtMost : Type 0
 LegalPlansCostAtMost = (book : BookSeen) → IsBook book → (plan : List (List ℕ)) → IsLegalPlan book plan → plan_cost book plan ≤ greatest_cost book

@@ -14,6 +14,7 @@ use Rattle.tail_book.specs.Counters.{step, WithinLimits}
 use Rattle.tail_book.specs.Route.{IsLegalRoute}
 use Rattle.tail_book.specs.Plan.{times_flown, route_of, IsLegalPlan}
 
+-- the aircraft may fly the activity
 abbrev pub is_allowed : BookSeen → ℕ → ℕ → Bool
 is_allowed book k a =
     covers_type (types_of book a) (kind_of book k)
@@ -23,28 +24,33 @@ is_allowed book k a =
     && (is_none_or (preassigned book a) k
     && not (is_curfewed book k a)))))
 
+-- the aircraft may be at the place
 abbrev pub is_allowed_at : BookSeen → ℕ → Place → Bool
 is_allowed_at book k Carry = true
 is_allowed_at book k (After x) = is_allowed book k x
 
+-- the activity may come directly after the place
 abbrev pub is_link : BookSeen → ℕ → Place → ℕ → Bool
 is_link book k x b =
     nat_eq (port book k x) (from_port book b)
     && (int_le (free_from book k x +ℤ turn_time book k x b) (start_of book b)
     && (is_allowed_at book k x && is_allowed book k b))
 
+-- there is a value for each counter, and each is within its limit
 abbrev pub within_limits : List CounterSeen → List ℤ → Bool
 within_limits [] [] = true
 within_limits [] (value ∷ values) = false
 within_limits (counter ∷ counters) [] = false
 within_limits (counter ∷ counters) (value ∷ values) = int_le value counter.limit && within_limits counters values
 
+-- the rest of a route is legal from a place on, with these values there
 abbrev pub is_legal_from : BookSeen → ℕ → Place → List ℤ → List ℕ → Bool
 is_legal_from book k x values [] = true
 is_legal_from book k x values (b ∷ rest) =
     nat_lt b (activities book)
     && (is_link book k x b && (within_limits book.rules.counters (step book k x b values) && is_legal_from book k (After b) (step book k x b values) rest))
 
+-- the route is legal for the aircraft
 abbrev pub is_legal_route : BookSeen → ℕ → List ℕ → Bool
 is_legal_route book k route = is_legal_from book k Carry (carry_of book k) route
 
@@ -58,6 +64,7 @@ abbrev pub are_flown_once_below : List (List ℕ) → ℕ → Bool
 are_flown_once_below plan zero = true
 are_flown_once_below plan (suc a) = times_flown plan a == 1 && are_flown_once_below plan a
 
+-- there is a legal route for each aircraft, and each activity is flown exactly once
 abbrev pub is_legal_plan : BookSeen → List (List ℕ) → Bool
 is_legal_plan book plan =
     length plan == aircraft book && (are_legal_below book plan (aircraft book) && are_flown_once_below plan (activities book))

@@ -29,6 +29,8 @@ pub record IsPlanOf (book : BookSeen) (cost : ℕ) (plan : List (List ℕ)) : Ty
 abbrev pub SomePlanCosts : BookSeen → ℕ → Type 0
 SomePlanCosts book cost = (plan : List (List ℕ)) × IsPlanOf book cost plan
 
+-- a claim is true: some legal plan costs this and none costs less; or no plan is legal; or the bound holds, and where a
+-- plan was found, one costs what is claimed, which lies above the bound
 abbrev pub IsTrueClaim : BookSeen → Claim → Type 0
 IsTrueClaim book (Optimal cost) = SomePlanCosts book cost × CostsAtLeast book cost
 IsTrueClaim book Infeasible = HasNoPlan book

@@ -1,4 +1,4 @@
-//! Laws over the definitions alone. Each function has no code: its contract is the law.
+//! Laws over the definitions alone: the contract of each function is the law.
 
 ghost use Rattle.tail_book.specs.Rising.{LinksRise, LegalRoutesRise, EachIsFlownOnce};
 ghost use Rattle.tail_book.specs.Bounds.{ActivitiesCostAtMost, ConnectionsCostAtMost, LegalPlansCostAtMost};
@@ -66,5 +66,6 @@ pub fn legal_plan_decides()
 pub fn every_book_is_sound(book: &Book)
     ensures { IsBook book.now }
 {
+    // A look at a field brings out what every book keeps.
     let _ = &book.activities;
 }

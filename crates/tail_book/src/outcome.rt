@@ -6,14 +6,18 @@ use crate::Plan;
 /// of nodes, a bound that every legal plan costs at least, with the best plan found if there is one.
 #[derive(Debug, Drop)]
 pub enum Outcome {
+    /// A plan of least cost, and its cost.
     Optimal(Plan, u64),
+    /// No plan is legal.
     Infeasible,
+    /// Every legal plan costs at least `low`, and `plan` costs `high`, after so many nodes.
     Between {
         plan: Plan,
         low: u64,
         high: u64,
         nodes: u64,
     },
+    /// Every legal plan costs at least `low`, and none was found, after so many nodes.
     Above {
         low: u64,
         nodes: u64,

@@ -13,7 +13,9 @@ pub struct Failed;
 /// Why a piece was not taken, or only a front of it.
 #[derive(Clone, Copy, PartialEq, Eq, Debug)]
 pub enum Fault {
+    /// The write failed, and the count of failed writes has risen.
     Failed,
+    /// There was no memory for the piece.
     Memory,
 }
 
@@ -99,7 +101,7 @@ pub trait Sink {
     /// Whether the sink has dropped bytes, so that nothing is told from then on.
     ghost ceased: { Self → Bool };
 
-    /// What else the sink holds stayed as it was.
+    /// What the sink holds beside its bytes and its faults is the same before and after.
     ghost beside: { Self → Self → Type 0 };
 
     /// Takes the piece. After a fault a front of it was taken.
@@ -114,9 +116,9 @@ pub trait Sink {
         ensures cause { IsErrOf result Fault.Failed → HasRisen (faults self.old) (faults self.new) }
         ensures memory { IsErrOf result Fault.Memory → faults self.new ≡ faults self.old };
 
-    /// A sink is beside itself.
+    /// A call that does nothing keeps it.
     ghost beside_same: { (s : Self) → beside s s };
 
-    /// It chains.
+    /// Two calls keep it where each does.
     ghost beside_chains: { (a b c : Self) → beside a b → beside b c → beside a c };
 }

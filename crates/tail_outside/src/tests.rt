@@ -81,6 +81,58 @@ fn failing_files(alloc: Global, number: u64) -> Result<MemFiles, Fail> {
     Ok(MemFiles::new(alloc, files(alloc)?, listed)?)
 }
 
+// Whether a file that is rewritten with the piece reads back so.
+fn reads_back<F: Files>(files: &mut F, name: &str, piece: &[u8], want: &[u8]) -> bool
+    requires reads { IsTrue (F.lets_read files.old name.now) }
+    requires writes { IsTrue (F.lets_write files.old name.now) }
+{
+    let mut into = [0; 4];
+    rewrite(files, name, piece, &mut into) == Ok(want.len()) && into.starts_with(want)
+}
+
+// The same pieces to each sink.
+#[test]
+fn sinks_take_the_same_pieces(rt: HostRuntime) -> Result<(), Fail> {
+    for (first, second, both) in [
+        (b"ab".as_slice(), b"c".as_slice(), b"abc".as_slice()),
+        (b"ab".as_slice(), b"".as_slice(), b"ab".as_slice()),
+        (b"".as_slice(), b"c".as_slice(), b"c".as_slice()),
+        (b"".as_slice(), b"".as_slice(), b"".as_slice()),
+    ] {
+        let mut held = failing_sink(rt.alloc(), 0)?;
+        assert_eq!(rt; put_both(&mut held, first, second), Ok(()));
+        assert_eq!(rt; held.bytes(), both);
+        let mut sure = SureSink::new(rt.alloc(), 3)?;
+        assert_eq!(rt; put_both(&mut sure, first, second), Ok(()));
+        assert_eq!(rt; sure.bytes(), both);
+        let mut file = FileSink::new(failing_files(rt.alloc(), 0)?, "new");
+        assert_eq!(rt; put_both(&mut file, first, second), Ok(()));
+        assert_eq!(rt; file.into_files().bytes("new"), Some(both));
+        let mut real = RealOut::new(&rt);
+        assert_eq!(rt; put_both(&mut real, first, second), Ok(()));
+    }
+    Ok(())
+}
+
+// The same calls to each kind of files: a piece that fits the buffer, one that is longer, and an empty one.
+#[test]
+fn files_are_rewritten_alike(rt: HostRuntime) -> Result<(), Fail> {
+    for (piece, want) in [
+        (b"xyz".as_slice(), b"xyz".as_slice()),
+        (b"uvwxyz".as_slice(), b"uvwx".as_slice()),
+        (b"".as_slice(), b"".as_slice()),
+    ] {
+        let mut held = failing_files(rt.alloc(), 0)?;
+        assert!(rt; reads_back(&mut held, "plan", piece, want));
+        let mut sure = SureFiles::new(rt.alloc(), files(rt.alloc())?, 6)?;
+        assert!(rt; reads_back(&mut sure, "plan", piece, want));
+        let mut real = RealFiles::new(&rt);
+        assert!(rt; reads_back(&mut real, "tail_outside_alike", piece, want));
+        fs::remove_file(&rt, "tail_outside_alike")?;
+    }
+    Ok(())
+}
+
 // Each call fails in turn, and then one that is never made.
 #[test]
 fn a_listed_put_takes_nothing(rt: HostRuntime) -> Result<(), Fail> {
@@ -194,6 +246,23 @@ fn a_real_file_is_rewritten(rt: HostRuntime) -> Result<(), Fail> {
     assert!(rt; into.starts_with(b"xyz"));
     fs::remove_file(&rt, name)?;
     assert_eq!(rt; real.read_at(name, 0, &mut into), Err(Failed));
+    Ok(())
+}
+
+// What a file is given joins what it holds.
+#[test]
+fn a_real_file_is_added_to(rt: HostRuntime) -> Result<(), Fail> {
+    let name = "tail_outside_added";
+    let mut real = RealFiles::new(&rt);
+    assert_eq!(rt; real.begin(name), Ok(()));
+    assert_eq!(rt; real.append(name, b"ab"), Ok(()));
+    assert_eq!(rt; real.append(name, b"c"), Ok(()));
+    let mut into = [0; 4];
+    assert_eq!(rt; real.read_at(name, 0, &mut into), Ok(3));
+    assert!(rt; into.starts_with(b"abc"));
+    assert_eq!(rt; real.read_at(name, 2, &mut into), Ok(1));
+    assert!(rt; into.starts_with(b"c"));
+    fs::remove_file(&rt, name)?;
     Ok(())
 }
 

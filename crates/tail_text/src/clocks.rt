@@ -7,7 +7,7 @@ ghost use Rattle.tail_text.specs.Clock.{clock_of, minutes_at, minutes_of, has_cl
 use crate::bad::Bad;
 use crate::pairs::{are_digits_at, pair_at};
 
-/// A time of day as `HH:MM`, in minutes since midnight.
+/// A time of day as `HH:MM`, in minutes since midnight. Any other text is `Bad`.
 pub fn clock(text: &[u8]) -> Result<i64, Bad>
     ensures value { result ≡ clock_of text.now }
     ensures range { IfOk result (IsBetween (pos 0) (pos 1439)) }

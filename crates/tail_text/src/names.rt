@@ -9,6 +9,7 @@ use crate::bad::Bad;
 use tail_book::Name;
 
 /// A name: 1 to 16 bytes, the first an ASCII letter or digit, the others letters, digits, `-` or `_`.
+/// Any other text is `Bad`.
 pub fn name(text: &[u8]) -> Result<Name, Bad>
     ensures { result ≡ name_of text.now }
 {

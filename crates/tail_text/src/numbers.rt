@@ -7,7 +7,7 @@ ghost use Rattle.tail_text.specs.Number.{number_of, has_leading_zero, is_numeral
 
 use crate::bad::Bad;
 
-/// A whole number of at most `max`, in digits with no zero in front.
+/// A whole number of at most `max`, in digits with no zero in front. Any other text is `Bad`.
 pub fn number(text: &[u8], max: u64) -> Result<u64, Bad>
     ensures value { result ≡ number_of max text.now }
     ensures range { IfOk result (λ n. n ≤ max) }

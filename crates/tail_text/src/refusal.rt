@@ -25,7 +25,9 @@ pub struct Refusal {
 /// What keeps a table from being read.
 #[derive(Clone, Copy, PartialEq, Eq, Debug)]
 pub enum Stopped {
+    /// It is refused.
     Refused(Refusal),
+    /// There was no memory for it.
     Memory,
 }
 

@@ -9,7 +9,8 @@ use crate::clocks::minutes_at;
 use crate::pairs::{are_digits_at, pair_at};
 use jiff::civil::Date;
 
-/// A moment as `YYYY-MM-DDTHH:MM`, in minutes since 1970-01-01T00:00 UTC.
+/// A moment as `YYYY-MM-DDTHH:MM` of the years 1970 to 2199, in minutes since 1970-01-01T00:00 UTC. Any other text is
+/// `Bad`.
 pub fn stamp(text: &[u8]) -> Result<i64, Bad>
     ensures value { result ≡ stamp_of text.now }
     ensures range { IfOk result (IsBetween (pos 0) (pos 120_968_639)) }

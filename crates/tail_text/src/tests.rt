@@ -1,3 +1,5 @@
+//! The grammars of values, on both sides, and a line that grows.
+
 use crate::bad::Bad;
 use crate::clocks::clock;
 use crate::line::Line;
@@ -25,7 +27,7 @@ fn stamps_are_minutes_since_1970(rt: HostRuntime) -> Result<(), Fail> {
     Ok(())
 }
 
-// The ends of a day, and a minute, an hour, a digit and a colon that a day does not have.
+// The ends of a day; an hour and a minute past them; and texts that miss the grammar by one thing.
 #[test]
 fn clocks_are_minutes_since_midnight(rt: HostRuntime) -> Result<(), Fail> {
     for (text, want) in [

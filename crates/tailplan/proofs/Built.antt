@@ -15,16 +15,8 @@ module _ (k a : ℕ) (fliers done : List ℕ) (j : ℕ) (lt : a < length fliers)
   pub other_turn : (j ≡ k → ⊥) → flown_by k fliers ≡ done ++ flown_from k a (drop a fliers) → flown_by k fliers ≡ done ++ flown_from k (a + 1) (drop (a + 1) fliers)
   other_turn other h = h ∙ rw (next, ne_eqb j k other) refl
 
-pub last_turn : (k a : ℕ) (fliers done : List ℕ) → length fliers ≤ a → flown_by k fliers ≡ done ++ flown_from k a (drop a fliers) → done ≡ flown_by k fliers
-last_turn k a fliers done over h = sym (h ∙ rw (drop_all a fliers over) (append-nil done))
-
 pub route_turn : (k count : ℕ) (fliers : List ℕ) (all done : List (List ℕ)) (route : List ℕ) → k < count → route ≡ flown_by k fliers
     → all ≡ done ++ routes_from k (count - k) fliers → all ≡ (done ++ route ∷ []) ++ routes_from (k + 1) (count - (k + 1)) fliers
 route_turn k count fliers all done route lt is h =
     let one : count - k ≡ suc (count - (k + 1)) = omega arith in
     h ∙ rw (one, is) (sym (append_assoc done (flown_by k fliers ∷ []) (routes_from (k + 1) (count - (k + 1)) fliers)))
-
-pub no_more_routes : (k count : ℕ) (fliers : List ℕ) (all done : List (List ℕ)) → count ≤ k → all ≡ done ++ routes_from k (count - k) fliers → done ≡ all
-no_more_routes k count fliers all done over h =
-    let none : count - k ≡ 0 = omega arith in
-    sym (h ∙ rw none (append-nil done))

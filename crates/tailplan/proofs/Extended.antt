@@ -123,10 +123,7 @@ cost_inside book i (suc count) who k low high = elim (cases_Bool (nat_eq k i)) [
 pub cost_more : (book : BookSeen) (who : List ℕ) (k : ℕ) → k < aircraft book → assignment_cost book (who ++ k ∷ []) ≡ assignment_cost book who + next_cost book who k
 cost_more book who k lt = cost_inside book 0 (aircraft book) who k (omega arith) (omega (arith, lt))
 
--- an assignment of nothing is legal and costs nothing
-pub legal_nothing : (book : BookSeen) → IsLegalSoFar book []
-legal_nothing book = record { fliers = λ a d lt. absurd (omega (arith, lt)); routes = λ k lt. tt }
-
+-- an assignment of nothing costs nothing
 costs_nothing_from : (book : BookSeen) (i count : ℕ) → cost_of_routes book i (routes_from i count []) ≡ 0
 costs_nothing_from book i zero = refl
 costs_nothing_from book i (suc count) = let e = costs_nothing_from book (i + 1) count in omega (arith, e)

@@ -279,11 +279,6 @@ tried_each book best who short each (k ∷ rest) legal =
     let lt : k < aircraft book = rw (get_or-append_seam who k rest 0) at (legal.legal.fliers (length who) 0 here) in
     rw append_assoc at (each k lt rest (rw append_assoc legal))
 
--- behind a whole assignment there is nothing more to try
-pub tried_whole : (book : BookSeen) (best : Best) (who : List ℕ) → length who ≡ activities book → IsNoBetter book best who → HasTried book best who
-tried_whole book best who whole no_better [] = rw append-nil no_better
-tried_whole book best who whole no_better (k ∷ rest) = λ legal. absurd (omega (arith, legal.whole, whole, length-append {A = ℕ} who (k ∷ rest)))
-
 -- what it costs to have gone on
 pub going_costs : (book : BookSeen) (a k : ℕ) (old new : Trial) (advance : Advance) (cost : ℕ) → k < aircraft book → Advances book a k old new advance
     → cost ≡ assignment_cost book (take a old.fliers.items) → cost + advance.cost ≡ assignment_cost book (take (a + 1) new.fliers.items)

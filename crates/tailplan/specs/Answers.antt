@@ -48,12 +48,14 @@ lines_of (Solved book outcome) = report_lines book outcome
 lines_of ReadFailed = []
 lines_of Memory = []
 
+-- the status of an outcome that was printed
 abbrev pub outcome_status : Outcome → ℕ
 outcome_status (Optimal plan cost) = 0
 outcome_status Infeasible = 1
 outcome_status (Between plan low high nodes) = 4
 outcome_status (Above low nodes) = 4
 
+-- the status of an answer that was printed
 abbrev pub status_of : Answer → ℕ
 status_of Usage = 2
 status_of (Refused refusal) = 3
@@ -61,7 +63,8 @@ status_of (Solved book outcome) = outcome_status outcome
 status_of ReadFailed = 5
 status_of Memory = 7
 
--- what a sink shows before and after a call: what it was told, the count of its faults, and whether it ceased
+-- what a sink shows before and after a call: the bytes that it tells, where it does, the count of its faults, and
+-- whether it has ceased
 pub record Shown : Type 0 where
   pub told_before : Option (List ℕ)
   pub told : Option (List ℕ)
@@ -69,6 +72,7 @@ pub record Shown : Type 0 where
   pub faults : ℕ
   pub ceased : Bool
 
+-- the same, from what a sink tells before and after, the counts before and after, and whether it has ceased
 abbrev pub shown_of : Option (List ℕ) → Option (List ℕ) → ℕ → ℕ → Bool → Shown
 shown_of told_before told faults_before faults ceased = record { told_before = told_before; told = told; faults_before = faults_before; faults = faults; ceased = ceased }
 

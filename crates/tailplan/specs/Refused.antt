@@ -5,6 +5,7 @@ use Rattle.tail_text.specs.declared.refusal.Table.{Table}
 use Rattle.tail_text.specs.declared.refusal.Table.TheVariants.{Timetable, Fleet, Rules, Plan}
 use Rattle.tailplan.specs.Lines.{newline}
 
+-- how a table is called
 abbrev pub table_name : Table → List ℕ
 table_name Timetable = codes "timetable"
 table_name Fleet = codes "fleet"
@@ -15,5 +16,6 @@ table_name Plan = codes "plan"
 abbrev pub refusal_line : Refusal → List ℕ
 refusal_line refusal = codes "refused " ++ decimal refusal.code ++ codes " " ++ table_name refusal.table ++ codes " " ++ decimal refusal.place ++ newline
 
+-- the words that the program takes
 abbrev pub usage_line : List ℕ
 usage_line = codes "usage: tailplan TIMETABLE FLEET" ++ newline

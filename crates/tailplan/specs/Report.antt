@@ -20,7 +20,7 @@ abbrev pub aircraft_lines : BookSeen → ℕ → List (List ℕ) → List (List 
 aircraft_lines book k [] = []
 aircraft_lines book k (route ∷ routes) = aircraft_line book k route ∷ aircraft_lines book (k + 1) routes
 
--- a route for each aircraft, of activities of the book
+-- at most as many routes as the book has aircraft, each of activities of the book
 pub record IsPlanFor (book : BookSeen) (plan : List (List ℕ)) : Type 0 where
   pub aircraft : length plan ≤ aircraft book
   pub activities : All (All (λ a. a < activities book)) plan
@@ -39,6 +39,7 @@ routes_of Infeasible = []
 routes_of (Between plan low high nodes) = plan
 routes_of (Above low nodes) = []
 
+-- the first line, and a line for each aircraft
 abbrev pub report_lines : BookSeen → Outcome → List (List ℕ)
 report_lines book outcome = first_line outcome ∷ aircraft_lines book 0 (routes_of outcome)
 

@@ -1,6 +1,7 @@
 -- The reading of the words: the program's name, and the names of two files.
 use Rattle.std.specs.Prelude.{ℕ, List, [], ◌∷◌, Option, Some, None}
 
+-- the names of the two files
 pub record FileNames : Type 0 where
   pub timetable : List ℕ
   pub fleet : List ℕ

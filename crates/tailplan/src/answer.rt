@@ -12,6 +12,8 @@ pub enum Answer {
     Refused(Refusal),
     /// The tables are this book, and this is true of it.
     Solved(Book, Outcome),
+    /// A file could not be read.
     ReadFailed,
+    /// There was no memory to find an answer.
     Memory,
 }

@@ -3,6 +3,9 @@
 //! The activities are assigned one after the other, in rising number. An activity that no aircraft may take next ends
 //! its branch. Since linked activities rise in number, an aircraft's route is its activities in that order, and so
 //! every legal plan is met.
+//!
+//! At most `m` to the power of `n` assignments of `n` activities to `m` aircraft are tried. Nothing is allocated on the
+//! way. The rules are asked anew in each branch: this is the plain program.
 
 ghost use Rattle.std.specs.Prelude.{◌≡◌, ◌<◌, ◌≤◌, ◌+◌, ◌*◌, ◌++◌, [], ◌∷◌, ℕ, List, IsTrue, ◌↔◌, IfOk, IfSome, IfNone, length, take, drop, All, ◌^◌, slice_set, slice_index_or};
 ghost use Rattle.tail_book.specs.Lookup.{activities, aircraft, carry_of};

@@ -9,13 +9,10 @@ mod reading;
 mod report;
 mod run;
 
-use run::{Status, solve_run};
+use run::{NO_MEMORY, Status, solve_run};
 use std::io;
 use std::process::ExitCode;
 use tail_outside::{RealFiles, RealOut};
-
-/// How the program ends where it finds no memory for its words.
-const NO_MEMORY: Status = Status(7);
 
 fn main(rt: HostRuntime) -> ExitCode {
     let status = match planned(rt) {
@@ -27,10 +24,19 @@ fn main(rt: HostRuntime) -> ExitCode {
 
 // A run over the program's words, the real files and standard output.
 fn planned(rt: HostRuntime) -> io::Result<Status> {
-    let words: Vec<String> = std::env::args(&rt)?.collect(rt.alloc())?;
+    let words = words_of(&rt)?;
     let files = RealFiles::new(rt.clone()?);
     let mut out = RealOut::new(rt.clone()?);
     Ok(solve_run(rt.alloc(), &words, files, &mut out).status)
+}
+
+// The program's words. Where one of them is not UTF-8 they name no files, and are refused as no words are.
+fn words_of(rt: &HostRuntime) -> io::Result<Vec<String>> {
+    match std::env::args(rt) {
+        Ok(words) => Ok(words.collect(rt.alloc())?),
+        Err(error) if error.kind() == io::ErrorKind::InvalidData => Ok(Vec::new(rt.alloc())),
+        Err(error) => Err(error),
+    }
 }
 
 #[cfg(test)]

@@ -7,7 +7,8 @@ use std::alloc::Global;
 use tail_book::Memory;
 use tail_outside::{Failed, Files};
 
-/// The most bytes that are read of a table: one more than a table may have.
+/// The most bytes that are read of a table: one more than `SIZE_LIMIT` of `table_records`, so that a table cut here is
+/// still too big.
 pub const READ_LIMIT: usize = 16_777_217;
 
 /// The most bytes that are asked for in one read.
@@ -16,7 +17,9 @@ pub const PIECE: usize = 65_536;
 /// Why a file was not read.
 #[derive(Clone, Copy, PartialEq, Eq, Debug)]
 pub enum ReadFail {
+    /// A read failed.
     Failed,
+    /// There was no memory for the bytes.
     Memory,
 }
 

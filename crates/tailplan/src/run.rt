@@ -23,11 +23,15 @@ use tail_book::{Outcome, laws};
 use tail_outside::{Fault, Files, Sink};
 use tail_text::Stopped;
 
-/// How a run ended.
+/// How a run ended: 0 with a least plan, 1 with no plan that is legal, 2 with words that are refused, 3 with a table
+/// that is refused, 4 at a limit of the search, 5 after a failed read, 6 after a failed write, 7 for want of memory.
 #[derive(Clone, Copy, PartialEq, Eq, Debug)]
 pub struct Status(pub u8);
 
-/// How a run ended, and the files as they stand.
+/// A run that found no memory.
+pub const NO_MEMORY: Status = Status(7);
+
+/// The status of a run, and the files as they stand.
 #[derive(Drop)]
 pub struct Ran<F> {
     pub status: Status,
@@ -164,11 +168,11 @@ fn print<S: Sink>(alloc: Global, answer: &Answer, out: &mut S) -> Status
     ensures beside { S.beside out.old out.new }
 {
     let Ok(lines) = lines_of(alloc, answer) else {
-        return Status(7);
+        return NO_MEMORY;
     };
     match put_lines(&lines, out) {
         Ok(()) => status_of(answer),
         Err(Fault::Failed) => Status(6),
-        Err(Fault::Memory) => Status(7),
+        Err(Fault::Memory) => NO_MEMORY,
     }
 }

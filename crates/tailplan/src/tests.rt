@@ -14,6 +14,18 @@ const THERE: &str = "F1,flight,ARN,OSL,2025-03-03T06:00,2025-03-03T07:00,,,,\n";
 const THERE_AND_BACK: &str = "F1,flight,ARN,OSL,2025-03-03T06:00,2025-03-03T07:00,,,,\n\
 F2,flight,OSL,ARN,2025-03-03T07:30,2025-03-03T08:30,,,,\n";
 
+// Ten flights over Arlanda, with half an hour between each two.
+const TEN_AT_ARLANDA: &str = "F0,flight,ARN,ARN,2025-03-03T06:00,2025-03-03T07:00,,,,\n\
+F1,flight,ARN,ARN,2025-03-03T07:30,2025-03-03T08:30,,,,\n\
+F2,flight,ARN,ARN,2025-03-03T09:00,2025-03-03T10:00,,,,\n\
+F3,flight,ARN,ARN,2025-03-03T10:30,2025-03-03T11:30,,,,\n\
+F4,flight,ARN,ARN,2025-03-03T12:00,2025-03-03T13:00,,,,\n\
+F5,flight,ARN,ARN,2025-03-03T13:30,2025-03-03T14:30,,,,\n\
+F6,flight,ARN,ARN,2025-03-03T15:00,2025-03-03T16:00,,,,\n\
+F7,flight,ARN,ARN,2025-03-03T16:30,2025-03-03T17:30,,,,\n\
+F8,flight,ARN,ARN,2025-03-03T18:00,2025-03-03T19:00,,,,\n\
+F9,flight,ARN,ARN,2025-03-03T19:30,2025-03-03T20:30,,,,\n";
+
 const AT_ARLANDA: &str = "A1,P,ARN,2025-03-03T05:00,0,,,\n";
 
 /// How a run ended, and what it printed.
@@ -76,10 +88,10 @@ fn run_on(alloc: Global, timetable: &[&str], fleet: &[&str]) -> Result<Seen, Fai
     run_over(alloc, text_of(alloc, timetable)?, text_of(alloc, fleet)?)
 }
 
-// A run over two flights and one aircraft, where these calls of the files and of the sink fail.
-fn run_failing(alloc: Global, reads: &[u64], puts: &[u64]) -> Result<Seen, Fail> {
-    let files = MemFiles::new(alloc, tables_of(alloc)?, reads.to_vec(alloc)?)?;
-    let sink = MemSink::new(alloc, puts.to_vec(alloc)?)?;
+// A run over two flights and one aircraft, where this call of the files and this one of the sink fail.
+fn run_failing(alloc: Global, read: u64, put: u64) -> Result<Seen, Fail> {
+    let files = MemFiles::new(alloc, tables_of(alloc)?, vec![in alloc; read]?)?;
+    let sink = MemSink::new(alloc, vec![in alloc; put]?)?;
     seen_of(alloc, &["tailplan", "t", "f"], files, sink)
 }
 
@@ -169,6 +181,40 @@ F2,flight,OSL,LHR,2025-03-03T06:30,2025-03-03T08:30,,,,\n",
             0,
             "optimal 1181\nA1: F1\nA2: F2\n",
         ),
+        // a second flight from where the aircraft is not
+        (
+            "F1,flight,ARN,OSL,2025-03-03T06:00,2025-03-03T07:00,,,,\n\
+F2,flight,ARN,OSL,2025-03-03T08:30,2025-03-03T09:30,,,,\n",
+            AT_ARLANDA,
+            1,
+            "infeasible\n",
+        ),
+        // the cheaper aircraft flies two, since the third leaves while it is away
+        (
+            "F1,flight,ARN,OSL,2025-03-03T06:00,2025-03-03T07:00,,,,\n\
+F2,flight,OSL,ARN,2025-03-03T07:30,2025-03-03T08:30,,,,\n\
+F3,flight,ARN,LHR,2025-03-03T07:30,2025-03-03T08:30,,,,\n",
+            "A1,P,ARN,2025-03-03T05:00,0,,,\nA2,P,ARN,2025-03-03T05:00,10,,,\n",
+            0,
+            "optimal 190\nA1: F1 F2\nA2: F3\n",
+        ),
+        // of three aircraft the cheapest is ready too late, and the dearest goes no further than it has to
+        (
+            "F1,flight,ARN,OSL,2025-03-03T06:00,2025-03-03T07:00,,,,\n\
+F2,flight,OSL,LHR,2025-03-03T07:30,2025-03-03T09:30,,,,\n",
+            "A1,P,ARN,2025-03-03T07:00,0,,,\nA2,P,ARN,2025-03-03T05:00,1000,,,\n\
+A3,P,OSL,2025-03-03T05:00,300,,,\n",
+            0,
+            "optimal 1480\nA1:\nA2: F1\nA3: F2\n",
+        ),
+        // ten flights, each of which any of four aircraft may fly
+        (
+            TEN_AT_ARLANDA,
+            "A1,P,ARN,2025-03-03T05:00,3,,,\nA2,P,ARN,2025-03-03T05:00,2,,,\n\
+A3,P,ARN,2025-03-03T05:00,1,,,\nA4,P,ARN,2025-03-03T05:00,4,,,\n",
+            0,
+            "optimal 610\nA1:\nA2:\nA3: F0 F1 F2 F3 F4 F5 F6 F7 F8 F9\nA4:\n",
+        ),
     ] {
         let seen = run_on(rt.alloc(), &[TIMETABLE, records], &[FLEET, aircraft])?;
         assert_eq!(rt; seen.status, Status(status), "{records}{aircraft}");
@@ -180,7 +226,7 @@ F2,flight,OSL,LHR,2025-03-03T06:30,2025-03-03T08:30,,,,\n",
     Ok(())
 }
 
-// Each refusal that can come, at its place, and of two faults the earlier one.
+// Each refusal of a header and of a record, at its place, and of two faults the earlier one.
 #[test]
 fn refusals_name_their_place(rt: HostRuntime) -> Result<(), Fail> {
     for (records, aircraft, printed) in [
@@ -265,18 +311,31 @@ fn refusals_name_their_place(rt: HostRuntime) -> Result<(), Fail> {
 // A write that fails ends the run with what was printed before it, a read that fails with nothing printed.
 #[test]
 fn faults_end_a_run(rt: HostRuntime) -> Result<(), Fail> {
-    for (reads, puts, status, printed) in [
-        ([0, 0], [2, 2], 6, "optimal 120\n"),
-        ([0, 0], [1, 2], 6, ""),
-        ([1, 1], [0, 0], 5, ""),
-        ([3, 3], [0, 0], 5, ""),
+    for (read, put, status, printed) in [
+        (0, 2, 6, "optimal 120\n"),
+        (0, 1, 6, ""),
+        (1, 0, 5, ""),
+        (3, 0, 5, ""),
     ] {
-        let seen = run_failing(rt.alloc(), &reads, &puts)?;
-        assert_eq!(rt; seen.status, Status(status), "{reads:?} {puts:?}");
+        let seen = run_failing(rt.alloc(), read, put)?;
+        assert_eq!(rt; seen.status, Status(status), "{read} {put}");
         assert!(rt;
             seen.printed.as_slice() == printed.as_bytes(),
-            "{reads:?} {puts:?}"
+            "{read} {put}"
         );
+    }
+    Ok(())
+}
+
+// A file that isn't there can't be read, even where the other table is bad: the fleet is no timetable.
+#[test]
+fn a_missing_file_ends_a_run(rt: HostRuntime) -> Result<(), Fail> {
+    for (timetable, fleet) in [("none", "f"), ("t", "none"), ("f", "none")] {
+        let files = MemFiles::new(rt.alloc(), tables_of(rt.alloc())?, Vec::new(rt.alloc()))?;
+        let sink = MemSink::new(rt.alloc(), Vec::new(rt.alloc()))?;
+        let seen = seen_of(rt.alloc(), &["tailplan", timetable, fleet], files, sink)?;
+        assert_eq!(rt; seen.status, Status(5), "{timetable} {fleet}");
+        assert!(rt; seen.printed.is_empty(), "{timetable} {fleet}");
     }
     Ok(())
 }
@@ -371,13 +430,19 @@ fn a_report_fits_its_room(rt: HostRuntime) -> Result<(), Fail> {
 // A timetable that is written into its room is read from there; one byte less of room drops it.
 #[test]
 fn a_timetable_fits_its_room(rt: HostRuntime) -> Result<(), Fail> {
+    let words = words_of(rt.alloc(), &["tailplan", "t", "f"])?;
     let text = text_of(rt.alloc(), &[TIMETABLE, THERE_AND_BACK])?;
-    for (room, held) in [(text.len(), text.len()), (text.len().saturating_sub(1), 0)] {
+    for (room, status, printed) in [
+        (text.len(), 0, "optimal 120\nA1: F1 F2\n"),
+        (text.len().saturating_sub(1), 3, "refused 3 timetable 1\n"),
+    ] {
         let mut files = SureFiles::new(rt.alloc(), tables_of(rt.alloc())?, room)?;
         assert!(rt; files.begin("t").is_ok());
         assert!(rt; files.append("t", &text).is_ok());
-        let bytes = files.bytes("t").ok_or("no file")?;
-        assert!(rt; bytes == &text[..held], "{room}");
+        let mut sink = SureSink::new(rt.alloc(), 64)?;
+        let ran = solve_run(rt.alloc(), &words, files, &mut sink);
+        assert_eq!(rt; ran.status, Status(status), "{room}");
+        assert!(rt; sink.bytes() == printed.as_bytes(), "{room}");
     }
     Ok(())
 }

@@ -27,7 +27,7 @@ fn in_window(from: i64, to: i64, minute: i64) -> bool
     (from < to && from <= minute && minute < to) || (to < from && (from <= minute || minute < to))
 }
 
-/// Whether a list of types has the type.
+/// Whether a list of types has the type; an empty list means every type.
 pub fn covers_type(types: &[u32], kind: u32) -> bool
     ensures { result ≡ covers_type types.now kind }
 {

@@ -315,6 +315,7 @@ fn turns_to_the_minute(rt: HostRuntime) -> Result<(), Fail> {
         (B, F1, F3, 30, 30, true),
         (A, F1, F3, 30, 40, false),
         (A, F1, F4, 40, 40, false),
+        (A, F1, S2, 581, 40, true),
         (B, F1, F4, 40, 30, true),
         (A, F1, G1, 1, 0, true),
         (B, G1, F3, 9, 0, true),
