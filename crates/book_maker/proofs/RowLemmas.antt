@@ -6,7 +6,8 @@ use Rattle.std.specs.Prelude.{nat_le}
 use Rattle.tail_text.specs.Reading.{refusal_at}
 use Rattle.tail_text.specs.declared.refusal.Refusal.{Refusal}
 use Rattle.table_records.specs.declared.table.TheConstants.{SIZE_LIMIT}
-use Rattle.table_records.specs.Layout.{Layout, is_headed, must, record_of, row_then, rows_from, rows_of, table_of, under}
+use Rattle.tail_text.specs.Checks.{must}
+use Rattle.table_records.specs.Layout.{Layout, is_headed, record_of, row_then, rows_from, rows_of, table_of, under}
 use Rattle.table_records.specs.Records.{records_of}
 
 -- what a check lets through

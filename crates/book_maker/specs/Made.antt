@@ -5,7 +5,7 @@ use Rattle.tail_text.specs.Reading.{refusal_at}
 use Rattle.tail_text.specs.declared.refusal.Refusal.{Refusal}
 use Rattle.tail_text.specs.declared.refusal.Table.{Table}
 use Rattle.tail_text.specs.declared.refusal.Table.TheVariants.{Fleet, Timetable}
-use Rattle.table_records.specs.Layout.{look}
+use Rattle.tail_text.specs.Checks.{look}
 use Rattle.timetable_reader.specs.Activity.{RawActivitySeen}
 use Rattle.timetable_reader.specs.Timetable.{timetable_of}
 use Rattle.fleet_rules.specs.Fleet.{fleet_of}

@@ -5,7 +5,7 @@ use Rattle.std.proofs.lemmas.Bool.Decides.{nat_tests}
 use Rattle.std.proofs.lemmas.List.{append-nil, drop_more, drop_all, length_push, take_all, take-append-le}
 use Rattle.std.proofs.lemmas.List.Elements.{All-nil, All-push}
 use Rattle.std.specs.Prelude.{All}
-use Rattle.table_records.specs.Layout.{look}
+use Rattle.tail_text.specs.Checks.{look}
 use Rattle.fleet_rules.specs.declared.carry.TheConstants.{CARRY_LIMIT}
 use Rattle.fleet_rules.specs.declared.tail.RawCarry.{RawCarry}
 use Rattle.fleet_rules.specs.Carry.{carry_among, item_in, items_in}

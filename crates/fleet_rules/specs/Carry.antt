@@ -2,9 +2,10 @@
 use Rattle.std.specs.Prelude.{ℕ, ◌+◌, List, [], ◌∷◌, length, take, drop, ◌==◌, nat_le, if◌then◌else◌, position, Option, Result, Ok, pos}
 use Rattle.std.specs.Option.{ok_or}
 use Rattle.tail_text.specs.Number.{number_of}
-use Rattle.table_records.specs.Layout.{look, must}
+use Rattle.tail_text.specs.Checks.{look, must}
 use Rattle.table_records.specs.NameLists.{words_of}
-use Rattle.table_records.specs.Values.{name_in, or_code}
+use Rattle.tail_text.specs.Checks.{or_code}
+use Rattle.table_records.specs.Values.{name_in}
 use Rattle.fleet_rules.specs.declared.carry.TheConstants.{CARRY_LIMIT}
 use Rattle.fleet_rules.specs.declared.tail.RawCarry.{RawCarry}
 

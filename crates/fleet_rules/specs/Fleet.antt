@@ -1,9 +1,10 @@
 -- The fleet: its layout, and what a record of it says or why it is refused.
-use Rattle.std.specs.Prelude.{ℕ, Bool, ◌&&◌, List, [], ◌∷◌, length, ◌==◌, codes, Result, Ok}
+use Rattle.std.specs.Prelude.{ℕ, List, [], ◌∷◌, codes, Result, Ok}
 use Rattle.tail_text.specs.declared.refusal.Refusal.{Refusal}
 use Rattle.tail_text.specs.declared.refusal.Table.TheVariants.{Fleet}
 use Rattle.table_records.specs.Fields.{field_at}
-use Rattle.table_records.specs.Layout.{Layout, look, must, table_of}
+use Rattle.tail_text.specs.Checks.{look}
+use Rattle.table_records.specs.Layout.{Layout, table_of}
 use Rattle.table_records.specs.NameLists.{names_of}
 use Rattle.table_records.specs.Values.{name_in, stamp_in}
 use Rattle.fleet_rules.specs.Carry.{carry_in, number_in}
@@ -32,14 +33,6 @@ tail_of fields =
       carry = carry;
     })))))))))
 
--- what is built so far: an aircraft with no tags, no avoided airports and no carry values
-abbrev pub is_built : RawTailSeen → Bool
-is_built t = length t.tags == 0 && (length t.avoid == 0 && length t.carry == 0)
-
--- the aircraft, where it is one of those that are built
-abbrev pub built_of : RawTailSeen → Result RawTailSeen ℕ
-built_of t = must (is_built t) 17 (Ok t)
-
 -- the header, the most records under it, and what each says
 abbrev pub fleet : Layout RawTailSeen
 fleet = record {
@@ -47,7 +40,7 @@ fleet = record {
   header = codes "tail" ∷ codes "type" ∷ codes "at" ∷ codes "ready" ∷ codes "fixed"
       ∷ codes "tags" ∷ codes "avoid" ∷ codes "carry" ∷ [];
   limit = TAIL_LIMIT;
-  row_of = λ fields. look (tail_of fields) built_of;
+  row_of = tail_of;
 }
 
 -- the records of a fleet, or its first refusal

@@ -1,4 +1,6 @@
 pub mod Carry
 pub mod Fleet
+pub mod RawRules
+pub mod RawRulesParts
 pub mod Tail
 pub mod TailParts

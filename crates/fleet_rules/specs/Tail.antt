@@ -34,6 +34,6 @@ pub record IsRawTail (t : RawTailSeen) : Type 0 where
   pub at : is_name t.at ≡ true
   pub ready : IsMoment t.ready
   pub fixed : t.fixed ≤ 100_000
-  pub tags : AreNames t.tags
-  pub avoid : AreNames t.avoid
+  pub tags : AreNames 20 t.tags
+  pub avoid : AreNames 20 t.avoid
   pub carry : AreCarried t.carry

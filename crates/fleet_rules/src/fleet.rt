@@ -3,7 +3,7 @@
 ghost use Rattle.std.specs.Prelude.{◌≡◌};
 ghost use Rattle.tail_text.specs.Reading.{Answers};
 ghost use Rattle.table_records.specs.NoRow.{Judges};
-ghost use Rattle.fleet_rules.specs.Fleet.{fleet, fleet_of, is_built, tail_of};
+ghost use Rattle.fleet_rules.specs.Fleet.{fleet, fleet_of, tail_of};
 
 use crate::RawTail;
 use crate::carry::{carry_in, number_in};
@@ -12,8 +12,7 @@ use table_records::{Fields, NoRow, Row, name_in, names, read_table, stamp_in};
 use tail_text::{Stopped, Table};
 
 /// The most records under the header.
-// Small for as long as every legal plan is looked at.
-pub const TAIL_LIMIT: usize = 4;
+pub const TAIL_LIMIT: usize = 200;
 
 /// The records of a fleet in its order, or its first refusal.
 pub fn read_fleet(alloc: Global, bytes: &[u8]) -> Result<Vec<RawTail>, Stopped>
@@ -44,11 +43,7 @@ impl Row for RawTail {
     }
 
     fn row_of(alloc: Global, fields: &Fields) -> Result<RawTail, NoRow> {
-        let tail = tail_of(alloc, fields)?;
-        if !is_built(&tail) {
-            return Err(NoRow::Code(17));
-        }
-        Ok(tail)
+        tail_of(alloc, fields)
     }
 }
 
@@ -73,10 +68,4 @@ fn tail_of(alloc: Global, fields: &Fields) -> Result<RawTail, NoRow>
         avoid,
         carry,
     })
-}
-
-fn is_built(tail: &RawTail) -> bool
-    ensures { result ≡ is_built tail.now }
-{
-    tail.tags.is_empty() && tail.avoid.is_empty() && tail.carry.is_empty()
 }

@@ -3,10 +3,12 @@
 
 mod carry;
 mod fleet;
+mod raw_rules;
 mod tail;
 
 pub use carry::CARRY_LIMIT;
 pub use fleet::{TAIL_LIMIT, read_fleet};
+pub use raw_rules::{RawCounter, RawCurfew, RawRules};
 pub use tail::{RawCarry, RawTail};
 
 #[cfg(test)]

@@ -11,7 +11,7 @@ use Rattle.tail_text.specs.NameText.{name_of}
 use Rattle.tail_text.specs.declared.bad.Bad.{Bad}
 use Rattle.table_records.specs.declared.name_lists.TheConstants.{NAME_LIMIT}
 use Rattle.table_records.specs.NameLists.{AreNames, names_among}
-use Rattle.table_records.specs.Layout.{must}
+use Rattle.tail_text.specs.Checks.{must}
 use Rattle.table_records.proofs.RowLemmas.{must-passes}
 
 named : (test : Bool) (text name : List ℕ) → is_name text ≡ test → Ok name ≡ name_of text → (name ≡ text) × (is_name text ≡ true)
@@ -126,7 +126,7 @@ module _ (words : List (List ℕ)) (names : List (List ℕ)) where
       rw (all, within, same) refl
 
 -- what names_among lets through is in the grammar
-pub names_among-good : (words names : List (List ℕ)) → names_among words ≡ Ok names → AreNames names
+pub names_among-good : (words names : List (List ℕ)) → names_among words ≡ Ok names → AreNames NAME_LIMIT names
 names_among-good words names e =
     let passed = must-passes (list_all is_name words) 5 (must (nat_le (length words) NAME_LIMIT) 10 (Ok words)) names e in
     let fits = must-passes (nat_le (length words) NAME_LIMIT) 10 (Ok words) names passed.1 in

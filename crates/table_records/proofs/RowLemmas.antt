@@ -6,7 +6,8 @@ use Rattle.std.proofs.lemmas.List.{append-nil}
 use Rattle.tail_text.specs.Reading.{refusal_at}
 use Rattle.tail_text.specs.declared.refusal.Refusal.{Refusal}
 use Rattle.tail_text.specs.declared.refusal.Table.{Table}
-use Rattle.table_records.specs.Layout.{Layout, must, record_of, row_then, rows_from}
+use Rattle.tail_text.specs.Checks.{must}
+use Rattle.table_records.specs.Layout.{Layout, record_of, row_then, rows_from}
 
 -- rows before those of a result
 abbrev pub joined : {A : Type 0} → List A → Result (List A) Refusal → Result (List A) Refusal

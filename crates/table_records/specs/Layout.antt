@@ -1,6 +1,7 @@
 -- How a table is read, up to its first refusal: its size, its bytes, its header, and its records one by one.
-use Rattle.std.specs.Prelude.{ℕ, ◌+◌, ◌-◌, Bool, true, false, List, [], ◌∷◌, length, ◌==◌, nat_le, nat_lt, Result, Ok, Err}
+use Rattle.std.specs.Prelude.{ℕ, ◌+◌, ◌-◌, Bool, false, List, [], ◌∷◌, length, ◌==◌, nat_le, nat_lt, Result, Ok, Err}
 use Rattle.std.specs.Str.{is_utf8}
+use Rattle.tail_text.specs.Checks.{must}
 use Rattle.tail_text.specs.Reading.{refusal_at}
 use Rattle.tail_text.specs.declared.refusal.Refusal.{Refusal}
 use Rattle.tail_text.specs.declared.refusal.Table.{Table}
@@ -15,16 +16,6 @@ pub record Layout (A : Type 0) : Type 0 where
   pub header : List (List ℕ)
   pub limit : ℕ
   pub row_of : List (List ℕ) → Result A ℕ
-
--- a check: where it fails, this is why, and what follows is not looked at
-abbrev pub must : {A E : Type 0} → Bool → E → Result A E → Result A E
-must true why next = next
-must false why next = Err why
-
--- a look at a value: where it gives none, this is why, and what follows is not looked at
-abbrev pub look : {A B E : Type 0} → Result A E → (A → Result B E) → Result B E
-look (Ok a) next = next a
-look (Err why) next = Err why
 
 -- the first record is the header, field for field
 abbrev pub is_headed : List (List ℕ) → List (List (List ℕ)) → Bool

@@ -3,7 +3,7 @@ use Rattle.std.specs.Prelude.{ℕ, List, [], length, ◌==◌, ◌≤◌, nat_le
 use Rattle.std.specs.List.{AllPass, list_all, slice_split}
 use Rattle.tail_book.specs.Name.{is_name}
 use Rattle.table_records.specs.declared.name_lists.TheConstants.{NAME_LIMIT}
-use Rattle.table_records.specs.Layout.{must}
+use Rattle.tail_text.specs.Checks.{must}
 
 -- the parts of a field between its spaces, one more than it has spaces
 abbrev pub words_of : List ℕ → List (List ℕ)
@@ -20,7 +20,7 @@ names_among words =
 abbrev pub names_of : List ℕ → Result (List (List ℕ)) ℕ
 names_of field = if length field == 0 then Ok [] else names_among (words_of field)
 
--- names in their grammar, and no more than one field may list
-pub record AreNames (names : List (List ℕ)) : Type 0 where
+-- names in their grammar, and no more than so many
+pub record AreNames (limit : ℕ) (names : List (List ℕ)) : Type 0 where
   pub grammar : AllPass is_name names
-  pub few : length names ≤ NAME_LIMIT
+  pub few : length names ≤ limit

@@ -1,14 +1,8 @@
 -- Fields that several tables have.
-use Rattle.std.specs.Prelude.{ℕ, List, length, ◌==◌, if◌then◌else◌, Option, Some, None, Result, Ok, Err, ℤ}
+use Rattle.std.specs.Prelude.{ℕ, List, length, ◌==◌, if◌then◌else◌, Option, Some, None, Result, Ok, ℤ}
+use Rattle.tail_text.specs.Checks.{look, or_code}
 use Rattle.tail_text.specs.NameText.{name_of}
 use Rattle.tail_text.specs.Stamp.{stamp_of}
-use Rattle.tail_text.specs.declared.bad.Bad.{Bad}
-use Rattle.table_records.specs.Layout.{look}
-
--- what a text gives, or the code of a text that is not in its grammar
-abbrev pub or_code : {A : Type 0} → ℕ → Result A Bad → Result A ℕ
-or_code code (Ok value) = Ok value
-or_code code (Err why) = Err code
 
 -- a name, or else code 5
 abbrev pub name_in : List ℕ → Result (List ℕ) ℕ

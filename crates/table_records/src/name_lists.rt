@@ -3,6 +3,7 @@
 ghost use Rattle.std.specs.Prelude.{IfOk};
 ghost use Rattle.table_records.specs.NameLists.{AreNames, names_among, names_of, words_of};
 ghost use Rattle.table_records.specs.NoRow.{Judges};
+ghost use Rattle.table_records.specs.declared.name_lists.TheConstants.{NAME_LIMIT};
 
 use crate::NoRow;
 use std::alloc::Global;
@@ -16,7 +17,7 @@ pub const NAME_LIMIT: usize = 20;
 /// are good and more than 20.
 pub fn names(alloc: Global, field: &[u8]) -> Result<Vec<Name>, NoRow>
     ensures value { Judges (λ names. names.items) (names_of field.now) result }
-    ensures grammar { IfOk result (λ names. AreNames names.items) }
+    ensures grammar { IfOk result (λ names. AreNames NAME_LIMIT names.items) }
 {
     if field.is_empty() {
         return Ok(Vec::new(alloc));
@@ -27,7 +28,7 @@ pub fn names(alloc: Global, field: &[u8]) -> Result<Vec<Name>, NoRow>
 // The words of a field as names. A name too many is kept back, since a bad one may follow it.
 fn names_among(alloc: Global, field: &[u8]) -> Result<Vec<Name>, NoRow>
     ensures value { Judges (λ names. names.items) (names_among (words_of field.now)) result }
-    ensures grammar { IfOk result (λ names. AreNames names.items) }
+    ensures grammar { IfOk result (λ names. AreNames NAME_LIMIT names.items) }
 {
     let mut names = Vec::new(alloc);
     let mut too_many = false;

@@ -59,3 +59,12 @@ pub record BookSeen : Type 0 where
   pub activities : List ActivitySeen
   pub tails : List TailSeen
   pub rules : RulesSeen
+
+-- a line of a plan that names its aircraft and activities
+pub record RawLineSeen : Type 0 where
+  pub tail : List ℕ
+  pub ids : List (List ℕ)
+
+-- such a plan
+pub record RawPlanSeen : Type 0 where
+  pub lines : List RawLineSeen

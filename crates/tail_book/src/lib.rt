@@ -10,6 +10,7 @@ mod name;
 mod outcome;
 mod place;
 mod plan;
+mod raw_plan;
 mod rules;
 
 pub use activity::Activity;
@@ -20,4 +21,5 @@ pub use name::Name;
 pub use outcome::Outcome;
 pub use place::Place;
 pub use plan::{Plan, Route};
+pub use raw_plan::{RawLine, RawPlan};
 pub use rules::{AircraftType, Airport, Band, Counter, CounterKind, Curfew, Rules};

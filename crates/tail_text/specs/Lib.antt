@@ -1,4 +1,5 @@
 pub mod Bad
+pub mod Checks
 pub mod Clock
 pub mod NameText
 pub mod Number

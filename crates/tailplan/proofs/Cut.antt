@@ -5,7 +5,8 @@ use Rattle.std.proofs.lemmas.List.{take_all}
 use Rattle.std.specs.Prelude.{nat_le, Option, None, Some, IfSome, Result}
 use Rattle.book_maker.specs.Made.{book_of, made_of}
 use Rattle.fleet_rules.specs.Fleet.{fleet as fleet_layout}
-use Rattle.table_records.specs.Layout.{Layout, look, table_of}
+use Rattle.tail_text.specs.Checks.{look}
+use Rattle.table_records.specs.Layout.{Layout, table_of}
 use Rattle.table_records.specs.declared.table.TheConstants.{SIZE_LIMIT}
 use Rattle.timetable_reader.specs.Timetable.{timetable as timetable_layout}
 use Rattle.tailplan.specs.Answers.{IsAnswerTo, IsTrueAnswer}

@@ -27,9 +27,9 @@ pub record IsRawActivity (a : RawActivitySeen) : Type 0 where
   pub end : IsMoment a.end
   pub least : (a.start +ℤ pos 1) ≤ℤ a.end
   pub most : a.end ≤ℤ (a.start +ℤ pos 2880)
-  pub types : AreNames a.types
-  pub tags : AreNames a.tags
+  pub types : AreNames 20 a.types
+  pub tags : AreNames 20 a.tags
   pub tail : IfSome a.tail (λ name. is_name name ≡ true)
-  pub resets : AreNames a.resets
+  pub resets : AreNames 20 a.resets
   pub ground : a.flight ≡ false → a.from ≡ a.to
   pub in_flight : a.flight ≡ true → a.resets ≡ []

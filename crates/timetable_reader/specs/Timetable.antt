@@ -1,11 +1,12 @@
 -- The timetable: its layout, and what a record of it says or why it is refused.
-use Rattle.std.specs.Prelude.{ℕ, Bool, true, false, ◌&&◌, List, [], ◌∷◌, length, ◌==◌, is_none, if◌then◌else◌, codes, Result, Ok, Err, ℤ, pos, ◌-ℤ◌}
+use Rattle.std.specs.Prelude.{ℕ, Bool, true, false, ◌&&◌, List, [], ◌∷◌, length, ◌==◌, if◌then◌else◌, codes, Result, Ok, Err, ℤ, pos, ◌-ℤ◌}
 use Rattle.std.specs.Int.RustNames.{int_le}
 use Rattle.std.specs.Str.{bytes_eq}
 use Rattle.tail_text.specs.declared.refusal.Refusal.{Refusal}
 use Rattle.tail_text.specs.declared.refusal.Table.TheVariants.{Timetable}
 use Rattle.table_records.specs.Fields.{field_at}
-use Rattle.table_records.specs.Layout.{Layout, look, must, table_of}
+use Rattle.tail_text.specs.Checks.{look, must}
+use Rattle.table_records.specs.Layout.{Layout, table_of}
 use Rattle.table_records.specs.NameLists.{names_of}
 use Rattle.table_records.specs.Values.{name_in, optional_name_in, stamp_in}
 use Rattle.timetable_reader.specs.Activity.{RawActivitySeen}
@@ -58,14 +59,6 @@ activity_of fields =
       resets = resets;
     }))))))))))))
 
--- what is built so far: a flight with no types, tags, tail and resets
-abbrev pub is_built : RawActivitySeen → Bool
-is_built a = a.flight && (length a.types == 0 && (length a.tags == 0 && (is_none a.tail && length a.resets == 0)))
-
--- the activity, where it is one of those that are built
-abbrev pub built_of : RawActivitySeen → Result RawActivitySeen ℕ
-built_of a = must (is_built a) 17 (Ok a)
-
 -- the header, the most records under it, and what each says
 abbrev pub timetable : Layout RawActivitySeen
 timetable = record {
@@ -73,7 +66,7 @@ timetable = record {
   header = codes "id" ∷ codes "kind" ∷ codes "from" ∷ codes "to" ∷ codes "start" ∷ codes "end"
       ∷ codes "types" ∷ codes "tags" ∷ codes "tail" ∷ codes "resets" ∷ [];
   limit = ACTIVITY_LIMIT;
-  row_of = λ fields. look (activity_of fields) built_of;
+  row_of = activity_of;
 }
 
 -- the records of a timetable, or its first refusal

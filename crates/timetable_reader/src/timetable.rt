@@ -4,7 +4,7 @@ ghost use Rattle.std.specs.Prelude.{◌≡◌, ◌+ℤ◌, ◌≤ℤ◌, pos, If
 ghost use Rattle.tail_book.specs.Sound.{IsMoment};
 ghost use Rattle.tail_text.specs.Reading.{Answers};
 ghost use Rattle.table_records.specs.NoRow.{Judges};
-ghost use Rattle.timetable_reader.specs.Timetable.{activity_of, end_of, is_built, is_span, is_whole, kind_of, timetable, timetable_of};
+ghost use Rattle.timetable_reader.specs.Timetable.{activity_of, end_of, is_span, is_whole, kind_of, timetable, timetable_of};
 
 use crate::RawActivity;
 use std::alloc::Global;
@@ -13,8 +13,7 @@ use tail_book::Name;
 use tail_text::{Stopped, Table};
 
 /// The most records under the header.
-// Small for as long as every legal plan is looked at.
-pub const ACTIVITY_LIMIT: usize = 10;
+pub const ACTIVITY_LIMIT: usize = 4000;
 
 /// The records of a timetable in its order, or its first refusal.
 pub fn read_timetable(alloc: Global, bytes: &[u8]) -> Result<Vec<RawActivity>, Stopped>
@@ -45,11 +44,7 @@ impl Row for RawActivity {
     }
 
     fn row_of(alloc: Global, fields: &Fields) -> Result<RawActivity, NoRow> {
-        let activity = activity_of(alloc, fields)?;
-        if !is_built(&activity) {
-            return Err(NoRow::Code(17));
-        }
-        Ok(activity)
+        activity_of(alloc, fields)
     }
 }
 
@@ -126,14 +121,4 @@ fn is_whole(flight: bool, from: &Name, to: &Name, resets: &[Name]) -> bool
     } else {
         from == to
     }
-}
-
-fn is_built(activity: &RawActivity) -> bool
-    ensures { result ≡ is_built activity.now }
-{
-    activity.flight
-        && activity.types.is_empty()
-        && activity.tags.is_empty()
-        && activity.tail.is_none()
-        && activity.resets.is_empty()
 }

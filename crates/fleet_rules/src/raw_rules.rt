@@ -1,0 +1,74 @@
+//! The rules as their table says them, with their names not looked up yet.
+
+use std::marker::Model;
+use tail_book::{AircraftType, Airport, Band, CounterKind, Name};
+
+/// Hours in which an airport is closed, in local minutes of the day, 0 to 1439. See `tail_book::Curfew`.
+/// Contracts see the record of its fields, and that they are good by themselves.
+#[derive(Debug, Drop)]
+pub struct RawCurfew {
+    pub airport: Name,
+    pub from: i64,
+    pub to: i64,
+    pub types: Vec<Name>,
+    pub starts: bool,
+    pub landings: bool,
+}
+
+impl Model for RawCurfew {
+    ghost use Rattle.fleet_rules.specs.RawRules.{RawCurfewSeen, IsRawCurfew};
+
+    ghost Value = { RawCurfewSeen };
+
+    ghost use Rattle.fleet_rules.specs.RawRulesParts.{curfew_seen};
+
+    ghost view = { curfew_seen };
+
+    ghost invariant = { λ c. IsRawCurfew (curfew_seen c) };
+}
+
+/// A cumulative maintenance limit; that of a days counter in minutes. See `tail_book::Counter`.
+/// Contracts see the record of its fields, and that they are good by themselves.
+#[derive(Debug, Drop)]
+pub struct RawCounter {
+    pub name: Name,
+    pub kind: CounterKind,
+    pub limit: i64,
+    pub bases: Vec<Name>,
+    pub stop: i64,
+}
+
+impl Model for RawCounter {
+    ghost use Rattle.fleet_rules.specs.RawRules.{RawCounterSeen, IsRawCounter};
+
+    ghost Value = { RawCounterSeen };
+
+    ghost use Rattle.fleet_rules.specs.RawRulesParts.{counter_seen};
+
+    ghost view = { counter_seen };
+
+    ghost invariant = { λ c. IsRawCounter (counter_seen c) };
+}
+
+/// All rules, each kind in the order of its entries.
+/// Contracts see the record of their lists, and that they keep their limits.
+#[derive(Debug, Drop)]
+pub struct RawRules {
+    pub kinds: Vec<AircraftType>,
+    pub airports: Vec<Airport>,
+    pub curfews: Vec<RawCurfew>,
+    pub counters: Vec<RawCounter>,
+    pub bands: Vec<Band>,
+}
+
+impl Model for RawRules {
+    ghost use Rattle.fleet_rules.specs.RawRules.{RawRulesSeen, AreRawRules};
+
+    ghost Value = { RawRulesSeen };
+
+    ghost use Rattle.fleet_rules.specs.RawRulesParts.{rules_seen};
+
+    ghost view = { rules_seen };
+
+    ghost invariant = { λ r. AreRawRules (rules_seen r) };
+}

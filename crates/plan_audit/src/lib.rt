@@ -1,0 +1,6 @@
+//! The audit of a plan: which rules it breaks, and what a legal one costs.
+#![tactic(auto)]
+
+mod broken;
+
+pub use broken::{Audit, Broken};
