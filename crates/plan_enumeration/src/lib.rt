@@ -1,0 +1,7 @@
+//! The least plan of a book, by plain enumeration of who flies what.
+#![tactic(auto)]
+
+mod cost;
+mod enumerate;
+
+pub use enumerate::least_plan;
