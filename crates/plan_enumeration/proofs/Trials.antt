@@ -1,5 +1,5 @@
 -- The steps of the enumeration: going on with one activity, coming back, and what is tried then.
-use Rattle.std.proofs.Common.{◌≡◌, ◌≢◌, ◌∙◌, ℕ, ℤ, pos, ◌+◌, ◌*◌, ◌<◌, ◌≤◌, ◌⊎◌, inl, inr, arith, List, [], ◌∷◌, ◌++◌, length, get_or, take, drop, refl, sym, ap, ap₂, subst, append_assoc, add-one, length-append, length-take-le}
+use Rattle.std.proofs.Common.{◌≡◌, ◌≢◌, ◌∙◌, ℕ, ℤ, pos, ◌+◌, ◌*◌, ◌<◌, ◌≤◌, ◌⊎◌, inl, inr, arith, List, [], ◌∷◌, ◌++◌, length, get_or, take, drop, true, refl, sym, ap, ap₂, subst, append_assoc, add-one, length-append, length-take-le}
 use Rattle.std.proofs.lemmas.Int.{ints}
 use Rattle.std.proofs.lemmas.Bool.{eqb-true, eq-eqb, both_ways, cases_Bool}
 use Rattle.std.proofs.lemmas.List.{append-nil, get_or-set_same, get_or-set_other, take-take, length-set, set-get_or, set-set}
@@ -19,7 +19,7 @@ use Rattle.plan_enumeration.specs.declared.enumerate.Trial.{Trial}
 use Rattle.plan_enumeration.specs.declared.enumerate.Best.{Best}
 use Rattle.plan_enumeration.specs.declared.enumerate.Advance.{Advance}
 use Rattle.tail_book.specs.Cost.{activity_cost, connection_cost}
-use Rattle.plan_enumeration.specs.Assignment.{flown_from, flown_by, assignment_cost}
+use Rattle.plan_enumeration.specs.Assignment.{flown_from, flown_by, IsLegalAssignment, assignment_cost}
 use Rattle.plan_enumeration.specs.Enumeration.{Advances, AgreesBelow, GoesOn, HasRow, HasTried, IsCount, IsNoBetter, IsPlaceBefore, IsTrial, end_of_route, row_of, values_after, values_at, width_of, with_row}
 use Rattle.turn_rules.specs.InRange.{IsPlaceOf}
 use Rattle.plan_enumeration.proofs.Extended.{completed, cost_more, counters_push, flown_by-other, flown_by-same, legal_more, place_push}
@@ -289,3 +289,21 @@ going_costs book a k old new advance cost lt adv same =
 pub tried_from : (book : BookSeen) (a : ℕ) (trial : Trial) (best : Best) → IsTrial book a trial → a < activities book
     → ((k : ℕ) → k < aircraft book → HasTried book best (take a trial.fliers.items ++ k ∷ [])) → HasTried book best (take a trial.fliers.items)
 tried_from book a trial best h lt each = tried_each book best (take a trial.fliers.items) (let n = assigned book a trial h (omega arith) in omega (arith, n, lt)) each
+
+-- going on costs no less
+costs_no_less : (book : BookSeen) (rest who : List ℕ) → IsLegalAssignment book (who ++ rest) → assignment_cost book who ≤ assignment_cost book (who ++ rest)
+costs_no_less book [] who legal = rw append-nil (omega arith)
+costs_no_less book (k ∷ rest) who legal =
+    let same : (who ++ k ∷ []) ++ rest ≡ who ++ k ∷ rest = append_assoc who (k ∷ []) rest in
+    let here : length who < length (who ++ k ∷ rest) = omega (arith, length-append {A = ℕ} who (k ∷ rest)) in
+    let lt : k < aircraft book = rw (get_or-append_seam who k rest 0) at (legal.legal.fliers (length who) 0 here) in
+    let more = cost_more book who k lt in
+    let later = costs_no_less book rest (who ++ k ∷ []) (subst (IsLegalAssignment book) (sym same) legal) in
+    let end : assignment_cost book ((who ++ k ∷ []) ++ rest) ≡ assignment_cost book (who ++ k ∷ rest) = ap (assignment_cost book) same in
+    omega (arith, more, later, end)
+
+-- nothing that begins with what already costs as much as the best is better
+pub tried_dear : (book : BookSeen) (best : Best) (who : List ℕ) (cost : ℕ) → cost ≡ assignment_cost book who → best.found ≡ true → best.cost ≤ cost → HasTried book best who
+tried_dear book best who cost same found dear rest legal =
+    let less = costs_no_less book rest who legal in
+    (found, omega (arith, same, dear, less))

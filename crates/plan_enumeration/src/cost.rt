@@ -1,59 +1,23 @@
-//! What activities and connections cost.
+//! What activities and connections cost by the book's own table.
 
-ghost use Rattle.std.specs.Prelude.{◌≡◌, ◌<◌, ◌≤◌};
+ghost use Rattle.std.specs.Prelude.{◌≡◌, ◌<◌, ◌≤◌, ◌+◌};
 ghost use Rattle.tail_book.specs.Lookup.{activities, aircraft};
 ghost use Rattle.tail_book.specs.Cost.{activity_cost, band_cost, connection_cost};
+ghost use Rattle.tail_book.specs.CostTable.{IsTableFor, activity_cost_in, connection_cost_in, costs_of};
 ghost use Rattle.turn_rules.specs.InRange.{IsPlaceOf};
 
-use maint_counters::flown;
-use tail_book::{Band, Book, Place, laws};
+use tail_book::{Band, Book, CostTable, Place, laws};
 use turn_rules::gap;
 
-/// What activity `a` costs aircraft `k`: the type's rate for each minute flown, and the fixed amount.
-pub fn activity_cost(book: &Book, k: u32, a: u32) -> u64
+// What an activity costs an aircraft by a table.
+fn flying_cost(book: &Book, costs: &CostTable, k: u32, a: u32) -> u64
+    requires table { IsTableFor book.now costs.now }
     requires aircraft { k < aircraft book.now }
     requires activity { a < activities book.now }
-    ensures value { result ≡ activity_cost book.now k a }
-    ensures most { result ≤ 964_000 }
+    ensures value { result ≡ activity_cost_in costs.now k a }
+    ensures most { result ≤ costs.now.fly_max }
 {
-    laws::every_book_is_sound(book);
-    laws::activities_cost_at_most();
-    flying_cost(book, k, a)
-}
-
-fn flying_cost(book: &Book, k: u32, a: u32) -> u64
-    requires aircraft { k < aircraft book.now }
-    requires activity { a < activities book.now }
-    ensures { result ≡ activity_cost book.now k a }
-{
-    let tail = &book.tails[k as usize];
-    let kind = &book.rules.kinds[tail.kind as usize];
-    kind.rate * flown(book, a).unsigned_abs() + tail.fixed
-}
-
-/// What the connection to activity `b` from a place costs aircraft `k`: what the bands say of the minutes on the ground.
-pub fn connection_cost(book: &Book, k: u32, from: Place, b: u32) -> u64
-    requires aircraft { k < aircraft book.now }
-    requires place { IsPlaceOf book.now from }
-    requires activity { b < activities book.now }
-    ensures value { result ≡ connection_cost book.now k from b }
-    ensures most { result ≤ 1_000_000 }
-{
-    laws::every_book_is_sound(book);
-    laws::connections_cost_at_most();
-    waiting_cost(book, k, from, b)
-}
-
-fn waiting_cost(book: &Book, k: u32, from: Place, b: u32) -> u64
-    requires aircraft { k < aircraft book.now }
-    requires place { IsPlaceOf book.now from }
-    requires activity { b < activities book.now }
-    ensures { result ≡ connection_cost book.now k from b }
-{
-    match from {
-        Place::Carry => 0,
-        Place::After(_) => band_cost(&book.rules.bands, gap(book, k, from, b)),
-    }
+    costs.fly[k as usize * costs.n + a as usize]
 }
 
 // The cost of the first band that reaches so many minutes.
@@ -66,4 +30,35 @@ fn band_cost(bands: &[Band], minutes: i64) -> u64
         }
     }
     0
+}
+
+// What a connection costs by a table.
+fn waiting_cost(book: &Book, costs: &CostTable, k: u32, from: Place, b: u32) -> u64
+    requires aircraft { k < aircraft book.now }
+    requires place { IsPlaceOf book.now from }
+    requires activity { b < activities book.now }
+    ensures { result ≡ connection_cost_in costs.now book.now k from b }
+{
+    match from {
+        Place::Carry => 0,
+        Place::After(_) => band_cost(&costs.bands, gap(book, k, from, b)),
+    }
+}
+
+/// What it costs aircraft `k` to go on from a place with activity `a`, by the book's own costs: the activity, and the
+/// connection to it.
+pub fn going_cost(book: &Book, costs: &CostTable, k: u32, from: Place, a: u32) -> u64
+    requires own { costs.now ≡ costs_of book.now }
+    requires aircraft { k < aircraft book.now }
+    requires place { IsPlaceOf book.now from }
+    requires activity { a < activities book.now }
+    ensures value { result ≡ activity_cost book.now k a + connection_cost book.now k from a }
+    ensures most { result ≤ 2_000_000 }
+{
+    laws::every_book_is_sound(book);
+    laws::connections_cost_at_most();
+    laws::own_costs_are_for_book();
+    laws::own_costs_of_activities();
+    laws::own_costs_of_connections();
+    flying_cost(book, costs, k, a) + waiting_cost(book, costs, k, from, a)
 }

@@ -4,8 +4,9 @@
 //! its branch. Since linked activities rise in number, an aircraft's route is its activities in that order, and so
 //! every legal plan is met.
 //!
+//! A branch that already costs what the best assignment so far costs is cut, since no cost is below 0.
 //! At most `m` to the power of `n` assignments of `n` activities to `m` aircraft are tried. Nothing is allocated on the
-//! way. The rules are asked anew in each branch: this is the plain program.
+//! way. Costs and permissions come from tables that are made once; turns and counters are judged in each branch.
 
 ghost use Rattle.std.specs.Prelude.{◌≡◌, ◌<◌, ◌≤◌, ◌+◌, ◌*◌, ◌++◌, [], ◌∷◌, ℕ, List, IsTrue, ◌↔◌, IfOk, IfSome, IfNone, length, take, drop, All, ◌^◌, slice_set, slice_index_or};
 ghost use Rattle.tail_book.specs.Lookup.{activities, aircraft, carry_of};
@@ -14,14 +15,16 @@ ghost use Rattle.plan_enumeration.specs.Assignment.{IsLegalAssignment, assignmen
 ghost use Rattle.tail_book.specs.Truth.{IsTrueOutcome};
 ghost use Rattle.plan_enumeration.specs.Enumeration.{Advances, AgreesBelow, HasRow, GoesOn, HasTried, IsBest, IsCount, IsNoBetter, IsTrial, KeepsBest, IsPlaceBefore, IsRowBefore, next_cost, row_of, values_at, width_of, with_row};
 ghost use Rattle.plan_enumeration.specs.Decided.{IsDecided};
+ghost use Rattle.plan_enumeration.specs.Tables.{AreTablesOf};
 ghost use Rattle.turn_rules.specs.FreeBefore.{IsFreeBefore};
 ghost use Rattle.turn_rules.specs.InRange.{IsPlaceOf};
 
-use crate::cost::{activity_cost, connection_cost};
+use crate::cost::going_cost;
+use crate::permissions::links;
+use crate::tables::{Tables, tables_of};
 use maint_counters::{start, step};
 use std::alloc::Global;
 use tail_book::{Book, Memory, Outcome, Place, Plan, Route, laws};
-use turn_rules::link;
 
 /// The best assignment so far: for each activity the aircraft that flies it.
 #[derive(Debug, Drop)]
@@ -47,20 +50,19 @@ pub struct Advance {
     pub cost: u64,
 }
 
-// Takes the assignment if it costs less than the best so far.
-fn keep_better(book: &Book, best: &mut Best, fliers: &[u32], cost: u64)
+// Takes the assignment, which costs less than the best so far, as the best.
+fn keep(book: &Book, best: &mut Best, fliers: &[u32], cost: u64)
     requires best { IsBest book.now best.old }
     requires legal { IsLegalAssignment book.now fliers.now }
     requires cost { assignment_cost book.now fliers.now ≡ cost }
+    requires better { IsTrue best.old.found → cost < best.old.cost }
     ensures best { IsBest book.now best.new }
     ensures kept { KeepsBest book.now best.old best.new }
     ensures tried { IsNoBetter book.now best.new fliers.now }
 {
-    if !best.found || cost < best.cost {
-        best.fliers.as_mut_slice().copy_from_slice(fliers);
-        best.found = true;
-        best.cost = cost;
-    }
+    best.fliers.as_mut_slice().copy_from_slice(fliers);
+    best.found = true;
+    best.cost = cost;
 }
 
 // The row of an activity.
@@ -146,7 +148,8 @@ fn step_values(book: &Book, values: &mut Vec<i64>, k: u32, from: Place, a: u32) 
 }
 
 // Whether aircraft `k` may go on with activity `a`, the next one; its counters are then in the activity's row.
-fn can_go_on(book: &Book, trial: &mut Trial, k: u32, a: u32) -> bool
+fn can_go_on(book: &Book, tables: &Tables, trial: &mut Trial, k: u32, a: u32) -> bool
+    requires tables { AreTablesOf book.now tables.now }
     requires aircraft { k < aircraft book.now }
     requires activity { a < activities book.now }
     requires trial { IsTrial book.now a trial.old }
@@ -159,11 +162,12 @@ fn can_go_on(book: &Book, trial: &mut Trial, k: u32, a: u32) -> bool
 {
     laws::every_book_is_sound(book);
     let from = place_of(trial, k);
-    link(book, k, from, a) && step_values(book, &mut trial.values, k, from, a)
+    links(book, &tables.permissions, k, from, a) && step_values(book, &mut trial.values, k, from, a)
 }
 
 // Lets aircraft `k` fly activity `a`, the next one, if that is legal.
-fn go_on(book: &Book, trial: &mut Trial, k: u32, a: u32) -> Option<Advance>
+fn go_on(book: &Book, tables: &Tables, trial: &mut Trial, k: u32, a: u32) -> Option<Advance>
+    requires tables { AreTablesOf book.now tables.now }
     requires aircraft { k < aircraft book.now }
     requires activity { a < activities book.now }
     requires trial { IsTrial book.now a trial.old }
@@ -172,11 +176,11 @@ fn go_on(book: &Book, trial: &mut Trial, k: u32, a: u32) -> Option<Advance>
     ensures stays { IfNone result (IsTrial book.now a trial.new) }
     ensures agrees { IfNone result (AgreesBelow book.now a trial.old trial.new) }
 {
-    if !can_go_on(book, trial, k, a) {
+    if !can_go_on(book, tables, trial, k, a) {
         return None;
     }
     let from = place_of(trial, k);
-    let cost = activity_cost(book, k, a) + connection_cost(book, k, from, a);
+    let cost = going_cost(book, &tables.costs, k, from, a);
     trial.fliers[a as usize] = k;
     trial.places[k as usize] = Place::After(a);
     Some(Advance { from, cost })
@@ -184,7 +188,16 @@ fn go_on(book: &Book, trial: &mut Trial, k: u32, a: u32) -> Option<Advance>
 
 // Tries all that goes on with aircraft `k` flying activity `a`, the next one.
 #[cycle(assign)]
-fn assign_to(book: &Book, trial: &mut Trial, best: &mut Best, k: u32, a: u32, cost: u64)
+fn assign_to(
+    book: &Book,
+    tables: &Tables,
+    trial: &mut Trial,
+    best: &mut Best,
+    k: u32,
+    a: u32,
+    cost: u64,
+)
+    requires tables { AreTablesOf book.now tables.now }
     requires aircraft { k < aircraft book.now }
     requires activity { a < activities book.now }
     requires trial { IsTrial book.now a trial.old }
@@ -198,16 +211,24 @@ fn assign_to(book: &Book, trial: &mut Trial, best: &mut Best, k: u32, a: u32, co
     ensures agrees { AgreesBelow book.now a trial.old trial.new }
 {
     laws::every_book_is_sound(book);
-    let Some(advance) = go_on(book, trial, k, a) else {
+    let Some(advance) = go_on(book, tables, trial, k, a) else {
         return;
     };
-    assign_from(book, trial, best, a + 1, cost + advance.cost);
+    assign_from(book, tables, trial, best, a + 1, cost + advance.cost);
     trial.places[k as usize] = advance.from;
 }
 
 // Tries all assignments of the activities from number `a` on.
 #[cycle(assign)]
-fn assign_from(book: &Book, trial: &mut Trial, best: &mut Best, a: u32, cost: u64)
+fn assign_from(
+    book: &Book,
+    tables: &Tables,
+    trial: &mut Trial,
+    best: &mut Best,
+    a: u32,
+    cost: u64,
+)
+    requires tables { AreTablesOf book.now tables.now }
     requires activity { a ≤ activities book.now }
     requires trial { IsTrial book.now a trial.old }
     requires cost { cost ≡ assignment_cost book.now (take a trial.old.fliers.items) }
@@ -219,12 +240,15 @@ fn assign_from(book: &Book, trial: &mut Trial, best: &mut Best, a: u32, cost: u6
     ensures trial { IsTrial book.now a trial.new }
     ensures agrees { AgreesBelow book.now a trial.old trial.new }
 {
+    if best.found && best.cost <= cost {
+        return;
+    }
     if a as usize == book.activities.len() {
-        keep_better(book, best, &trial.fliers, cost);
+        keep(book, best, &trial.fliers, cost);
         return;
     }
     for k in 0..book.tails.len() as u32 {
-        assign_to(book, trial, best, k, a, cost);
+        assign_to(book, tables, trial, best, k, a, cost);
     }
 }
 
@@ -233,6 +257,7 @@ fn best_assignment(alloc: Global, book: &Book) -> Result<Best, Memory>
     ensures best { IfOk result (IsBest book.now) }
     ensures tried { IfOk result (λ best. HasTried book.now best []) }
 {
+    let tables = tables_of(alloc, book)?;
     let activities = book.activities.len();
     let mut trial = Trial {
         fliers: vec![in alloc; 0; activities]?,
@@ -244,7 +269,7 @@ fn best_assignment(alloc: Global, book: &Book) -> Result<Best, Memory>
         cost: 0,
         fliers: vec![in alloc; 0; activities]?,
     };
-    assign_from(book, &mut trial, &mut best, 0, 0);
+    assign_from(book, &tables, &mut trial, &mut best, 0, 0);
     Ok(best)
 }
 

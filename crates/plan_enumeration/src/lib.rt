@@ -3,5 +3,7 @@
 
 mod cost;
 mod enumerate;
+mod permissions;
+mod tables;
 
 pub use enumerate::least_plan;

@@ -2,7 +2,7 @@ use Rattle.std.proofs.Common.{◌≡◌, ◌∙◌, ◌++◌, ◌∷◌, [], ℕ
 use Rattle.std.specs.Prelude.{slice_set}
 use Rattle.tail_book.specs.declared.place.Place.{Place}
 use Rattle.plan_enumeration.specs.Enumeration.{HasTried}
-use Rattle.plan_enumeration.proofs.Trials.{back_from, going_costs, returned, tried_from, tried_nothing}
+use Rattle.plan_enumeration.proofs.Trials.{back_from, going_costs, returned, tried_dear, tried_from, tried_nothing}
 use Rattle.plan_enumeration.proofs.enumerate.+assign.Goals as goal
 
 pub assign_to-returns-in_default-clause-tried : goal.assign_to-returns-in_default-clause-tried
@@ -12,7 +12,7 @@ pub assign_to-assign_from-requires : goal.assign_to-assign_from-requires
 assign_to-assign_from-requires t c =
     let adv = c.in-Some.ensures.advances in
     let cost = going_costs c.args.book.now c.args.a c.args.k c.args.trial.now c.go_on.new.trial c.in-Some.advance c.args.cost c.requires.aircraft adv c.requires.cost in
-    (omega arith, (omega arith, (adv.trial, (cost, (omega (arith, adv.most, c.requires.most), c.requires.best)))))
+    (omega arith, (c.requires.tables, (omega arith, (adv.trial, (cost, (omega (arith, adv.most, c.requires.most), c.requires.best))))))
 
 pub assign_to-returns-clause-agrees : goal.assign_to-returns-clause-agrees
 assign_to-returns-clause-agrees t c =
@@ -54,3 +54,8 @@ assign_from-loop-k-preserved t c =
 pub assign_from-returns-clause-tried : goal.assign_from-returns-clause-tried
 assign_from-returns-clause-tried t c = tried_from c.args.book.now c.args.a c.args.trial.now c.loop-k.best c.requires.trial c.loop-k.invariant.in_book
     (λ j lt. c.loop-k.invariant.tried j (omega (arith, lt, c.loop-k.invariant.each_aircraft)))
+
+-- what already costs as much as the best is cut
+pub assign_from-returns-then-best-cost-clause-tried : goal.assign_from-returns-then-best-cost-clause-tried
+assign_from-returns-then-best-cost-clause-tried t c =
+    tried_dear c.args.book.now c.args.best.now (take c.args.a c.args.trial.now.fliers.items) c.args.cost c.requires.cost c.if-best.true c.if-best-cost.true
