@@ -1,10 +1,3 @@
-pub mod Assigned
-pub mod Fliers
-pub mod Extended
-pub mod Rows
-pub mod Trials
-pub mod Truth
-pub mod Built
 pub mod SinkLemmas
 pub mod ReadLemmas
 pub mod Printable

@@ -4,7 +4,7 @@ use Rattle.tail_book.specs.Truth.{IsTrueOutcome}
 use Rattle.tail_book.specs.declared.outcome.Outcome.{Outcome}
 use Rattle.tail_book.specs.declared.outcome.Outcome.TheVariants.{Optimal, Infeasible, Between, Above}
 use Rattle.tail_outside.specs.Outside.{Adds, AddsFront, HasRisen}
-use Rattle.tailplan.specs.Decided.{IsDecided}
+use Rattle.plan_enumeration.specs.Decided.{IsDecided}
 use Rattle.book_maker.specs.Made.{book_of}
 use Rattle.tailplan.specs.Refused.{refusal_line, usage_line}
 use Rattle.tailplan.specs.Report.{IsPlanFor, report_lines, routes_of}

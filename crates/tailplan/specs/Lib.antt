@@ -1,6 +1,3 @@
-pub mod Assignment
-pub mod Enumeration
-pub mod Decided
 pub mod Lines
 pub mod Report
 pub mod Refused

@@ -2,8 +2,6 @@
 #![tactic(auto)]
 
 mod answer;
-mod cost;
-mod enumerate;
 mod lines;
 mod reading;
 mod report;

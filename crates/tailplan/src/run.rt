@@ -14,12 +14,12 @@ ghost use Rattle.book_maker.specs.Made.{book_of};
 ghost use Rattle.tailplan.specs.declared.reading.TheConstants.{READ_LIMIT};
 
 use crate::answer::Answer;
-use crate::enumerate::least_plan;
 use crate::lines::{lines_of, put_lines};
 use crate::reading::{ReadFail, read_all};
 use book_maker::read_book;
+use plan_enumeration::least_plan;
 use std::alloc::Global;
-use tail_book::{Outcome, laws};
+use tail_book::Outcome;
 use tail_outside::{Fault, Files, Sink};
 use tail_text::Stopped;
 
@@ -121,8 +121,6 @@ fn solved(alloc: Global, timetable: &[u8], fleet: &[u8]) -> Answer
         Err(Stopped::Refused(refusal)) => return Answer::Refused(refusal),
         Err(Stopped::Memory) => return Answer::Memory,
     };
-    laws::every_book_is_sound(&book);
-    laws::legal_routes_rise();
     match least_plan(alloc, &book) {
         Ok(outcome) => Answer::Solved(book, outcome),
         Err(_) => Answer::Memory,
