@@ -25,7 +25,7 @@ impl Row for Size {
         Table::Fleet
     }
 
-    fn limit() -> u32 {
+    fn limit() -> usize {
         2
     }
 
