@@ -10,18 +10,6 @@ const HEADER: &str = "tail,type,at,ready,fixed,tags,avoid,carry\n";
 
 const GOOD: &str = "D-1,A320,FRA,2026-03-01T05:00,0,,,\n";
 
-// The fields of a good record.
-const FIELDS: [(&str, &str); 8] = [
-    ("tail", "D-2"),
-    ("type", "A320"),
-    ("at", "FRA"),
-    ("ready", "2026-03-01T05:00"),
-    ("fixed", "0"),
-    ("tags", ""),
-    ("avoid", ""),
-    ("carry", ""),
-];
-
 // How many aircraft a table has, or the code and the place of its refusal.
 fn read(alloc: Global, table: &[u8]) -> Result<usize, (u8, u64)> {
     match read_fleet(alloc, table) {
@@ -36,11 +24,20 @@ fn read(alloc: Global, table: &[u8]) -> Result<usize, (u8, u64)> {
 // The table of a good record and of one with these fields in place of its own.
 fn with_fields(alloc: Global, changes: &[(&str, &str)]) -> Result<String, Fail> {
     let mut table = format!(in alloc; "{HEADER}{GOOD}")?;
-    for (i, (name, usual)) in FIELDS.into_iter().enumerate() {
-        if i > 0 {
-            table.push(',')?;
-        }
+    let mut before = "";
+    for (name, usual) in [
+        ("tail", "D-2"),
+        ("type", "A320"),
+        ("at", "FRA"),
+        ("ready", "2026-03-01T05:00"),
+        ("fixed", "0"),
+        ("tags", ""),
+        ("avoid", ""),
+        ("carry", ""),
+    ] {
+        table.push_str(before)?;
         table.push_str(field_of(changes, name, usual))?;
+        before = ",";
     }
     table.push('\n')?;
     Ok(table)
