@@ -6,7 +6,6 @@ mod fleet;
 mod raw_rules;
 mod tail;
 
-pub use carry::CARRY_LIMIT;
 pub use fleet::{TAIL_LIMIT, read_fleet};
 pub use raw_rules::{RawCounter, RawCurfew, RawRules};
 pub use tail::{RawCarry, RawTail};
