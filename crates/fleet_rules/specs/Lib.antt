@@ -4,3 +4,4 @@ pub mod RawRules
 pub mod RawRulesParts
 pub mod Tail
 pub mod TailParts
+pub mod TomlValues

@@ -5,6 +5,7 @@ mod carry;
 mod fleet;
 mod raw_rules;
 mod tail;
+mod toml_values;
 
 pub use carry::CARRY_LIMIT;
 pub use fleet::{TAIL_LIMIT, read_fleet};
