@@ -1,2 +1,3 @@
 pub mod CarryLemmas
+pub mod EntryLemmas
 pub mod TomlLemmas
