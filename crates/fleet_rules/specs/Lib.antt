@@ -1,6 +1,14 @@
+pub mod AirportEntry
+pub mod BandEntry
 pub mod Carry
+pub mod CounterEntry
+pub mod CurfewEntry
+pub mod Entries
 pub mod Fleet
 pub mod RawRules
 pub mod RawRulesParts
+pub mod RulesTable
 pub mod Tail
 pub mod TailParts
+pub mod TomlValues
+pub mod TypeEntry

@@ -1,14 +1,30 @@
-//! The fleet: its aircraft, read and checked up to the first refusal.
+//! The fleet and the rules, each read and checked up to its first refusal.
 #![tactic(auto)]
 
+mod airport_entry;
+mod band_entry;
 mod carry;
+mod counter_entry;
+mod curfew_entry;
+mod entries;
 mod fleet;
 mod raw_rules;
+mod rules_table;
 mod tail;
+mod toml_values;
+mod type_entry;
 
+pub use airport_entry::AIRPORT_LIMIT;
+pub use band_entry::BAND_LIMIT;
+pub use counter_entry::COUNTER_LIMIT;
+pub use curfew_entry::CURFEW_LIMIT;
 pub use fleet::{TAIL_LIMIT, read_fleet};
 pub use raw_rules::{RawCounter, RawCurfew, RawRules};
+pub use rules_table::read_rules;
 pub use tail::{RawCarry, RawTail};
+pub use type_entry::TYPE_LIMIT;
 
+#[cfg(test)]
+mod rules_tests;
 #[cfg(test)]
 mod tests;

@@ -1,0 +1,59 @@
+-- The entries of one key of the rules: an array of tables, each refused at its number.
+use Rattle.std.specs.Prelude.{ℕ, ◌+◌, ◌-◌, List, [], ◌∷◌, nat_lt, Option, Some, None, Result, Ok, Err}
+use Rattle.std.specs.Option.{ok_or}
+use Rattle.toml.specs.Data.{Data, Members, as_table, get_member}
+use Rattle.tail_text.specs.Checks.{look, look_each, must}
+use Rattle.tail_text.specs.Reading.{refusal_at}
+use Rattle.tail_text.specs.declared.refusal.Refusal.{Refusal}
+use Rattle.tail_text.specs.declared.refusal.Table.TheVariants.{Rules}
+use Rattle.fleet_rules.specs.TomlValues.{has_only, values_of}
+
+-- what the entries of one key are: that key, the most of them, the keys that each of them lists, and what a table with
+-- no other keys gives: an entry, or the code of its first fault
+pub record Section (A : Type 0) : Type 0 where
+  pub key : List ℕ
+  pub limit : ℕ
+  pub keys : List (List ℕ)
+  pub entry_of : Members → Result A ℕ
+
+-- the refusal of the rules with a code, at the number of an entry, or at 0 for the whole table
+abbrev pub refused : ℕ → ℕ → Refusal
+refused code place = refusal_at code Rules place
+
+-- what one entry gives, where so many may still come: whether it is one too many, then whether it has a key that is not
+-- listed, and then its listed keys
+abbrev pub entry_in : {A : Type 0} → Section A → ℕ → Members → Result A ℕ
+entry_in section room table =
+    must (nat_lt 0 room) 10 (
+    must (has_only section.keys table) 14 (
+    section.entry_of table))
+
+-- an entry, or its refusal at its number
+abbrev pub numbered : {A : Type 0} → ℕ → Result A ℕ → Result A Refusal
+numbered place (Ok entry) = Ok entry
+numbered place (Err code) = Err (refused code place)
+
+-- the entries from a number on, of which so many may still come
+unfoldable pub entries_from : {A : Type 0} → Section A → ℕ → ℕ → List Members → Result (List A) Refusal
+entries_from section place room [] = Ok []
+entries_from section place room (table ∷ more) =
+    look (numbered place (entry_in section room table)) (λ entry.
+    look (entries_from section (place + 1) (room - 1) more) (λ entries.
+    Ok (entry ∷ entries)))
+
+-- a value that is a table, or else code 4 for the rules as a whole
+abbrev pub table_of : Data → Result Members Refusal
+table_of value = ok_or (as_table value) (refused 4 0)
+
+-- the tables of an array of tables, and none where the key is absent; any other value is code 4
+abbrev pub tables_in : Option Data → Result (List Members) Refusal
+tables_in None = Ok []
+tables_in (Some value) =
+    look (ok_or (values_of value) (refused 4 0)) (λ values.
+    look_each table_of values)
+
+-- the entries of a key, where so many entries of other keys stand before them
+abbrev pub entries_at : {A : Type 0} → Section A → ℕ → Members → Result (List A) Refusal
+entries_at section before rules =
+    look (tables_in (get_member section.key rules)) (λ tables.
+    entries_from section (before + 1) section.limit tables)

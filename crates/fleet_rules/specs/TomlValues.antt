@@ -1,0 +1,89 @@
+-- What a table of the rules holds at one of its keys: a number, a name, a text, a time of day, a truth value, or names.
+-- An absent key is code 15. A value of another kind has the code of one that is not good.
+use Rattle.std.specs.Prelude.{ℕ, ℤ, pos, List, [], ◌∷◌, length, Bool, true, ◌&&◌, nat_le, int_le, if◌then◌else◌, Option, Some, None, option_map, Result, Ok, Err}
+use Rattle.std.specs.List.{list_any}
+use Rattle.std.specs.Option.{ok_or}
+use Rattle.std.specs.Str.{bytes_eq}
+use Rattle.toml.specs.Data.{Data, Items, no_items, item, Members, no_members, member, as_array, as_bool, as_integer, as_str, get_member}
+use Rattle.tail_text.specs.Checks.{look, look_each, must, or_code}
+use Rattle.tail_text.specs.Clock.{clock_of}
+use Rattle.table_records.specs.Values.{name_in}
+
+-- the values of an array, in their order
+abbrev pub data_of : Items → List Data
+data_of no_items = []
+data_of (item value more) = value ∷ data_of more
+
+-- the values of a value that is an array
+abbrev pub values_of : Data → Option (List Data)
+values_of value = option_map data_of (as_array value)
+
+-- each key of the table passes the test
+abbrev pub keys_pass : (List ℕ → Bool) → Members → Bool
+keys_pass test no_members = true
+keys_pass test (member key value more) = test key && keys_pass test more
+
+-- the table has none but the listed keys
+abbrev pub has_only : List (List ℕ) → Members → Bool
+has_only listed table = keys_pass (λ key. list_any (bytes_eq key) listed) table
+
+-- the value at a key, or else code 15
+abbrev pub value_at : List ℕ → Members → Result Data ℕ
+value_at key table = ok_or (get_member key table) 15
+
+-- an integer from the least to the most, or else code 9
+abbrev pub number_of : ℤ → ℤ → Option ℤ → Result ℤ ℕ
+number_of least most (Some number) = must (int_le least number && int_le number most) 9 (Ok number)
+number_of least most None = Err 9
+
+-- a key's number from the least to the most
+abbrev pub number_at : List ℕ → ℤ → ℤ → Members → Result ℤ ℕ
+number_at key least most table =
+    look (value_at key table) (λ value.
+    number_of least most (as_integer value))
+
+-- an integer from 0 to the most, as a count, or else code 9
+abbrev pub count_of : ℕ → Option ℤ → Result ℕ ℕ
+count_of most (Some (pos count)) = must (nat_le count most) 9 (Ok count)
+count_of most (Some _) = Err 9
+count_of most None = Err 9
+
+-- a key's count up to the most
+abbrev pub count_at : List ℕ → ℕ → Members → Result ℕ ℕ
+count_at key most table =
+    look (value_at key table) (λ value.
+    count_of most (as_integer value))
+
+-- a string that is a name, or else code 5
+abbrev pub name_of_value : Data → Result (List ℕ) ℕ
+name_of_value value =
+    look (ok_or (as_str value) 5) (λ text.
+    name_in text)
+
+-- a key's name
+abbrev pub name_at : List ℕ → Members → Result (List ℕ) ℕ
+name_at key table =
+    look (value_at key table) (λ value.
+    name_of_value value)
+
+-- a key's time of day `HH:MM`, in minutes since midnight, or else code 6
+abbrev pub time_at : List ℕ → Members → Result ℤ ℕ
+time_at key table =
+    look (value_at key table) (λ value.
+    look (ok_or (as_str value) 6) (λ text.
+    or_code 6 (clock_of text)))
+
+-- a key's truth value, or else code 4
+abbrev pub truth_at : List ℕ → Members → Result Bool ℕ
+truth_at key table =
+    look (value_at key table) (λ value.
+    ok_or (as_bool value) 4)
+
+-- a key's names: an array, or else code 4, whose elements are names, or else code 5, and not too many, or else code 10
+abbrev pub names_at : List ℕ → ℕ → Members → Result (List (List ℕ)) ℕ
+names_at key most table =
+    look (value_at key table) (λ value.
+    look (ok_or (values_of value) 4) (λ values.
+    look (look_each name_of_value values) (λ names.
+    must (nat_le (length names) most) 10 (
+    Ok names))))

@@ -1,0 +1,47 @@
+//! The entries of the key `band`.
+
+ghost use Rattle.std.specs.Prelude.{◌≡◌, IfOk};
+ghost use Rattle.toml.specs.View.{table_view};
+ghost use Rattle.tail_book.specs.Sound.{IsBand};
+ghost use Rattle.fleet_rules.specs.BandEntry.{band_in, bands};
+
+use crate::entries::Entry;
+use crate::toml_values::{count_at, has_only, number_at};
+use std::alloc::Global;
+use table_records::NoRow;
+use tail_book::Band;
+use toml::Table;
+
+/// The most bands.
+pub const BAND_LIMIT: usize = 8;
+
+impl Entry for Band {
+    ghost section = { bands };
+
+    ghost sound = { IsBand };
+
+    fn key() -> &'static str {
+        "band"
+    }
+
+    fn limit() -> usize {
+        BAND_LIMIT
+    }
+
+    fn has_its_keys_only(table: &Table) -> bool {
+        has_only(table, &["upto", "cost"])
+    }
+
+    fn entry_of(_alloc: Global, table: &Table) -> Result<Band, NoRow> {
+        Ok(band_in(table)?)
+    }
+}
+
+fn band_in(table: &Table) -> Result<Band, u8>
+    ensures value { result ≡ band_in (table_view table.now) }
+    ensures sound { IfOk result IsBand }
+{
+    let upto = number_at(table, "upto", 0, 10_000_000)?;
+    let cost = count_at(table, "cost", 1_000_000)?;
+    Ok(Band { upto, cost })
+}

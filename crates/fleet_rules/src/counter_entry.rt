@@ -1,0 +1,100 @@
+//! The entries of the key `counter`.
+
+ghost use Rattle.std.specs.Prelude.{◌≡◌, IfOk};
+ghost use Rattle.toml.specs.View.{table_view};
+ghost use Rattle.tail_book.specs.Sound.{IsLimit};
+ghost use Rattle.table_records.specs.NoRow.{Judges};
+ghost use Rattle.fleet_rules.specs.CounterEntry.{counter_in, counters, kind_at, kind_of, limit_at};
+ghost use Rattle.fleet_rules.specs.RawRules.{IsRawCounter};
+
+use crate::RawCounter;
+use crate::entries::Entry;
+use crate::toml_values::{has_only, name_at, names_at, number_at, value_at};
+use std::alloc::Global;
+use table_records::NoRow;
+use tail_book::CounterKind;
+use toml::Table;
+
+/// The most counters.
+pub const COUNTER_LIMIT: usize = 6;
+
+impl Entry for RawCounter {
+    ghost section = { counters };
+
+    ghost sound = { IsRawCounter };
+
+    fn key() -> &'static str {
+        "counter"
+    }
+
+    fn limit() -> usize {
+        COUNTER_LIMIT
+    }
+
+    fn has_its_keys_only(table: &Table) -> bool {
+        has_only(table, &["name", "kind", "limit", "bases", "stop"])
+    }
+
+    fn entry_of(alloc: Global, table: &Table) -> Result<RawCounter, NoRow> {
+        counter_in(alloc, table)
+    }
+}
+
+fn counter_in(alloc: Global, table: &Table) -> Result<RawCounter, NoRow>
+    ensures value { Judges (λ counter. counter) (counter_in (table_view table.now)) result }
+    ensures sound { IfOk result IsRawCounter }
+{
+    let name = name_at(table, "name")?;
+    let kind = kind_at(table, "kind")?;
+    let limit = limit_at(table, "limit", kind)?;
+    let bases = names_at(alloc, table, "bases", 200)?;
+    let stop = number_at(table, "stop", 1, 100_000)?;
+    Ok(RawCounter {
+        name,
+        kind,
+        limit,
+        bases,
+        stop,
+    })
+}
+
+// The kind of counter at a key, or code 8.
+fn kind_at(table: &Table, key: &str) -> Result<CounterKind, u8>
+    ensures { result ≡ kind_at key.now (table_view table.now) }
+{
+    let Some(value) = value_at(table, key) else {
+        return Err(15);
+    };
+    let Some(word) = value.as_str() else {
+        return Err(8);
+    };
+    match kind_of(word) {
+        Some(kind) => Ok(kind),
+        None => Err(8),
+    }
+}
+
+fn kind_of(word: &str) -> Option<CounterKind>
+    ensures { result ≡ kind_of word.now }
+{
+    match word {
+        "minutes" => Some(CounterKind::Minutes),
+        "landings" => Some(CounterKind::Landings),
+        "days" => Some(CounterKind::Days),
+        _ => None,
+    }
+}
+
+// The limit at a key, in minutes or landings, or code 9. Days are turned into minutes.
+fn limit_at(table: &Table, key: &str, kind: CounterKind) -> Result<i64, u8>
+    ensures value { result ≡ limit_at key.now kind (table_view table.now) }
+    ensures range { IfOk result (IsLimit kind) }
+{
+    match kind {
+        CounterKind::Minutes | CounterKind::Landings => number_at(table, key, 1, 10_000_000),
+        CounterKind::Days => {
+            let days = number_at(table, key, 1, 10_000)?;
+            Ok(days * 1440)
+        }
+    }
+}

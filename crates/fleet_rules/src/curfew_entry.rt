@@ -1,0 +1,62 @@
+//! The entries of the key `curfew`.
+
+ghost use Rattle.std.specs.Prelude.{◌≡◌, IfOk};
+ghost use Rattle.toml.specs.View.{table_view};
+ghost use Rattle.table_records.specs.NoRow.{Judges};
+ghost use Rattle.fleet_rules.specs.CurfewEntry.{curfew_in, curfews};
+ghost use Rattle.fleet_rules.specs.RawRules.{IsRawCurfew};
+
+use crate::RawCurfew;
+use crate::entries::Entry;
+use crate::toml_values::{has_only, name_at, names_at, time_at, truth_at};
+use std::alloc::Global;
+use table_records::NoRow;
+use toml::Table;
+
+/// The most curfews.
+pub const CURFEW_LIMIT: usize = 400;
+
+impl Entry for RawCurfew {
+    ghost section = { curfews };
+
+    ghost sound = { IsRawCurfew };
+
+    fn key() -> &'static str {
+        "curfew"
+    }
+
+    fn limit() -> usize {
+        CURFEW_LIMIT
+    }
+
+    fn has_its_keys_only(table: &Table) -> bool {
+        has_only(
+            table,
+            &["airport", "from", "to", "types", "start", "landing"],
+        )
+    }
+
+    fn entry_of(alloc: Global, table: &Table) -> Result<RawCurfew, NoRow> {
+        curfew_in(alloc, table)
+    }
+}
+
+fn curfew_in(alloc: Global, table: &Table) -> Result<RawCurfew, NoRow>
+    ensures value { Judges (λ curfew. curfew) (curfew_in (table_view table.now)) result }
+    ensures sound { IfOk result IsRawCurfew }
+{
+    let airport = name_at(table, "airport")?;
+    let from = time_at(table, "from")?;
+    let to = time_at(table, "to")?;
+    let types = names_at(alloc, table, "types", 20)?;
+    let starts = truth_at(table, "start")?;
+    let landings = truth_at(table, "landing")?;
+    Ok(RawCurfew {
+        airport,
+        from,
+        to,
+        types,
+        starts,
+        landings,
+    })
+}

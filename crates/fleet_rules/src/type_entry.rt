@@ -1,0 +1,48 @@
+//! The entries of the key `type`.
+
+ghost use Rattle.std.specs.Prelude.{◌≡◌, IfOk};
+ghost use Rattle.toml.specs.View.{table_view};
+ghost use Rattle.tail_book.specs.Sound.{IsKind};
+ghost use Rattle.fleet_rules.specs.TypeEntry.{type_in, types};
+
+use crate::entries::Entry;
+use crate::toml_values::{count_at, has_only, name_at, number_at};
+use std::alloc::Global;
+use table_records::NoRow;
+use tail_book::AircraftType;
+use toml::Table;
+
+/// The most aircraft types.
+pub const TYPE_LIMIT: usize = 20;
+
+impl Entry for AircraftType {
+    ghost section = { types };
+
+    ghost sound = { IsKind };
+
+    fn key() -> &'static str {
+        "type"
+    }
+
+    fn limit() -> usize {
+        TYPE_LIMIT
+    }
+
+    fn has_its_keys_only(table: &Table) -> bool {
+        has_only(table, &["name", "rate", "turn"])
+    }
+
+    fn entry_of(_alloc: Global, table: &Table) -> Result<AircraftType, NoRow> {
+        Ok(type_in(table)?)
+    }
+}
+
+fn type_in(table: &Table) -> Result<AircraftType, u8>
+    ensures value { result ≡ type_in (table_view table.now) }
+    ensures sound { IfOk result IsKind }
+{
+    let name = name_at(table, "name")?;
+    let rate = count_at(table, "rate", 300)?;
+    let turn = number_at(table, "turn", 0, 1440)?;
+    Ok(AircraftType { name, rate, turn })
+}
