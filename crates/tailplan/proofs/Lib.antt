@@ -5,9 +5,6 @@ pub mod Rows
 pub mod Trials
 pub mod Truth
 pub mod Built
-pub mod SinkLemmas
-pub mod ReadLemmas
-pub mod Printable
 pub mod Cut
 pub mod WordLemmas
 pub mod Promised

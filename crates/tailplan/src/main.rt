@@ -5,8 +5,6 @@ mod answer;
 mod cost;
 mod enumerate;
 mod lines;
-mod reading;
-mod report;
 mod run;
 
 use run::{NO_MEMORY, Status, solve_run};

@@ -1,7 +1,6 @@
 use Rattle.std.proofs.Common.{◌≡◌, ◌≤◌, ◌-◌, ◌++◌, ℕ, List, length, drop, IfSome, IsTrue}
 use Rattle.tail_outside.specs.Outside.{SameNames}
-use Rattle.tailplan.specs.declared.reading.TheConstants.{READ_LIMIT}
-use Rattle.tailplan.proofs.reading.read_pieces.Given as goal
+use Rattle.tail_outside.proofs.reading.read_pieces.Given as goal
 
 -- the file begins with the bytes read so far, and nothing else changed
 abbrev pub invariant-pieces : goal.invariant-pieces
@@ -14,4 +13,4 @@ invariant-pieces g l = record {
 }
 
 abbrev pub decreases-pieces : goal.decreases-pieces
-decreases-pieces g l = READ_LIMIT - length l.bytes.items
+decreases-pieces g l = l.limit - length l.bytes.items

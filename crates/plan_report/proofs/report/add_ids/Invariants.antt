@@ -1,6 +1,6 @@
 use Rattle.std.proofs.Common.{◌≡◌, ◌++◌, drop}
-use Rattle.tailplan.specs.Report.{ids_of}
-use Rattle.tailplan.proofs.report.add_ids.Given as goal
+use Rattle.plan_report.specs.Report.{ids_of}
+use Rattle.plan_report.proofs.report.add_ids.Given as goal
 
 -- the ids so far, and those that are left
 abbrev pub invariant-loop-a : goal.invariant-loop-a

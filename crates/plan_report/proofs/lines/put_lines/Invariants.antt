@@ -1,7 +1,7 @@
 use Rattle.std.proofs.Common.{◌≡◌, ◌≤◌, false, take}
 use Rattle.tail_outside.specs.Outside.{Adds}
-use Rattle.tailplan.specs.Lines.{text_of}
-use Rattle.tailplan.proofs.lines.put_lines.Given as goal
+use Rattle.plan_report.specs.Lines.{text_of}
+use Rattle.plan_report.proofs.lines.put_lines.Given as goal
 
 -- the lines so far were taken
 abbrev pub invariant-loop-line : goal.invariant-loop-line

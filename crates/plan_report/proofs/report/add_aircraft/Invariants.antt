@@ -1,6 +1,6 @@
 use Rattle.std.proofs.Common.{◌≡◌, ◌++◌, drop}
-use Rattle.tailplan.specs.Report.{aircraft_lines}
-use Rattle.tailplan.proofs.report.add_aircraft.Given as goal
+use Rattle.plan_report.specs.Report.{aircraft_lines}
+use Rattle.plan_report.proofs.report.add_aircraft.Given as goal
 
 -- the lines so far, and those that are left
 abbrev pub invariant-loop-k : goal.invariant-loop-k

@@ -1,18 +1,14 @@
 //! A file's bytes, up to a limit.
 
-ghost use Rattle.std.specs.Prelude.{◌≡◌, ◌<◌, ◌≤◌, ℕ, length, List, take, IfOk, IfSome, IsErrOf, IsTrue};
+ghost use Rattle.std.specs.Prelude.{◌≡◌, ◌<◌, ◌≤◌, ◌^◌, ℕ, length, List, take, IfOk, IfSome, IsErrOf, IsTrue};
 ghost use Rattle.tail_outside.specs.Outside.{HasRisen, SameNames};
 
+use crate::{Failed, Files};
 use std::alloc::Global;
 use tail_book::Memory;
-use tail_outside::{Failed, Files};
-
-/// The most bytes that are read of a table: one more than `SIZE_LIMIT` of `table_records`, so that a table cut here is
-/// still too big.
-pub const READ_LIMIT: usize = 16_777_217;
 
 /// The most bytes that are asked for in one read.
-pub const PIECE: usize = 65_536;
+const PIECE: usize = 65_536;
 
 /// Why a file was not read.
 #[derive(Clone, Copy, PartialEq, Eq, Debug)]
@@ -24,7 +20,7 @@ pub enum ReadFail {
 }
 
 impl From<Failed> for ReadFail {
-    ghost use Rattle.tailplan.specs.declared.reading.ReadFail.TheVariants.{Failed as ReadFailed};
+    ghost use Rattle.tail_outside.specs.declared.reading.ReadFail.TheVariants.{Failed as ReadFailed};
 
     ghost from_gives = { λ _ e. e ≡ ReadFailed };
 
@@ -33,10 +29,16 @@ impl From<Failed> for ReadFail {
     }
 }
 
-/// The bytes of a file to its end, or the first of them up to the limit.
-pub fn read_all<F: Files>(alloc: Global, files: &mut F, name: &str) -> Result<Vec<u8>, ReadFail>
-    requires { IsTrue (F.lets_read files.old name.now) }
-    ensures bytes { IfOk result (λ v. IfSome (F.holds files.old name.now) (λ bytes. v.items ≡ take READ_LIMIT bytes)) }
+/// The bytes of a file to its end, or the first `limit` of them where it has more.
+pub fn read_all<F: Files>(
+    alloc: Global,
+    files: &mut F,
+    name: &str,
+    limit: usize,
+) -> Result<Vec<u8>, ReadFail>
+    requires named { IsTrue (F.lets_read files.old name.now) }
+    requires near { limit ≤ 2 ^ 40 }
+    ensures bytes { IfOk result (λ v. IfSome (F.holds files.old name.now) (λ bytes. v.items ≡ take limit bytes)) }
     ensures same { (other : List ℕ) → F.holds files.new other ≡ F.holds files.old other }
     ensures lets { SameNames (F.lets_read files.old) (F.lets_read files.new) }
     ensures counts { F.read_faults files.old ≤ F.read_faults files.new }
@@ -45,7 +47,7 @@ pub fn read_all<F: Files>(alloc: Global, files: &mut F, name: &str) -> Result<Ve
     let Ok(mut buffer) = buffer_of(alloc, PIECE) else {
         return Err(ReadFail::Memory);
     };
-    read_pieces(alloc, files, name, buffer.as_mut_slice())
+    read_pieces(alloc, files, name, limit, buffer.as_mut_slice())
 }
 
 // The same, with a buffer for the pieces.
@@ -53,18 +55,20 @@ fn read_pieces<F: Files>(
     alloc: Global,
     files: &mut F,
     name: &str,
+    limit: usize,
     buffer: &mut [u8],
 ) -> Result<Vec<u8>, ReadFail>
     requires named { IsTrue (F.lets_read files.old name.now) }
+    requires near { limit ≤ 2 ^ 40 }
     requires room { 0 < length buffer.old }
-    ensures bytes { IfOk result (λ v. IfSome (F.holds files.old name.now) (λ bytes. v.items ≡ take READ_LIMIT bytes)) }
+    ensures bytes { IfOk result (λ v. IfSome (F.holds files.old name.now) (λ bytes. v.items ≡ take limit bytes)) }
     ensures same { (other : List ℕ) → F.holds files.new other ≡ F.holds files.old other }
     ensures lets { SameNames (F.lets_read files.old) (F.lets_read files.new) }
     ensures counts { F.read_faults files.old ≤ F.read_faults files.new }
     ensures cause { IsErrOf result ReadFail.Failed → HasRisen (F.read_faults files.old) (F.read_faults files.new) }
 {
     let mut bytes = Vec::new(alloc);
-    'pieces: while bytes.len() < READ_LIMIT {
+    'pieces: while bytes.len() < limit {
         let count = files.read_at(name, bytes.len() as u64, buffer)?;
         if count == 0 {
             return Ok(bytes);
@@ -73,7 +77,7 @@ fn read_pieces<F: Files>(
             return Err(ReadFail::Memory);
         }
     }
-    bytes.truncate(READ_LIMIT);
+    bytes.truncate(limit);
     Ok(bytes)
 }
 

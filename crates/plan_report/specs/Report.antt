@@ -1,10 +1,10 @@
 -- What is printed for an outcome: its first line, and with a plan a line for each aircraft in the book's order.
-use Rattle.std.specs.Prelude.{ℕ, ◌+◌, ◌<◌, ◌≤◌, All, length, List, [], ◌∷◌, ◌++◌, codes, decimal}
+use Rattle.std.specs.Prelude.{ℕ, ◌+◌, ◌<◌, ◌≡◌, ⊤, All, length, List, [], ◌∷◌, ◌++◌, codes, decimal}
 use Rattle.tail_book.specs.Seen.{BookSeen}
 use Rattle.tail_book.specs.Lookup.{activities, activity_of, aircraft, tail_of}
 use Rattle.tail_book.specs.declared.outcome.Outcome.{Outcome}
 use Rattle.tail_book.specs.declared.outcome.Outcome.TheVariants.{Optimal, Infeasible, Between, Above}
-use Rattle.tailplan.specs.Lines.{newline, text_of}
+use Rattle.plan_report.specs.Lines.{newline, text_of}
 
 -- a space and its id, for each activity
 abbrev pub ids_of : BookSeen → List ℕ → List ℕ
@@ -20,10 +20,17 @@ abbrev pub aircraft_lines : BookSeen → ℕ → List (List ℕ) → List (List 
 aircraft_lines book k [] = []
 aircraft_lines book k (route ∷ routes) = aircraft_line book k route ∷ aircraft_lines book (k + 1) routes
 
--- at most as many routes as the book has aircraft, each of activities of the book
+-- one route for each aircraft of the book, each of activities of the book
 pub record IsPlanFor (book : BookSeen) (plan : List (List ℕ)) : Type 0 where
-  pub aircraft : length plan ≤ aircraft book
+  pub one_each : length plan ≡ aircraft book
   pub activities : All (All (λ a. a < activities book)) plan
+
+-- the plan of an outcome, where it has one, is one for the book
+abbrev pub HasPlanFor : BookSeen → Outcome → Type 0
+HasPlanFor book (Optimal plan cost) = IsPlanFor book plan
+HasPlanFor book Infeasible = ⊤
+HasPlanFor book (Between plan low high nodes) = IsPlanFor book plan
+HasPlanFor book (Above low nodes) = ⊤
 
 -- what was found: the least cost, that no plan is legal, or the bound and the cost of the best plan found
 abbrev pub first_line : Outcome → List ℕ

@@ -1,19 +1,18 @@
 use Rattle.std.proofs.Common.{◌≡◌, ◌<◌, ◌≤◌, ◌∙◌, ◌++◌, IfSome, arith, rules, length, take, true}
 use Rattle.std.specs.Result.{is_ok}
 use Rattle.tail_outside.specs.Outside.{IsRead}
-use Rattle.tailplan.specs.declared.reading.TheConstants.{READ_LIMIT}
-use Rattle.tailplan.proofs.ReadLemmas.{read-end, read-full, read-more}
-use Rattle.tailplan.proofs.reading.read_pieces.Goals as goal
+use Rattle.tail_outside.proofs.ReadLemmas.{read-end, read-full, read-more}
+use Rattle.tail_outside.proofs.reading.read_pieces.Goals as goal
 
 pub returns-then-count-eq0-clause-bytes : goal.returns-then-count-eq0-clause-bytes
 returns-then-count-eq0-clause-bytes g c =
     let inv = c.pieces.invariant in
     let at : c.len-in-pieces.result ≡ length c.pieces.bytes.items = search rules in
-    let short : length c.pieces.bytes.items ≤ READ_LIMIT = search rules in
+    let short : length c.pieces.bytes.items ≤ c.args.limit = search rules in
     let room : 0 < length c.read_at.new.into = search rules in
     let read : IfSome (g.F.Files.holds c.pieces.files c.args.name.now) (λ bytes. IsRead bytes (length c.pieces.bytes.items) c.read_at.new.into 0) =
     rw (at, c.if-count-eq0.true) at c.in_ok-count.ensures.read in
-    read-end _ _ _ _ READ_LIMIT (inv.same c.args.name.now) inv.begins read room short
+    read-end _ _ _ _ c.args.limit (inv.same c.args.name.now) inv.begins read room short
 
 pub pieces-preserved : goal.pieces-preserved
 pieces-preserved g c =
@@ -32,5 +31,5 @@ pieces-preserved g c =
 
 pub returns-clause-bytes : goal.returns-clause-bytes
 returns-clause-bytes g c =
-    let long : READ_LIMIT ≤ length c.pieces.bytes.items = search rules in
-    rw c.truncate.ensures.items (read-full _ _ READ_LIMIT long c.pieces.invariant.begins)
+    let long : c.args.limit ≤ length c.pieces.bytes.items = search rules in
+    rw c.truncate.ensures.items (read-full _ _ c.args.limit long c.pieces.invariant.begins)

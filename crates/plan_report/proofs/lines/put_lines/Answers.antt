@@ -1,7 +1,7 @@
 use Rattle.std.proofs.Common.{arith}
 use Rattle.std.proofs.lemmas.List.{take_all}
-use Rattle.tailplan.proofs.SinkLemmas.{adds-nothing, adds-more, adds-front, risen-after, text_of-more, text_of-around}
-use Rattle.tailplan.proofs.lines.put_lines.Goals as goal
+use Rattle.plan_report.proofs.SinkLemmas.{adds-nothing, adds-more, adds-front, risen-after, text_of-more, text_of-around}
+use Rattle.plan_report.proofs.lines.put_lines.Goals as goal
 
 pub loop-line-init : goal.loop-line-init
 loop-line-init g c = record { taken = λ lasts. adds-nothing _; beside = g.met.S.Sink.beside_same c.args.out.now; counts = omega arith }

@@ -1,8 +1,8 @@
 //! The report of an outcome, line by line.
 
-ghost use Rattle.std.specs.Prelude.{◌≡◌, ◌++◌, ◌<◌, ◌≤◌, length, IfOk, OnOk, All, codes};
+ghost use Rattle.std.specs.Prelude.{◌≡◌, ◌++◌, ◌<◌, IfOk, OnOk, All, codes};
 ghost use Rattle.tail_book.specs.Lookup.{activities, activity_of, aircraft};
-ghost use Rattle.tailplan.specs.Report.{IsPlanFor, aircraft_line, aircraft_lines, first_line, ids_of, report_lines, routes_of};
+ghost use Rattle.plan_report.specs.Report.{HasPlanFor, IsPlanFor, aircraft_line, aircraft_lines, first_line, ids_of, report_lines};
 
 use std::alloc::Global;
 use tail_book::{Book, Memory, Outcome, Route};
@@ -10,7 +10,7 @@ use tail_text::Line;
 
 /// The lines of the report.
 pub fn report_lines(alloc: Global, book: &Book, outcome: &Outcome) -> Result<Vec<Line>, Memory>
-    requires { IsPlanFor book.now (routes_of outcome.now) }
+    requires { HasPlanFor book.now outcome.now }
     ensures { IfOk result (λ lines. lines.items ≡ report_lines book.now outcome.now) }
 {
     let mut lines = Vec::new(alloc);

@@ -2,7 +2,7 @@
 use Rattle.std.proofs.Common.{◌≡◌, ◌∙◌, ℕ, ◌+◌, ◌<◌, ◌≤◌, inl, inr, List, [], ◌∷◌, ◌++◌, Option, Some, None, length, take, drop, get_or, refl, ap, sym, arith, append_assoc}
 use Rattle.std.proofs.lemmas.List.{append-nil, drop_more, take_more, take-append-drop}
 use Rattle.tail_outside.specs.Outside.{Adds, AddsFront, HasRisen}
-use Rattle.tailplan.specs.Lines.{text_of}
+use Rattle.plan_report.specs.Lines.{text_of}
 
 pub adds-nothing : (told : Option (List ℕ)) → Adds told told []
 adds-nothing None = tt

@@ -1,9 +1,9 @@
--- What is printed where the words or a table are refused.
+-- What is printed where a table is refused.
 use Rattle.std.specs.Prelude.{ℕ, List, ◌++◌, codes, decimal}
 use Rattle.tail_text.specs.declared.refusal.Refusal.{Refusal}
 use Rattle.tail_text.specs.declared.refusal.Table.{Table}
 use Rattle.tail_text.specs.declared.refusal.Table.TheVariants.{Timetable, Fleet, Rules, Plan}
-use Rattle.tailplan.specs.Lines.{newline}
+use Rattle.plan_report.specs.Lines.{newline}
 
 -- how a table is called
 abbrev pub table_name : Table → List ℕ
@@ -15,7 +15,3 @@ table_name Plan = codes "plan"
 -- the refusal's code, its table and its place
 abbrev pub refusal_line : Refusal → List ℕ
 refusal_line refusal = codes "refused " ++ decimal refusal.code ++ codes " " ++ table_name refusal.table ++ codes " " ++ decimal refusal.place ++ newline
-
--- the words that the program takes
-abbrev pub usage_line : List ℕ
-usage_line = codes "usage: tailplan TIMETABLE FLEET" ++ newline

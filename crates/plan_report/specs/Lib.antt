@@ -1,0 +1,4 @@
+pub mod Lines
+pub mod Refused
+pub mod Report
+pub mod Laws

@@ -1,0 +1,11 @@
+//! The report of an outcome, both ways, and the texts that both programs print.
+#![tactic(auto)]
+
+pub mod laws;
+mod lines;
+mod refused;
+mod report;
+
+pub use lines::put_lines;
+pub use refused::refusal_line;
+pub use report::report_lines;
