@@ -1,4 +1,6 @@
 pub mod Lines
 pub mod Refused
+pub mod Parts
+pub mod PartsLeft
 pub mod Report
 pub mod Laws

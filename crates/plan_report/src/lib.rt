@@ -3,8 +3,10 @@
 
 pub mod laws;
 mod lines;
+mod parts;
 mod refused;
 mod report;
+mod text_lines;
 
 pub use lines::put_lines;
 pub use refused::refusal_line;
