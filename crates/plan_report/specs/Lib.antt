@@ -4,3 +4,4 @@ pub mod Parts
 pub mod PartsLeft
 pub mod Report
 pub mod Laws
+pub mod PlanText
