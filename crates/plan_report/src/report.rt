@@ -1,12 +1,36 @@
 //! The report of an outcome, line by line.
 
-ghost use Rattle.std.specs.Prelude.{◌≡◌, ◌++◌, ◌<◌, IfOk, OnOk, All, codes};
+ghost use Rattle.std.specs.Prelude.{◌≡◌, ◌++◌, ◌<◌, ◌≤◌, false, IfOk, OnOk, OnErr, IsErrOf, All, codes};
 ghost use Rattle.tail_book.specs.Lookup.{activities, activity_of, aircraft};
-ghost use Rattle.plan_report.specs.Report.{HasPlanFor, IsPlanFor, aircraft_line, aircraft_lines, first_line, ids_of, report_lines};
+ghost use Rattle.tail_outside.specs.Outside.{Adds, AddsFront, HasRisen};
+ghost use Rattle.plan_report.specs.Report.{HasPlanFor, IsPlanFor, aircraft_line, aircraft_lines, first_line, ids_of, report, report_lines};
 
+use crate::writing::{ReportFail, write_lines};
 use std::alloc::Global;
 use tail_book::{Book, Memory, Outcome, Route};
+use tail_outside::Sink;
 use tail_text::Line;
+
+/// Writes the report of an outcome, one put a line: what was found, and with a plan a line for each aircraft.
+/// All lines are made before the first is put.
+pub fn write_report<S: Sink>(
+    alloc: Global,
+    book: &Book,
+    outcome: &Outcome,
+    out: &mut S,
+) -> Result<(), ReportFail>
+    requires { HasPlanFor book.now outcome.now }
+    ensures taken { OnOk result (S.ceased out.new ≡ false → Adds (S.told out.old) (S.told out.new) (report book.now outcome.now)) }
+    ensures front { OnErr result (S.ceased out.new ≡ false → AddsFront (S.told out.old) (S.told out.new) (report book.now outcome.now)) }
+    ensures beside { S.beside out.old out.new }
+    ensures counts { S.faults out.old ≤ S.faults out.new }
+    ensures cause { IsErrOf result ReportFail.Write → HasRisen (S.faults out.old) (S.faults out.new) }
+{
+    let Ok(lines) = report_lines(alloc, book, outcome) else {
+        return Err(ReportFail::Memory);
+    };
+    write_lines(&lines, out)
+}
 
 /// The lines of the report.
 pub fn report_lines(alloc: Global, book: &Book, outcome: &Outcome) -> Result<Vec<Line>, Memory>
