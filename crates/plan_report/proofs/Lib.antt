@@ -3,3 +3,6 @@ pub mod Writable
 pub mod PartLemmas
 pub mod IdLemmas
 pub mod LineLemmas
+pub mod DecimalLemmas
+pub mod NameBytes
+pub mod CountLemmas
