@@ -6,3 +6,6 @@ pub mod LineLemmas
 pub mod DecimalLemmas
 pub mod NameBytes
 pub mod CountLemmas
+pub mod TextLemmas
+pub mod NamedLines
+pub mod ReadBack

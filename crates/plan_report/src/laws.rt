@@ -1,6 +1,6 @@
 //! Laws over the definitions alone: the contract of each function is the law.
 
-ghost use Rattle.plan_report.specs.Laws.{TrueOutcomesCanBeWritten};
+ghost use Rattle.plan_report.specs.Laws.{ReportIsReadBack, TrueOutcomesCanBeWritten};
 
 use tail_book::laws;
 
@@ -10,3 +10,8 @@ pub fn true_outcomes_can_be_written()
 {
     laws::legal_routes_rise();
 }
+
+/// What is written of an outcome with a plan is read as the names of that plan.
+pub fn report_is_read_back()
+    ensures { ReportIsReadBack }
+{}
