@@ -3,8 +3,6 @@
 
 mod answer;
 mod lines;
-mod reading;
-mod report;
 mod run;
 
 use run::{NO_MEMORY, Status, solve_run};
