@@ -1,3 +1,4 @@
 pub mod Cut
-pub mod WordLemmas
+pub mod Examples
+pub mod WordLaws
 pub mod Promised

@@ -4,4 +4,4 @@ use Rattle.plan_report.specs.Lines.{newline}
 
 -- the words that the program takes
 abbrev pub usage_line : List ℕ
-usage_line = codes "usage: tailplan TIMETABLE FLEET" ++ newline
+usage_line = codes "usage: tailplan TIMETABLE FLEET RULES [--nodes N] [--cert FILE]" ++ newline

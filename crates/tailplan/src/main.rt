@@ -4,6 +4,8 @@
 mod answer;
 mod lines;
 mod run;
+mod usage;
+mod words;
 
 use run::{NO_MEMORY, Status, solve_run};
 use std::io;
