@@ -81,7 +81,15 @@ fn nothing_to_fly(rt: HostRuntime) -> Result<(), Fail> {
     let rows = [aircraft(P), aircraft(P)];
     assert!(rt; is_least(&rt, alloc, plain(alloc, 30)?, &rows, &[], 0, &[none, none])?);
     assert!(rt; is_least(&rt, alloc, plain(alloc, 30)?, &[], &[], 0, &[])?);
-    assert!(rt; has_none(&rt, alloc, plain(alloc, 30)?, &[], &[flight(ARN, OSL, 360, 420)])?);
+    assert!(rt;
+        has_none(
+            &rt,
+            alloc,
+            plain(alloc, 30)?,
+            &[],
+            &[flight(ARN, OSL, 360, 420)]
+        )?
+    );
     Ok(())
 }
 
@@ -148,17 +156,82 @@ fn only_the_dearer_type_may(rt: HostRuntime) -> Result<(), Fail> {
     let alloc = rt.alloc();
     let routes = [[].as_slice(), [0].as_slice()];
     let (leg, p, q) = (flight(ARN, OSL, 360, 420), aircraft(P), aircraft(Q));
-    let typed = Leg { kind: Some(Q), ..leg };
-    assert!(rt; is_least(&rt, alloc, plain(alloc, 30)?, &[p, q], &[typed], 120, &routes)?);
-    let tagged = Leg { tag: Some(7), ..leg };
+    let typed = Leg {
+        kind: Some(Q),
+        ..leg
+    };
+    assert!(rt;
+        is_least(
+            &rt,
+            alloc,
+            plain(alloc, 30)?,
+            &[p, q],
+            &[typed],
+            120,
+            &routes
+        )?
+    );
+    let tagged = Leg {
+        tag: Some(7),
+        ..leg
+    };
     let able = TailRow { tag: Some(7), ..q };
-    assert!(rt; is_least(&rt, alloc, plain(alloc, 30)?, &[p, able], &[tagged], 120, &routes)?);
-    let wary = TailRow { avoid: Some(ARN), ..p };
-    assert!(rt; is_least(&rt, alloc, plain(alloc, 30)?, &[wary, q], &[leg], 120, &routes)?);
-    let wary = TailRow { avoid: Some(OSL), ..p };
-    assert!(rt; is_least(&rt, alloc, plain(alloc, 30)?, &[wary, q], &[leg], 120, &routes)?);
-    let assigned = Leg { tail: Some(1), ..leg };
-    assert!(rt; is_least(&rt, alloc, plain(alloc, 30)?, &[p, q], &[assigned], 120, &routes)?);
+    assert!(rt;
+        is_least(
+            &rt,
+            alloc,
+            plain(alloc, 30)?,
+            &[p, able],
+            &[tagged],
+            120,
+            &routes
+        )?
+    );
+    let wary = TailRow {
+        avoid: Some(ARN),
+        ..p
+    };
+    assert!(rt;
+        is_least(
+            &rt,
+            alloc,
+            plain(alloc, 30)?,
+            &[wary, q],
+            &[leg],
+            120,
+            &routes
+        )?
+    );
+    let wary = TailRow {
+        avoid: Some(OSL),
+        ..p
+    };
+    assert!(rt;
+        is_least(
+            &rt,
+            alloc,
+            plain(alloc, 30)?,
+            &[wary, q],
+            &[leg],
+            120,
+            &routes
+        )?
+    );
+    let assigned = Leg {
+        tail: Some(1),
+        ..leg
+    };
+    assert!(rt;
+        is_least(
+            &rt,
+            alloc,
+            plain(alloc, 30)?,
+            &[p, q],
+            &[assigned],
+            120,
+            &routes
+        )?
+    );
     Ok(())
 }
 
@@ -167,7 +240,16 @@ fn only_the_dearer_type_may(rt: HostRuntime) -> Result<(), Fail> {
 fn each_its_own(rt: HostRuntime) -> Result<(), Fail> {
     let (alloc, rows) = (rt.alloc(), [aircraft(P), aircraft(P)]);
     let leg = flight(ARN, OSL, 360, 420);
-    let legs = [Leg { tail: Some(1), ..leg }, Leg { tail: Some(0), ..leg }];
+    let legs = [
+        Leg {
+            tail: Some(1),
+            ..leg
+        },
+        Leg {
+            tail: Some(0),
+            ..leg
+        },
+    ];
     let routes = [[1].as_slice(), [0].as_slice()];
     assert!(rt; is_least(&rt, alloc, plain(alloc, 30)?, &rows, &legs, 120, &routes)?);
     Ok(())
@@ -283,7 +365,16 @@ fn carried_above_the_limit(rt: HostRuntime) -> Result<(), Fail> {
     let rules = counted(alloc, CounterKind::Minutes, 120, Vec::new(alloc))?;
     assert!(rt; has_none(&rt, alloc, rules, &[away], &[flight(OSL, ARN, 360, 420)])?);
     let rules = counted(alloc, CounterKind::Minutes, 120, Vec::new(alloc))?;
-    assert!(rt; costs(&rt, alloc, rules, &[used], &[flight(ARN, OSL, 360, 420)], 60)?);
+    assert!(rt;
+        costs(
+            &rt,
+            alloc,
+            rules,
+            &[used],
+            &[flight(ARN, OSL, 360, 420)],
+            60
+        )?
+    );
     Ok(())
 }
 
@@ -302,11 +393,23 @@ fn dear_connection_saves_a_landing(rt: HostRuntime) -> Result<(), Fail> {
     let rules = counted(alloc, CounterKind::Landings, 3, bands)?;
     let first = Some(0);
     let legs = [
-        Leg { tail: first, ..flight(ARN, OSL, 360, 420) },
-        Leg { tail: first, ..flight(OSL, ARN, 450, 510) },
+        Leg {
+            tail: first,
+            ..flight(ARN, OSL, 360, 420)
+        },
+        Leg {
+            tail: first,
+            ..flight(OSL, ARN, 450, 510)
+        },
         ground(ARN, 540, 585),
-        Leg { tail: first, ..flight(ARN, OSL, 600, 660) },
-        Leg { tail: first, ..flight(OSL, ARN, 690, 750) },
+        Leg {
+            tail: first,
+            ..flight(ARN, OSL, 600, 660)
+        },
+        Leg {
+            tail: first,
+            ..flight(OSL, ARN, 690, 750)
+        },
     ];
     let routes = [[0, 1, 3, 4].as_slice(), [2].as_slice()];
     assert!(rt; is_least(&rt, alloc, rules, &rows, &legs, 740, &routes)?);
@@ -340,10 +443,22 @@ fn first_band_that_reaches(rt: HostRuntime) -> Result<(), Fail> {
 fn ten_flights_on_four_aircraft(rt: HostRuntime) -> Result<(), Fail> {
     let alloc = rt.alloc();
     let rows = [
-        TailRow { fixed: 10, ..aircraft(P) },
-        TailRow { fixed: 0, ..aircraft(P) },
-        TailRow { fixed: 12, ..aircraft(P) },
-        TailRow { fixed: 5, ..aircraft(P) },
+        TailRow {
+            fixed: 10,
+            ..aircraft(P)
+        },
+        TailRow {
+            fixed: 0,
+            ..aircraft(P)
+        },
+        TailRow {
+            fixed: 12,
+            ..aircraft(P)
+        },
+        TailRow {
+            fixed: 5,
+            ..aircraft(P)
+        },
     ];
     let mut legs = [flight(ARN, ARN, 360, 450); 10];
     for a in 0..10 {
