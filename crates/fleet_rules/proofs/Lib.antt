@@ -1,2 +1,3 @@
+mod CarryExamples
 pub mod EntryLemmas
 pub mod TomlLemmas
