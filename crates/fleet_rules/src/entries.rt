@@ -99,11 +99,7 @@ fn tables_among<'a>(alloc: Global, values: &'a [Value]) -> Result<Vec<&'a Table>
 }
 
 // The entries that these tables give, each refused at its number.
-fn entries_from<E: Entry>(
-    alloc: Global,
-    tables: &[&Table],
-    before: u64,
-) -> Result<Vec<E>, Stopped>
+fn entries_from<E: Entry>(alloc: Global, tables: &[&Table], before: u64) -> Result<Vec<E>, Stopped>
     requires few { before ≤ 1_000 }
     ensures value { Answers (λ entries. entries.items) (entries_from E.section (before + 1) E.section.limit (map (λ t. table_view t.now) tables.now)) result }
     ensures few { IfOk result (λ entries. length entries.items ≤ E.section.limit) }

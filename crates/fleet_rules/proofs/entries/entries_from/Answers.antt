@@ -21,10 +21,11 @@ loop-table-preserved g c =
     let left = map-drop (λ t. table_view t.now) c.args.tables.now c.loop-table.table-index c.table-item.result (c.loop-table-test.true, c.table-item.is) in
     let good : entry_in g.E.Entry.section (g.E.Entry.section.limit - length c.loop-table.entries.items) (table_view c.table-item.result.now) ≡ Ok c.in-Ok.entry = search rules in
     let room : 0 < g.E.Entry.section.limit - length c.loop-table.entries.items = entry_in-room g.E.Entry.section _ _ _ good in
-    let items = rw c.if-is_err.ensures.negation at c.push.ensures.items in
-    (omega (arith, c.push.ensures.len, ap length items, room),
-    rw items (All-push g.E.Entry.sound _ _ c.loop-table.invariant.1 c.in-Ok.ensures.sound),
-    rw items (turn-good _ _ _ _ _ c.loop-table.invariant.2 _ _ _ left good))
+    let items = rw c.if-is_err.ensures.negation at c.push.ensures.items in (
+      omega (arith, c.push.ensures.len, ap length items, room),
+      rw items (All-push g.E.Entry.sound _ _ c.loop-table.invariant.1 c.in-Ok.ensures.sound),
+      rw items (turn-good _ _ _ _ _ c.loop-table.invariant.2 _ _ _ left good),
+    )
 
 -- at the end no table is left
 pub returns-clause-value : goal.returns-clause-value
