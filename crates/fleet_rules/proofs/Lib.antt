@@ -1,3 +1,4 @@
+mod RulesExamples
 pub mod CarryLemmas
 pub mod EntryLemmas
 pub mod TomlLemmas
