@@ -435,6 +435,33 @@ fn rules_are_read_up_to_their_first_refusal(rt: HostRuntime) -> Result<(), Fail>
     Ok(())
 }
 
+// A key `band` with so many arrays in one another.
+fn nested(alloc: Global, deep: usize) -> Result<String, AllocError> {
+    let mut text = String::new(alloc);
+    text.push_str("band = ")?;
+    for _ in 0..deep {
+        text.push_str("[")?;
+    }
+    for _ in 0..deep {
+        text.push_str("]")?;
+    }
+    Ok(text)
+}
+
+// A text that nests deeper than TOML is read here is refused as a whole.
+#[test]
+fn texts_nest_at_most_80_deep(rt: HostRuntime) -> Result<(), Fail> {
+    for (deep, want) in [
+        (1, Ok([0, 0, 0, 0, 0])),
+        (80, Err((4, 0))),
+        (81, Err((13, 0))),
+    ] {
+        let text = nested(rt.alloc(), deep)?;
+        assert_eq!(rt; read(rt.alloc(), text.as_str()), want, "{deep}");
+    }
+    Ok(())
+}
+
 // The size and the bytes come before what is written.
 #[test]
 fn rules_have_a_size_and_are_text(rt: HostRuntime) -> Result<(), Fail> {
