@@ -1,6 +1,7 @@
 pub mod NameTurns
-pub mod NameLemmas
 pub mod OrderLemmas
-pub mod MadeLemmas
-pub mod RowLemmas
-pub mod Examples
+pub mod EachLemmas
+pub mod EntryLemmas
+pub mod FoundLemmas
+pub mod JudgeLemmas
+pub mod CarryLemmas

@@ -4,7 +4,7 @@ use Rattle.std.proofs.lemmas.List.{drop_all, drop_more, length-take-le, take_mor
 use Rattle.std.specs.List.{list_any}
 use Rattle.std.specs.Str.{bytes_eq}
 use Rattle.indexmap.specs.IndexSet.{insert_key}
-use Rattle.book_maker.specs.Names.{distinct_from, repeat_from, with_name}
+use Rattle.book_maker.specs.Names.{distinct_from, with_name}
 
 module _ (names : List (List ℕ)) (i : ℕ) (x : List ℕ) (within : i < length names) (here : x ≡ get_or names i x) where
   next : drop i names ≡ x ∷ drop (i + 1) names
@@ -13,25 +13,10 @@ module _ (names : List (List ℕ)) (i : ℕ) (x : List ℕ) (within : i < length
   pub taken : take (i + 1) names ≡ take i names ++ x ∷ []
   taken = take_more names i x within ∙ rw (← here) refl
 
-  -- a name that stands before is the first repeat
-  pub repeat-old : list_any (bytes_eq x) (take i names) ≡ true → repeat_from (take i names) (drop i names) ≡ Some i
-  unfolding repeat_from
-  repeat-old e = rw (next, e) (ap Some (length-take-le i names (omega arith)))
-
-  -- behind a new name the search goes on
-  pub repeat-new : list_any (bytes_eq x) (take i names) ≡ false → repeat_from (take i names) (drop i names) ≡ repeat_from (take (i + 1) names) (drop (i + 1) names)
-  unfolding repeat_from
-  repeat-new e = rw (next, taken, e) refl
-
   -- a name goes into the set
   pub distinct-next : (seen : List (List ℕ)) → distinct_from seen (drop i names) ≡ distinct_from (with_name seen x) (drop (i + 1) names)
   unfolding distinct_from
   distinct-next seen = rw next refl
-
--- behind the last name no name repeats
-pub repeat-end : (names : List (List ℕ)) (i : ℕ) → length names ≤ i → repeat_from (take i names) (drop i names) ≡ None
-unfolding repeat_from
-repeat-end names i h = rw (drop_all i names h) refl
 
 -- behind the last name the set stays
 pub distinct-end : (names seen : List (List ℕ)) (i : ℕ) → length names ≤ i → distinct_from seen (drop i names) ≡ seen

@@ -1,4 +1,10 @@
 pub mod Names
+pub mod Known
+pub mod KnownParts
+pub mod Entries
+pub mod RulesFound
+pub mod TailFound
+pub mod ActivityFound
+pub mod FoundSound
 pub mod Order
-pub mod Numbered
 pub mod Made

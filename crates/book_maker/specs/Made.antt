@@ -1,49 +1,48 @@
--- The book of the two tables' records, or the first refusal.
-use Rattle.std.specs.Prelude.{ℕ, ◌+◌, List, map, Option, None, Some, option_map, Result, Ok, Err}
-use Rattle.tail_book.specs.Seen.{BookSeen}
-use Rattle.tail_text.specs.Reading.{refusal_at}
-use Rattle.tail_text.specs.declared.refusal.Refusal.{Refusal}
-use Rattle.tail_text.specs.declared.refusal.Table.{Table}
-use Rattle.tail_text.specs.declared.refusal.Table.TheVariants.{Fleet, Timetable}
+-- The book of the three tables, or the first refusal.
+use Rattle.std.specs.Prelude.{ℕ, List, [], ◌∷◌, ◌++◌, map, Option, Some, Result, Ok}
+use Rattle.tail_book.specs.Seen.{ActivitySeen, BookSeen, TailSeen}
 use Rattle.tail_text.specs.Checks.{look}
+use Rattle.tail_text.specs.declared.refusal.Refusal.{Refusal}
+use Rattle.tail_text.specs.declared.refusal.Table.TheVariants.{Fleet, Timetable}
 use Rattle.timetable_reader.specs.Activity.{RawActivitySeen}
-use Rattle.timetable_reader.specs.Timetable.{timetable_of}
-use Rattle.fleet_rules.specs.Fleet.{fleet_of}
+use Rattle.fleet_rules.specs.RawRules.{RawRulesSeen}
 use Rattle.fleet_rules.specs.Tail.{RawTailSeen}
-use Rattle.book_maker.specs.Names.{first_repeat}
-use Rattle.book_maker.specs.Numbered.{activity_in, airports_of, built_in_rules, kinds_of, tail_in}
+use Rattle.book_maker.specs.Names.{distinct_names}
+use Rattle.book_maker.specs.Entries.{entries_in}
+use Rattle.book_maker.specs.RulesFound.{airport_names, counter_names, kind_names, rules_in}
+use Rattle.book_maker.specs.TailFound.{tail_in}
+use Rattle.book_maker.specs.ActivityFound.{activity_in}
 use Rattle.book_maker.specs.Order.{in_order}
 
--- the refusal of the first name that equals an earlier one, at its record: the header is record 1, so the first name stands in record 2
-abbrev pub repeat_in : Table → List (List ℕ) → Option Refusal
-repeat_in table names = option_map (λ place. refusal_at 11 table (place + 2)) (first_repeat names)
+-- the lists of a list, one after the other
+unfoldable pub joined : List (List (List ℕ)) → List (List ℕ)
+joined [] = []
+joined (names ∷ more) = names ++ joined more
 
--- a refusal, if there is one, and otherwise what follows
-abbrev pub unless : {A : Type 0} → Option Refusal → Result A Refusal → Result A Refusal
-unless (Some refusal) next = Err refusal
-unless None next = next
+-- the tags that the tables name, in order of first appearance, the fleet before the timetable
+abbrev pub tags_of : List RawTailSeen → List RawActivitySeen → List (List ℕ)
+tags_of tails activities = distinct_names (joined (map (λ t. t.tags) tails) ++ joined (map (λ a. a.tags) activities))
 
--- the book of records whose ids and names differ: activities in order, and aircraft in the order of the fleet
-abbrev pub book_in : List RawActivitySeen → List RawTailSeen → BookSeen
-book_in activities tails =
-    let kinds = kinds_of tails in
-    let airports = airports_of activities tails in
-    record {
-      activities = in_order (map (activity_in airports) activities);
-      tails = map (tail_in kinds airports) tails;
-      rules = built_in_rules kinds airports;
-    }
+-- the aircraft with numbers; the header is record 1 of its table, so the first aircraft stands in record 2
+abbrev pub tails_in : RawRulesSeen → List (List ℕ) → List RawTailSeen → Result (List TailSeen) Refusal
+tails_in rules tags tails =
+    entries_in Fleet 2 (λ t. Some t.name) (tail_in (kind_names rules) (airport_names rules) (counter_names rules) tags) tails
 
--- the book of the records, or their first refusal: no two aircraft have one name, and then no two activities have one id
-abbrev pub made_of : List RawActivitySeen → List RawTailSeen → Result BookSeen Refusal
-made_of activities tails =
-    unless (repeat_in Fleet (map (λ t. t.name) tails)) (
-    unless (repeat_in Timetable (map (λ a. a.id) activities)) (
-    Ok (book_in activities tails)))
+-- the activities with numbers, in the order of their table
+abbrev pub activities_in : RawRulesSeen → List RawTailSeen → List (List ℕ) → List RawActivitySeen → Result (List ActivitySeen) Refusal
+activities_in rules tails tags activities =
+    entries_in Timetable 2 (λ a. Some a.id)
+    (activity_in (kind_names rules) (airport_names rules) (counter_names rules) (map (λ t. t.name) tails) tags) activities
 
--- the book of a timetable and a fleet, or the first refusal: of the timetable, of the fleet, and then of both together
-unfoldable pub book_of : List ℕ → List ℕ → Result BookSeen Refusal
-book_of timetable fleet =
-    look (timetable_of timetable) (λ activities.
-    look (fleet_of fleet) (λ tails.
-    made_of activities tails))
+-- the book of the records, or their first refusal: that of the rules, of the fleet, and then of the timetable
+abbrev pub made_of : List RawActivitySeen → List RawTailSeen → RawRulesSeen → Result BookSeen Refusal
+made_of activities tails rules =
+    let tags = tags_of tails activities in
+    look (rules_in rules) (λ numbered_rules.
+    look (tails_in rules tags tails) (λ numbered_tails.
+    look (activities_in rules tails tags activities) (λ numbered_activities.
+    Ok (record {
+      activities = in_order numbered_activities;
+      tails = numbered_tails;
+      rules = numbered_rules;
+    }))))

@@ -1,15 +1,11 @@
-//! The book of a timetable and a fleet: names are numbered, activities are put in order, and rules are added.
+//! The book of a timetable, a fleet and rules: names are numbered, and activities are put in order.
 #![tactic(auto)]
 
-mod built_in;
-mod make;
+mod activities;
+mod carry;
+mod entries;
+mod known;
 mod names;
-mod numbered;
 mod order;
-mod read;
-
-pub use make::make_book;
-pub use read::read_book;
-
-#[cfg(test)]
-mod tests;
+mod rules;
+mod tails;

@@ -1,28 +1,14 @@
-//! Names that repeat, and the numbers that names get.
+//! The numbers that names get.
 //! A set that keeps the order of insertion finds a name at once, so each list of names is passed over once.
 
-ghost use Rattle.std.specs.Prelude.{◌≡◌, ◌<◌, ◌^◌, length, IfOk, IfSome, IsTrue};
-ghost use Rattle.book_maker.specs.Names.{distinct_names, first_repeat, is_among, number_in};
+ghost use Rattle.std.specs.Prelude.{◌≡◌, ◌<◌, ◌^◌, length, map, IfOk};
+ghost use Rattle.table_records.specs.NoRow.{Judges};
+ghost use Rattle.book_maker.specs.Names.{distinct_names, number_in, numbers_in, optional_number_in, place_in};
 
 use indexmap::IndexSet;
 use std::alloc::Global;
+use table_records::NoRow;
 use tail_book::{Memory, Name};
-
-/// The place of the first name that equals an earlier one.
-pub fn first_repeat(alloc: Global, names: &[Name]) -> Result<Option<usize>, Memory>
-    ensures first { IfOk result (λ place. place ≡ first_repeat names.now) }
-    ensures within { IfOk result (λ place. IfSome place (λ i. i < length names.now)) }
-{
-    let mut seen = IndexSet::new(alloc);
-    for (place, name) in names.iter().enumerate() {
-        match seen.insert_full(*name) {
-            Ok((_, true)) => {}
-            Ok((_, false)) => return Ok(Some(place)),
-            Err(_) => return Err(Memory),
-        }
-    }
-    Ok(None)
-}
 
 /// The distinct names, in order of first appearance.
 pub fn distinct_names(alloc: Global, names: &[Name]) -> Result<IndexSet<Name>, Memory>
@@ -35,11 +21,72 @@ pub fn distinct_names(alloc: Global, names: &[Name]) -> Result<IndexSet<Name>, M
     Ok(set)
 }
 
-/// The number of a name among others.
-pub fn number_in(names: &IndexSet<Name>, name: Name) -> u32
-    requires known { IsTrue (is_among names.now.keys name) }
+/// The number of a name among those that are known, or code 12.
+pub fn number_in(names: &IndexSet<Name>, name: Name) -> Result<u32, u8>
     requires few { length names.now.keys < 2 ^ 32 }
     ensures { result ≡ number_in names.now.keys name }
 {
-    names.get_index_of(&name).unwrap() as u32
+    match names.get_index_of(&name) {
+        Some(number) => Ok(number as u32),
+        None => Err(12),
+    }
+}
+
+/// The number of a name, if there is one to look up, or code 12.
+pub fn optional_number_in(names: &IndexSet<Name>, name: Option<Name>) -> Result<Option<u32>, u8>
+    requires few { length names.now.keys < 2 ^ 32 }
+    ensures { result ≡ optional_number_in names.now.keys name }
+{
+    match name {
+        Some(name) => Ok(Some(number_in(names, name)?)),
+        None => Ok(None),
+    }
+}
+
+/// The numbers of several names, or code 12.
+pub fn numbers_in(
+    alloc: Global,
+    names: &IndexSet<Name>,
+    list: &[Name],
+) -> Result<Vec<u32>, NoRow>
+    requires few { length names.now.keys < 2 ^ 32 }
+    ensures { Judges (λ v. v.items) (numbers_in names.now.keys list.now) result }
+{
+    let mut numbers = Vec::new(alloc);
+    for i in 0..list.len() {
+        let number = match number_in(names, list[i]) {
+            Ok(number) => number,
+            Err(code) => return Err(NoRow::Code(code)),
+        };
+        if numbers.push(number).is_err() {
+            return Err(NoRow::Memory);
+        }
+    }
+    Ok(numbers)
+}
+
+/// The numbers of names that are not declared.
+pub fn places_in(
+    alloc: Global,
+    names: &IndexSet<Name>,
+    list: &[Name],
+) -> Result<Vec<u32>, Memory>
+    requires few { length names.now.keys < 2 ^ 32 }
+    ensures { IfOk result (λ v. v.items ≡ map (place_in names.now.keys) list.now) }
+{
+    let mut places = Vec::new(alloc);
+    for name in list {
+        places.push(place_in(names, *name))?;
+    }
+    Ok(places)
+}
+
+fn place_in(names: &IndexSet<Name>, name: Name) -> u32
+    requires few { length names.now.keys < 2 ^ 32 }
+    ensures { result ≡ place_in names.now.keys name }
+{
+    match names.get_index_of(&name) {
+        Some(place) => place as u32,
+        None => 0,
+    }
 }

@@ -1,4 +1,3 @@
 mod RulesExamples
-pub mod CarryLemmas
 pub mod EntryLemmas
 pub mod TomlLemmas

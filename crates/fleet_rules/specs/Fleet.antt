@@ -6,8 +6,8 @@ use Rattle.table_records.specs.Fields.{field_at}
 use Rattle.tail_text.specs.Checks.{look}
 use Rattle.table_records.specs.Layout.{Layout, table_of}
 use Rattle.table_records.specs.NameLists.{names_of}
-use Rattle.table_records.specs.Values.{name_in, stamp_in}
-use Rattle.fleet_rules.specs.Carry.{carry_in, number_in}
+use Rattle.table_records.specs.Values.{name_in, number_in, stamp_in}
+use Rattle.fleet_rules.specs.Carry.{carry_in}
 use Rattle.fleet_rules.specs.Tail.{RawTailSeen}
 use Rattle.fleet_rules.specs.declared.fleet.TheConstants.{TAIL_LIMIT}
 

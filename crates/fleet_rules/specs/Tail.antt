@@ -3,7 +3,7 @@ use Rattle.std.specs.Prelude.{ℕ, ◌≡◌, ◌≤◌, true, List, length, All
 use Rattle.tail_book.specs.Name.{is_name}
 use Rattle.tail_book.specs.Sound.{IsMoment, IsWithin}
 use Rattle.table_records.specs.NameLists.{AreNames}
-use Rattle.fleet_rules.specs.declared.carry.TheConstants.{CARRY_LIMIT}
+use Rattle.table_records.specs.declared.lists.TheConstants.{ITEM_LIMIT}
 use Rattle.fleet_rules.specs.declared.tail.RawCarry.{RawCarry}
 
 -- the fields of a record: names as their bytes, ready in minutes since 1970-01-01T00:00 UTC, fixed as the cost of each activity
@@ -22,10 +22,10 @@ pub record IsRawCarry (c : RawCarry) : Type 0 where
   pub counter : is_name c.counter ≡ true
   pub value : IsWithin (pos 0) (pos 10_000_000) c.value
 
--- such values, and no more than one aircraft may come in with
+-- such values, and no more than one field may list
 pub record AreCarried (carry : List RawCarry) : Type 0 where
   pub each : All IsRawCarry carry
-  pub few : length carry ≤ CARRY_LIMIT
+  pub few : length carry ≤ ITEM_LIMIT
 
 -- what holds of every record by itself: its names are in the grammar and its numbers in range
 pub record IsRawTail (t : RawTailSeen) : Type 0 where

@@ -1,14 +1,15 @@
 //! The fleet, record by record.
 
-ghost use Rattle.std.specs.Prelude.{◌≡◌};
+ghost use Rattle.std.specs.Prelude.{◌≡◌, ◌≤◌, length, IfOk};
 ghost use Rattle.tail_text.specs.Reading.{Answers};
 ghost use Rattle.table_records.specs.NoRow.{Judges};
 ghost use Rattle.fleet_rules.specs.Fleet.{fleet, fleet_of, tail_of};
+ghost use Rattle.fleet_rules.specs.declared.fleet.TheConstants.{TAIL_LIMIT};
 
 use crate::RawTail;
-use crate::carry::{carry_in, number_in};
+use crate::carry::carry_in;
 use std::alloc::Global;
-use table_records::{Fields, NoRow, Row, name_in, names, read_table, stamp_in};
+use table_records::{Fields, NoRow, Row, name_in, names, number_in, read_table, stamp_in};
 use tail_text::{Stopped, Table};
 
 /// The most records under the header.
@@ -16,7 +17,8 @@ pub const TAIL_LIMIT: usize = 200;
 
 /// The records of a fleet in its order, or its first refusal.
 pub fn read_fleet(alloc: Global, bytes: &[u8]) -> Result<Vec<RawTail>, Stopped>
-    ensures { Answers (λ v. v.items) (fleet_of bytes.now) result }
+    ensures exact { Answers (λ v. v.items) (fleet_of bytes.now) result }
+    ensures few { IfOk result (λ v. length v.items ≤ TAIL_LIMIT) }
 {
     read_table(alloc, bytes)
 }
@@ -28,8 +30,8 @@ impl Row for RawTail {
         Table::Fleet
     }
 
-    fn limit() -> u32 {
-        TAIL_LIMIT as u32
+    fn limit() -> usize {
+        TAIL_LIMIT
     }
 
     fn width() -> usize {

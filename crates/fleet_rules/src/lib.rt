@@ -16,7 +16,6 @@ mod type_entry;
 
 pub use airport_entry::AIRPORT_LIMIT;
 pub use band_entry::BAND_LIMIT;
-pub use carry::CARRY_LIMIT;
 pub use counter_entry::COUNTER_LIMIT;
 pub use curfew_entry::CURFEW_LIMIT;
 pub use fleet::{TAIL_LIMIT, read_fleet};

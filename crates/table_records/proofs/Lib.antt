@@ -3,4 +3,5 @@ pub mod FieldLemmas
 pub mod Rest
 pub mod RowLemmas
 pub mod TextLemmas
-pub mod NameLemmas
+pub mod ListLemmas
+pub mod WordLemmas

@@ -1,7 +1,9 @@
 pub mod Fields
 pub mod Layout
+pub mod Lists
 pub mod NameLists
 pub mod NoRow
 pub mod Records
 pub mod RecordsParts
 pub mod Values
+pub mod WordsParts

@@ -2,6 +2,7 @@
 use Rattle.std.specs.Prelude.{ℕ, List, length, ◌==◌, if◌then◌else◌, Option, Some, None, Result, Ok, ℤ}
 use Rattle.tail_text.specs.Checks.{look, or_code}
 use Rattle.tail_text.specs.NameText.{name_of}
+use Rattle.tail_text.specs.Number.{number_of}
 use Rattle.tail_text.specs.Stamp.{stamp_of}
 
 -- a name, or else code 5
@@ -15,3 +16,7 @@ optional_name_in field = if length field == 0 then Ok None else look (name_in fi
 -- a moment in minutes since 1970-01-01T00:00 UTC, or else code 6
 abbrev pub stamp_in : List ℕ → Result ℤ ℕ
 stamp_in field = or_code 6 (stamp_of field)
+
+-- a number of at most so much, or else code 9
+abbrev pub number_in : ℕ → List ℕ → Result ℕ ℕ
+number_in most field = or_code 9 (number_of most field)

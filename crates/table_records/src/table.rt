@@ -4,7 +4,7 @@
 //! is looked at. What is common to the tables stands here; what a record means is for the type of its rows to say.
 
 ghost use Rattle.std.specs.Str.{is_utf8};
-ghost use Rattle.std.specs.Prelude.{◌≡◌, ◌-◌, length, true, IfOk};
+ghost use Rattle.std.specs.Prelude.{◌≡◌, ◌-◌, ◌≤◌, length, true, IfOk};
 ghost use Rattle.tail_text.specs.Reading.{Answers, refusal_at};
 ghost use Rattle.tail_text.specs.declared.refusal.Stopped.TheVariants.{Refused};
 ghost use Rattle.table_records.specs.Fields.{are_same};
@@ -48,7 +48,7 @@ pub trait Row: Drop {
         ensures { result ≡ layout.table };
 
     /// The most records under the header.
-    fn limit() -> u32
+    fn limit() -> usize
         ensures { result ≡ layout.limit };
 
     /// How many fields the header has.
@@ -66,7 +66,8 @@ pub trait Row: Drop {
 
 /// The rows of a table, or its first refusal.
 pub fn read_table<R: Row>(alloc: Global, bytes: &[u8]) -> Result<Vec<R>, Stopped>
-    ensures { Answers (λ rows. rows.items) (table_of R.layout bytes.now) result }
+    ensures exact { Answers (λ rows. rows.items) (table_of R.layout bytes.now) result }
+    ensures few { IfOk result (λ rows. length rows.items ≤ R.layout.limit) }
 {
     if bytes.len() > SIZE_LIMIT {
         return Err(refused::<R>(1, 0));
@@ -95,7 +96,8 @@ fn is_utf8(bytes: &[u8]) -> bool
 }
 
 fn rows_of<R: Row>(alloc: Global, records: &mut Records<'_>) -> Result<Vec<R>, Stopped>
-    ensures { Answers (λ rows. rows.items) (rows_of R.layout records.old) result }
+    ensures exact { Answers (λ rows. rows.items) (rows_of R.layout records.old) result }
+    ensures few { IfOk result (λ rows. length rows.items ≤ R.layout.limit) }
 {
     let mut fields = Fields::new(alloc);
     let headed = takes_header::<R>(records, &mut fields)?;
@@ -119,9 +121,10 @@ fn rows_from<R: Row>(
     records: &mut Records<'_>,
     fields: &mut Fields,
 ) -> Result<Vec<R>, Stopped>
-    ensures { Answers (λ rows. rows.items) (rows_from R.layout 2 R.layout.limit records.old) result }
+    ensures exact { Answers (λ rows. rows.items) (rows_from R.layout 2 R.layout.limit records.old) result }
+    ensures few { IfOk result (λ rows. length rows.items ≤ R.layout.limit) }
 {
-    let limit = R::limit() as usize;
+    let limit = R::limit();
     let mut rows = Vec::new(alloc);
     while records.take(fields)? {
         match record_of(alloc, limit - rows.len(), fields) {

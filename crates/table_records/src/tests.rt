@@ -1,10 +1,13 @@
-//! A small table read whole, and lists of names.
+//! A small table read whole, and the fields that several tables have.
 
 ghost use Rattle.std.specs.Prelude.{[], ◌∷◌, codes, length, ◌==◌, if◌then◌else◌, Ok, Err};
 ghost use Rattle.tail_text.specs.declared.refusal.Table.TheVariants.{Fleet};
 ghost use Rattle.table_records.specs.Fields.{field_at};
 
-use crate::{Fields, NoRow, Records, Row, SIZE_LIMIT, names, read_table};
+use crate::{
+    Fields, NoRow, Records, Row, SIZE_LIMIT, name_in, names, number_in, optional_name_in,
+    read_table, stamp_in,
+};
 use std::alloc::Global;
 use std::test::Fail;
 use tail_text::{Refusal, Stopped, Table};
@@ -25,7 +28,7 @@ impl Row for Size {
         Table::Fleet
     }
 
-    fn limit() -> u32 {
+    fn limit() -> usize {
         2
     }
 
@@ -46,48 +49,88 @@ impl Row for Size {
     }
 }
 
-fn refused(code: u8, place: u64) -> Result<Vec<Size>, Stopped> {
-    Err(Stopped::Refused(Refusal {
-        code,
-        table: Table::Fleet,
-        place,
-    }))
+// How long the names of a table are, or the code and the place of its refusal.
+fn read(alloc: Global, table: &[u8]) -> Result<Vec<Size>, (u8, u64)> {
+    match read_table::<Size>(alloc, table) {
+        Ok(rows) => Ok(rows),
+        Err(Stopped::Refused(Refusal { code, table, place })) if table == Table::Fleet => {
+            Err((code, place))
+        }
+        Err(_) => Err((0, 0)),
+    }
 }
 
+// Two records however they are written: in quotes a comma, a quote and a line end are part of a field.
+#[test]
+fn tables_are_written_in_several_ways(rt: HostRuntime) -> Result<(), Fail> {
+    for text in [
+        "name,note\nab,\"x, y\"\n\nabc,\n",
+        "\u{feff}name,note\r\nab,x\r\nabc,",
+        "name,note\rab,x\rabc,y\r",
+        "\n\r\n\"name\",note\n\nab,x\n\n\n\"abc\",\"\"",
+        "name,note\n\"a,\",x\n\"a\"\"b\",y\n",
+        "name,note\n\"a\n\",x\n\"a\r\n\",y\n",
+    ] {
+        let rows = read(rt.alloc(), text.as_bytes());
+        assert!(rt;
+            rows.is_ok_and(|rows| rows.as_slice() == [Size(2), Size(3)].as_slice()),
+            "{text}"
+        );
+    }
+    Ok(())
+}
+
+// A place is the number of a record with the header: an empty line has none, and a field's line ends make no record.
 #[test]
 fn tables_are_read_up_to_their_first_refusal(rt: HostRuntime) -> Result<(), Fail> {
-    for (text, code, place) in [
-        ("name,note\nab,\"x, y\"\n\nabc,\n", 0, 0),
-        ("\u{feff}name,note\r\nab,x\r\nabc,", 0, 0),
-        ("", 3, 1),
-        ("name\n", 3, 1),
-        ("name,notes\nab,x\n", 3, 1),
-        ("name,note\nab,x\nabc\n", 4, 3),
-        ("name,note\nab,x\n,y\n", 5, 3),
-        ("name,note\nab,x\nabc,y\n,z\n", 10, 4),
-        ("name,note\nab,x\nabc,y\nz\n", 4, 4),
+    for (text, want) in [
+        ("", (3, 1)),
+        ("\n\n", (3, 1)),
+        ("name\n", (3, 1)),
+        ("name,note,\n", (3, 1)),
+        ("name,notes\nab,x\n", (3, 1)),
+        ("Name,note\nab,x\n", (3, 1)),
+        ("\u{feff}\u{feff}name,note\n", (3, 1)),
+        ("name,note\nab,x\nabc\n", (4, 3)),
+        ("name,note\nab,x\nabc,y,\n", (4, 3)),
+        ("name,note\nab,x\n,y\n", (5, 3)),
+        ("name,note\n,x\nz\n", (5, 2)),
+        ("name,note\nz\n,x\n", (4, 2)),
+        ("\n\nname,note\n\n\r\n,y\n", (5, 2)),
+        ("name,note\n\"a\n\nb\",\"\n\"\n\n,y\n", (5, 3)),
+        ("name,note\nab,x\nabc,y\n,z\n", (10, 4)),
+        ("name,note\nab,x\nabc,y\nz\n", (4, 4)),
+        ("name,note\nab,x\nabc,y\n,z\nz\n", (10, 4)),
     ] {
-        match read_table::<Size>(rt.alloc(), text.as_bytes()) {
-            Ok(rows) => {
-                assert_eq!(rt; code, 0, "{text}");
-                assert_eq!(rt; rows.as_slice(), [Size(2), Size(3)].as_slice(), "{text}");
-            }
-            other => assert_eq!(rt; other, refused(code, place), "{text}"),
-        }
+        let got = read(rt.alloc(), text.as_bytes()).err();
+        assert_eq!(rt; got, Some(want), "{text}");
     }
     Ok(())
 }
 
 #[test]
+fn a_header_alone_has_no_rows(rt: HostRuntime) -> Result<(), Fail> {
+    for text in ["name,note", "name,note\n", "\u{feff}name,note\r\n\r\n"] {
+        let rows = read(rt.alloc(), text.as_bytes());
+        assert!(rt; rows.is_ok_and(|rows| rows.is_empty()), "{text}");
+    }
+    Ok(())
+}
+
+// The size is looked at first, and the largest one is allowed.
+#[test]
 fn a_table_has_its_size_and_is_text(rt: HostRuntime) -> Result<(), Fail> {
-    let large = vec![in rt.alloc(); 255; SIZE_LIMIT + 1]?;
+    let mut large = vec![in rt.alloc(); 255; SIZE_LIMIT]?;
+    assert_eq!(rt; read(rt.alloc(), large.as_slice()).err(), Some((2, 0)));
+    large.push(255)?;
+    assert_eq!(rt; read(rt.alloc(), large.as_slice()).err(), Some((1, 0)));
     assert_eq!(rt;
-        read_table::<Size>(rt.alloc(), large.as_slice()),
-        refused(1, 0)
+        read(rt.alloc(), b"name,note\n\xff,x\n").err(),
+        Some((2, 0))
     );
     assert_eq!(rt;
-        read_table::<Size>(rt.alloc(), b"name,note\n\xff,x\n"),
-        refused(2, 0)
+        read(rt.alloc(), b"name,note\nab\n\xe2\x82").err(),
+        Some((2, 0))
     );
     Ok(())
 }
@@ -128,5 +171,57 @@ fn names_stand_between_single_spaces(rt: HostRuntime) -> Result<(), Fail> {
         };
         assert_eq!(rt; got, want, "{field}");
     }
+    Ok(())
+}
+
+#[test]
+fn numbers_have_no_zero_in_front(rt: HostRuntime) -> Result<(), Fail> {
+    for (field, want) in [
+        ("0", Ok(0)),
+        ("7", Ok(7)),
+        ("300", Ok(300)),
+        ("301", Err(9)),
+        ("18446744073709551616", Err(9)),
+        ("", Err(9)),
+        ("00", Err(9)),
+        ("007", Err(9)),
+        ("-1", Err(9)),
+        ("+1", Err(9)),
+        ("1.5", Err(9)),
+        (" 1", Err(9)),
+    ] {
+        assert_eq!(rt; number_in(field.as_bytes(), 300), want, "{field}");
+    }
+    assert_eq!(rt;
+        number_in(b"18446744073709551615", 18_446_744_073_709_551_615),
+        Ok(18_446_744_073_709_551_615)
+    );
+    Ok(())
+}
+
+// Where a name may be missing, an empty field names nobody.
+#[test]
+fn fields_hold_names_and_moments(rt: HostRuntime) -> Result<(), Fail> {
+    for (field, is_name) in [
+        ("LN-ABC", true),
+        ("ABCDEFGHIJKLMNOP", true),
+        ("ABCDEFGHIJKLMNOPQ", false),
+        ("-", false),
+        ("A B", false),
+    ] {
+        let bytes = field.as_bytes();
+        match name_in(bytes) {
+            Ok(name) => assert!(rt; is_name && name.as_bytes() == bytes, "{field}"),
+            Err(code) => assert_eq!(rt; (code, is_name), (5, false), "{field}"),
+        }
+        match optional_name_in(bytes) {
+            Ok(found) => assert_eq!(rt; found.is_some(), is_name, "{field}"),
+            Err(code) => assert_eq!(rt; (code, is_name), (5, false), "{field}"),
+        }
+    }
+    assert_eq!(rt; name_in(b"").err(), Some(5));
+    assert_eq!(rt; optional_name_in(b""), Ok(None));
+    assert_eq!(rt; stamp_in(b"1970-01-02T00:01"), Ok(1441));
+    assert_eq!(rt; stamp_in(b"2025-03-01T24:00"), Err(6));
     Ok(())
 }

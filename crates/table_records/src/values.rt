@@ -1,12 +1,12 @@
 //! Fields that several tables have.
 
-ghost use Rattle.std.specs.Prelude.{◌≡◌, true, IfOk, IfSome};
+ghost use Rattle.std.specs.Prelude.{◌≡◌, ◌≤◌, true, IfOk, IfSome};
 ghost use Rattle.tail_book.specs.Name.{is_name};
 ghost use Rattle.tail_book.specs.Sound.{IsMoment};
-ghost use Rattle.table_records.specs.Values.{name_in, optional_name_in, stamp_in};
+ghost use Rattle.table_records.specs.Values.{name_in, number_in, optional_name_in, stamp_in};
 
 use tail_book::Name;
-use tail_text::{name, stamp};
+use tail_text::{name, number, stamp};
 
 /// The name that a field holds, or code 5.
 pub fn name_in(field: &[u8]) -> Result<Name, u8>
@@ -41,5 +41,16 @@ pub fn stamp_in(field: &[u8]) -> Result<i64, u8>
     match stamp(field) {
         Ok(moment) => Ok(moment),
         Err(_) => Err(6),
+    }
+}
+
+/// The number of at most `most` that a field holds, or code 9.
+pub fn number_in(field: &[u8], most: u64) -> Result<u64, u8>
+    ensures value { result ≡ number_in most field.now }
+    ensures range { IfOk result (λ n. n ≤ most) }
+{
+    match number(field, most) {
+        Ok(number) => Ok(number),
+        Err(_) => Err(9),
     }
 }

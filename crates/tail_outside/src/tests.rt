@@ -4,8 +4,8 @@ ghost use Rattle.std.specs.Prelude.{◌≡◌, ◌≤◌, ◌++◌, false, IsTru
 ghost use Rattle.tail_outside.specs.Outside.{HasRisen, IsRead, Adds, AddsFront, SameOthers, StayCeased};
 
 use crate::{
-    Failed, Fault, FileSink, Files, MemFile, MemFiles, MemSink, RealFiles, RealOut, Sink,
-    SureFiles, SureSink,
+    Failed, Fault, FileSink, Files, MemFile, MemFiles, MemSink, ReadFail, RealFiles, RealOut, Sink,
+    SureFiles, SureSink, read_all,
 };
 use std::alloc::Global;
 use std::fs;
@@ -198,6 +198,50 @@ fn a_file_is_read_at_a_place(rt: HostRuntime) -> Result<(), Fail> {
         assert!(rt; into.starts_with(want), "at {at}");
     }
     assert_eq!(rt; held.read_at("none", 0, &mut [0; 4]), Err(Failed));
+    Ok(())
+}
+
+// A file is read to its end, or to a limit before, at or behind it.
+#[test]
+fn a_file_is_read_whole(rt: HostRuntime) -> Result<(), Fail> {
+    for (limit, want) in [
+        (0, b"".as_slice()),
+        (2, b"ab".as_slice()),
+        (5, b"abcde".as_slice()),
+        (9, b"abcde".as_slice()),
+    ] {
+        let mut held = failing_files(rt.alloc(), 0)?;
+        let read = read_all(rt.alloc(), &mut held, "log", limit);
+        assert!(rt;
+            matches!(&read, Ok(bytes) if bytes.as_slice() == want),
+            "up to {limit}"
+        );
+        let mut sure = SureFiles::new(rt.alloc(), files(rt.alloc())?, 0)?;
+        let read = read_all(rt.alloc(), &mut sure, "log", limit);
+        assert!(rt;
+            matches!(&read, Ok(bytes) if bytes.as_slice() == want),
+            "up to {limit}"
+        );
+    }
+    Ok(())
+}
+
+// Of a file that is longer than a piece the first read fails, the one at its end, or none.
+#[test]
+fn a_long_file_is_read_in_pieces(rt: HostRuntime) -> Result<(), Fail> {
+    let long = vec![in rt.alloc(); b'x'; 70_000]?;
+    for (number, want) in [
+        (1, Err(ReadFail::Failed)),
+        (2, Err(ReadFail::Failed)),
+        (3, Err(ReadFail::Failed)),
+        (4, Ok(70_000)),
+    ] {
+        let listed = [number].to_vec(rt.alloc())?;
+        let held = vec![in rt.alloc(); file(rt.alloc(), "long", &long)?]?;
+        let mut held = MemFiles::new(rt.alloc(), held, listed)?;
+        let read = read_all(rt.alloc(), &mut held, "long", 100_000);
+        assert_eq!(rt; read.map(|bytes| bytes.len()), want, "at {number}");
+    }
     Ok(())
 }
 

@@ -16,7 +16,7 @@ use Rattle.timetable_reader.specs.Activity.{RawActivitySeen}
 use Rattle.fleet_rules.specs.Tail.{RawTailSeen}
 use Rattle.tail_text.specs.declared.refusal.Refusal.{Refusal}
 use Rattle.tailplan.specs.declared.answer.Answer.{Answer}
-use Rattle.tailplan.specs.declared.reading.TheConstants.{READ_LIMIT}
+use Rattle.tailplan.specs.declared.run.TheConstants.{READ_LIMIT}
 
 too_big : (n size : ℕ) → size < n → nat_le n size ≡ false
 too_big n size h = grind (arith, nat_tests)

@@ -1,13 +1,4 @@
-pub mod Assigned
-pub mod Fliers
-pub mod Extended
-pub mod Rows
-pub mod Trials
-pub mod Truth
-pub mod Built
-pub mod SinkLemmas
-pub mod ReadLemmas
-pub mod Printable
 pub mod Cut
-pub mod WordLemmas
+pub mod Examples
+pub mod WordLaws
 pub mod Promised

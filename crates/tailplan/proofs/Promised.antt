@@ -7,9 +7,10 @@ use Rattle.tail_outside.specs.Outside.{HasRisen}
 use Rattle.tail_text.specs.declared.refusal.Refusal.{Refusal}
 use Rattle.book_maker.specs.Made.{book_of}
 use Rattle.tailplan.specs.Answers.{IsAnswerTo, IsPrinted, IsTrueAnswer, OfTables, Shown, lines_of, status_of}
-use Rattle.tailplan.specs.Lines.{text_of}
+use Rattle.plan_report.specs.Lines.{text_of}
 use Rattle.tailplan.specs.Promises.{AreNamed, IsUnlessStopped, Prints, PrintsInfeasible, PrintsLeastPlan, PrintsRefusal}
-use Rattle.tailplan.specs.Refused.{refusal_line, usage_line}
+use Rattle.plan_report.specs.Refused.{refusal_line}
+use Rattle.tailplan.specs.Usage.{usage_line}
 use Rattle.tailplan.specs.Words.{FileNames, names_of}
 use Rattle.tailplan.specs.declared.answer.Answer.{Answer}
 use Rattle.tailplan.specs.declared.answer.Answer.TheVariants.{Usage, Refused, Solved, ReadFailed, Memory}

@@ -4,10 +4,11 @@ use Rattle.tail_book.specs.Truth.{IsTrueOutcome}
 use Rattle.tail_book.specs.declared.outcome.Outcome.{Outcome}
 use Rattle.tail_book.specs.declared.outcome.Outcome.TheVariants.{Optimal, Infeasible, Between, Above}
 use Rattle.tail_outside.specs.Outside.{Adds, AddsFront, HasRisen}
-use Rattle.tailplan.specs.Decided.{IsDecided}
+use Rattle.plan_enumeration.specs.Decided.{IsDecided}
 use Rattle.book_maker.specs.Made.{book_of}
-use Rattle.tailplan.specs.Refused.{refusal_line, usage_line}
-use Rattle.tailplan.specs.Report.{IsPlanFor, report_lines, routes_of}
+use Rattle.plan_report.specs.Refused.{refusal_line}
+use Rattle.plan_report.specs.Report.{HasPlanFor, report_lines}
+use Rattle.tailplan.specs.Usage.{usage_line}
 use Rattle.tailplan.specs.Words.{FileNames, names_of}
 use Rattle.tailplan.specs.declared.answer.Answer.{Answer}
 use Rattle.tailplan.specs.declared.answer.Answer.TheVariants.{Usage, Refused, Solved, ReadFailed, Memory}
@@ -32,11 +33,11 @@ IsTrueAnswer words holds old new (Solved book outcome) = OfTables words holds (�
 IsTrueAnswer words holds old new ReadFailed = (names : FileNames) × (names_of words ≡ Some names) × HasRisen old new
 IsTrueAnswer words holds old new Memory = ⊤
 
--- the plan of an answer is one for its book
+-- the plan of an answer, where it has one, is one for its book
 abbrev pub IsPrintable : Answer → Type 0
 IsPrintable Usage = ⊤
 IsPrintable (Refused refusal) = ⊤
-IsPrintable (Solved book outcome) = IsPlanFor book (routes_of outcome)
+IsPrintable (Solved book outcome) = HasPlanFor book outcome
 IsPrintable ReadFailed = ⊤
 IsPrintable Memory = ⊤
 

@@ -1,9 +1,4 @@
-pub mod Assignment
-pub mod Enumeration
-pub mod Decided
-pub mod Lines
-pub mod Report
-pub mod Refused
+pub mod Usage
 pub mod Words
 pub mod Answers
 pub mod Promises

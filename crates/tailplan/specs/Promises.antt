@@ -7,8 +7,8 @@ use Rattle.tail_outside.specs.Outside.{Adds}
 use Rattle.tail_text.specs.declared.refusal.Refusal.{Refusal}
 use Rattle.book_maker.specs.Made.{book_of}
 use Rattle.tailplan.specs.Answers.{Shown}
-use Rattle.tailplan.specs.Refused.{refusal_line}
-use Rattle.tailplan.specs.Report.{report}
+use Rattle.plan_report.specs.Refused.{refusal_line}
+use Rattle.plan_report.specs.Report.{report}
 use Rattle.tailplan.specs.Words.{FileNames, names_of}
 
 -- the sink took exactly this text in the call, where it tells what it took

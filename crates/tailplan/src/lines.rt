@@ -1,17 +1,14 @@
-//! The lines of an answer, and how they are put.
+//! The lines of an answer.
 
-ghost use Rattle.std.specs.Prelude.{◌≡◌, ◌≤◌, ◌++◌, false, IfOk, OnOk, OnErr, IsErrOf, [], ◌∷◌};
-ghost use Rattle.tail_outside.specs.Outside.{Adds, AddsFront, HasRisen};
+ghost use Rattle.std.specs.Prelude.{◌≡◌, IfOk, [], ◌∷◌};
 ghost use Rattle.tailplan.specs.Answers.{IsPrintable, lines_of};
-ghost use Rattle.tailplan.specs.Lines.{text_of};
-ghost use Rattle.tailplan.specs.Refused.{refusal_line, table_name, usage_line};
+ghost use Rattle.tailplan.specs.Usage.{usage_line};
 
 use crate::answer::Answer;
-use crate::report::report_lines;
+use plan_report::{refusal_line, report_lines};
 use std::alloc::Global;
 use tail_book::Memory;
-use tail_outside::{Fault, Sink};
-use tail_text::{Line, Refusal, Table};
+use tail_text::Line;
 
 /// The lines that are printed for an answer.
 pub fn lines_of(alloc: Global, answer: &Answer) -> Result<Vec<Line>, Memory>
@@ -41,45 +38,4 @@ fn usage_line(alloc: Global) -> Result<Line, Memory>
     let mut line = Line::new(alloc)?;
     line.text(b"usage: tailplan TIMETABLE FLEET\n")?;
     Ok(line)
-}
-
-fn refusal_line(alloc: Global, refusal: Refusal) -> Result<Line, Memory>
-    ensures { IfOk result (λ line. line ≡ refusal_line refusal) }
-{
-    let mut line = Line::new(alloc)?;
-    line.text(b"refused ")?;
-    line.unsigned(refusal.code as u64)?;
-    line.text(b" ")?;
-    line.text(table_name(refusal.table))?;
-    line.text(b" ")?;
-    line.unsigned(refusal.place)?;
-    line.text(b"\n")?;
-    Ok(line)
-}
-
-fn table_name(table: Table) -> &'static [u8]
-    ensures { result.now ≡ table_name table }
-{
-    match table {
-        Table::Timetable => b"timetable",
-        Table::Fleet => b"fleet",
-        Table::Rules => b"rules",
-        Table::Plan => b"plan",
-    }
-}
-
-/// Puts the lines, one after the other.
-pub fn put_lines<S: Sink>(lines: &[Line], out: &mut S) -> Result<(), Fault>
-    ensures taken { OnOk result (S.ceased out.new ≡ false → Adds (S.told out.old) (S.told out.new) (text_of lines.now)) }
-    ensures front { OnErr result (S.ceased out.new ≡ false → AddsFront (S.told out.old) (S.told out.new) (text_of lines.now)) }
-    ensures beside { S.beside out.old out.new }
-    ensures counts { S.faults out.old ≤ S.faults out.new }
-    ensures cause { IsErrOf result Fault.Failed → HasRisen (S.faults out.old) (S.faults out.new) }
-{
-    for line in lines {
-        if let Err(fault) = out.put(line.bytes()) {
-            return Err(fault);
-        }
-    }
-    Ok(())
 }

@@ -2,12 +2,10 @@
 #![tactic(auto)]
 
 mod answer;
-mod cost;
-mod enumerate;
 mod lines;
-mod reading;
-mod report;
 mod run;
+mod usage;
+mod words;
 
 use run::{NO_MEMORY, Status, solve_run};
 use std::io;

@@ -5,28 +5,32 @@ ghost use Rattle.tail_book.specs.Seen.{BookSeen};
 ghost use Rattle.tail_outside.specs.Outside.{HasRisen};
 ghost use Rattle.tailplan.specs.Answers.{IsAnswerTo, IsPrintable, IsPrinted, IsTrueAnswer, OfTables, lines_of, shown_of, status_of};
 ghost use Rattle.tailplan.specs.Promises.{AreNamed, IsUnlessStopped, Prints, PrintsInfeasible, PrintsLeastPlan, PrintsRefusal};
-ghost use Rattle.tailplan.specs.Refused.{usage_line};
+ghost use Rattle.tailplan.specs.Usage.{usage_line};
 ghost use Rattle.tail_text.specs.declared.refusal.Refusal.{Refusal};
-ghost use Rattle.tailplan.specs.Lines.{text_of};
+ghost use Rattle.plan_report.specs.Lines.{text_of};
 ghost use Rattle.tailplan.specs.Words.{names_of};
 ghost use Rattle.tailplan.specs.declared.answer.Answer.{Answer};
 ghost use Rattle.book_maker.specs.Made.{book_of};
-ghost use Rattle.tailplan.specs.declared.reading.TheConstants.{READ_LIMIT};
+ghost use Rattle.tailplan.specs.declared.run.TheConstants.{READ_LIMIT};
 
 use crate::answer::Answer;
-use crate::enumerate::least_plan;
-use crate::lines::{lines_of, put_lines};
-use crate::reading::{ReadFail, read_all};
+use crate::lines::lines_of;
 use book_maker::read_book;
+use plan_enumeration::least_plan;
+use plan_report::laws::true_outcomes_can_be_written;
+use plan_report::put_lines;
 use std::alloc::Global;
 use tail_book::{Outcome, laws};
-use tail_outside::{Fault, Files, Sink};
+use tail_outside::{Fault, Files, ReadFail, Sink, read_all};
 use tail_text::Stopped;
 
 /// How a run ended: 0 with a least plan, 1 with no plan that is legal, 2 with words that are refused, 3 with a table
 /// that is refused, 4 at a limit of the search, 5 after a failed read, 6 after a failed write, 7 for want of memory.
 #[derive(Clone, Copy, PartialEq, Eq, Debug)]
 pub struct Status(pub u8);
+
+/// The most bytes that are read of a table: one more than a table may have, so that a table cut here is still too big.
+pub const READ_LIMIT: usize = 16_777_217;
 
 /// A run that found no memory.
 pub const NO_MEMORY: Status = Status(7);
@@ -101,11 +105,11 @@ fn read_tables<F: Files>(
     ensures counts { F.read_faults files.old ≤ F.read_faults files.new }
     ensures cause { IsErrOf result ReadFail.Failed → HasRisen (F.read_faults files.old) (F.read_faults files.new) }
 {
-    let timetable = match read_all(alloc, files, timetable) {
+    let timetable = match read_all(alloc, files, timetable, READ_LIMIT) {
         Ok(bytes) => bytes,
         Err(fail) => return Err(fail),
     };
-    match read_all(alloc, files, fleet) {
+    match read_all(alloc, files, fleet, READ_LIMIT) {
         Ok(fleet) => Ok(Tables { timetable, fleet }),
         Err(fail) => Err(fail),
     }
@@ -122,7 +126,7 @@ fn solved(alloc: Global, timetable: &[u8], fleet: &[u8]) -> Answer
         Err(Stopped::Memory) => return Answer::Memory,
     };
     laws::every_book_is_sound(&book);
-    laws::legal_routes_rise();
+    true_outcomes_can_be_written();
     match least_plan(alloc, &book) {
         Ok(outcome) => Answer::Solved(book, outcome),
         Err(_) => Answer::Memory,

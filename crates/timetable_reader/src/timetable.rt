@@ -1,10 +1,11 @@
 //! The timetable, record by record.
 
-ghost use Rattle.std.specs.Prelude.{◌≡◌, ◌+ℤ◌, ◌≤ℤ◌, pos, IfOk};
+ghost use Rattle.std.specs.Prelude.{◌≡◌, ◌≤◌, length, ◌+ℤ◌, ◌≤ℤ◌, pos, IfOk};
 ghost use Rattle.tail_book.specs.Sound.{IsMoment};
 ghost use Rattle.tail_text.specs.Reading.{Answers};
 ghost use Rattle.table_records.specs.NoRow.{Judges};
 ghost use Rattle.timetable_reader.specs.Timetable.{activity_of, end_of, is_span, is_whole, kind_of, timetable, timetable_of};
+ghost use Rattle.timetable_reader.specs.declared.timetable.TheConstants.{ACTIVITY_LIMIT};
 
 use crate::RawActivity;
 use std::alloc::Global;
@@ -17,7 +18,8 @@ pub const ACTIVITY_LIMIT: usize = 4000;
 
 /// The records of a timetable in its order, or its first refusal.
 pub fn read_timetable(alloc: Global, bytes: &[u8]) -> Result<Vec<RawActivity>, Stopped>
-    ensures { Answers (λ v. v.items) (timetable_of bytes.now) result }
+    ensures exact { Answers (λ v. v.items) (timetable_of bytes.now) result }
+    ensures few { IfOk result (λ v. length v.items ≤ ACTIVITY_LIMIT) }
 {
     read_table(alloc, bytes)
 }
@@ -29,8 +31,8 @@ impl Row for RawActivity {
         Table::Timetable
     }
 
-    fn limit() -> u32 {
-        ACTIVITY_LIMIT as u32
+    fn limit() -> usize {
+        ACTIVITY_LIMIT
     }
 
     fn width() -> usize {

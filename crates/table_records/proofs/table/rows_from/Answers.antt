@@ -3,11 +3,11 @@ use Rattle.table_records.specs.Layout.{record_of}
 use Rattle.table_records.proofs.RowLemmas.{record_of-room, turn-bad, turn-end, turn-good}
 use Rattle.table_records.proofs.table.rows_from.Goals as goal
 
-pub returns : goal.returns
-returns g c = turn-end _ _ _ _ c.loop-rows.invariant.1 (rw c.if-branch.false at c.in_ok-take.ensures)
+pub returns-clause-exact : goal.returns-clause-exact
+returns-clause-exact g c = turn-end _ _ _ _ c.loop-rows.invariant.1 (rw c.if-branch.false at c.in_ok-take.ensures)
 
-pub returns-in-Err-Code : goal.returns-in-Err-Code
-returns-in-Err-Code g c =
+pub returns-in-Err-Code-clause-exact : goal.returns-in-Err-Code-clause-exact
+returns-in-Err-Code-clause-exact g c =
     let taken = rw c.if-branch.true at c.in_ok-take.ensures in
     let bad = rw c.in-Err-Code.field-0-is at c.in-Err-Code.ensures in
     let fits : record_of g.R.Row.layout (g.R.Row.layout.limit - length c.loop-rows.rows.items) c.take.new.fields ≡ Err c.in-Err-Code.code = search rules in

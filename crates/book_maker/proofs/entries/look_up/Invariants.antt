@@ -1,0 +1,13 @@
+use Rattle.std.proofs.Common.{◌≡◌, ◌+◌, [], All, drop, take}
+use Rattle.book_maker.specs.Entries.{entries_from, entries_in, names_after}
+use Rattle.book_maker.proofs.EntryLemmas.{joined}
+use Rattle.book_maker.proofs.entries.look_up.Given as goal
+
+-- what is found so far stands before what the entries give that are left, behind names that are those so far
+abbrev pub invariant-loop-i : goal.invariant-loop-i
+invariant-loop-i g l = record {
+  left : entries_in l.table l.first g.E.Entry.own_name (g.E.Entry.uses l.known) l.entries
+      ≡ joined l.found.items (entries_from l.table g.E.Entry.own_name (g.E.Entry.uses l.known) (l.first + l.i) l.names.keys (drop l.i l.entries));
+  names : names_after g.E.Entry.own_name [] l.entries ≡ names_after g.E.Entry.own_name l.names.keys (drop l.i l.entries);
+  sound : All g.E.Entry.is_sound (take l.i l.entries);
+}

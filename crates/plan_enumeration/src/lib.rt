@@ -1,0 +1,9 @@
+//! The least plan of a book, by plain enumeration of who flies what.
+#![tactic(auto)]
+
+mod cost;
+mod enumerate;
+mod permissions;
+mod tables;
+
+pub use enumerate::least_plan;

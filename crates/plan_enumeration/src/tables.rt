@@ -1,0 +1,24 @@
+//! What the enumeration asks of the book once.
+
+ghost use Rattle.std.specs.Prelude.{IfOk};
+ghost use Rattle.plan_enumeration.specs.Tables.{AreTablesOf};
+
+use crate::permissions::{Permissions, permissions_of};
+use std::alloc::Global;
+use tail_book::{Book, CostTable, Memory};
+
+/// What activities and connections cost, and who may fly what.
+#[derive(Debug, Drop)]
+pub struct Tables {
+    pub costs: CostTable,
+    pub permissions: Permissions,
+}
+
+/// The tables of a book.
+pub fn tables_of(alloc: Global, book: &Book) -> Result<Tables, Memory>
+    ensures { IfOk result (AreTablesOf book.now) }
+{
+    let costs = CostTable::of(alloc, book)?;
+    let permissions = permissions_of(alloc, book)?;
+    Ok(Tables { costs, permissions })
+}

@@ -1,0 +1,11 @@
+pub mod SinkLemmas
+pub mod Writable
+pub mod PartLemmas
+pub mod IdLemmas
+pub mod LineLemmas
+pub mod DecimalLemmas
+pub mod NameBytes
+pub mod CountLemmas
+pub mod TextLemmas
+pub mod NamedLines
+pub mod ReadBack

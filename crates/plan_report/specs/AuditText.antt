@@ -1,0 +1,55 @@
+-- What is printed for an audit: what a legal plan costs, or how many rules a plan breaks, and a line for each of them.
+use Rattle.std.specs.Prelude.{ℕ, ◌<◌, ⊤, All, length, map, List, [], ◌∷◌, ◌++◌, codes, decimal, slice_index_or}
+use Rattle.tail_book.specs.Seen.{BookSeen}
+use Rattle.tail_book.specs.Lookup.{activities, activity_of, aircraft, tail_of}
+use Rattle.plan_audit.specs.declared.broken.Audit.{Audit}
+use Rattle.plan_audit.specs.declared.broken.Audit.TheVariants as audit
+use Rattle.plan_audit.specs.declared.broken.Broken.{Broken}
+use Rattle.plan_audit.specs.declared.broken.Broken.TheVariants.{Unknown, Twice, Uncovered, NotAllowed, Curfew, NoLink, Counter}
+use Rattle.plan_report.specs.Lines.{newline, text_of}
+
+-- the name of a counter, empty where no counter has the number
+abbrev pub counter_name : BookSeen → ℕ → List ℕ
+counter_name book c = slice_index_or (map (λ counter. counter.name) book.rules.counters) c []
+
+-- an aircraft and an activity by their names
+abbrev pub pair_names : BookSeen → ℕ → ℕ → List ℕ
+pair_names book k a = (tail_of book k).name ++ codes " " ++ (activity_of book a).id
+
+-- which rule is broken, and by whom
+abbrev pub broken_text : BookSeen → Broken → List ℕ
+broken_text book (Unknown name) = codes "unknown " ++ name
+broken_text book (Twice name) = codes "twice " ++ name
+broken_text book (Uncovered a) = codes "uncovered " ++ (activity_of book a).id
+broken_text book (NotAllowed k a) = codes "notallowed " ++ pair_names book k a
+broken_text book (Curfew k a) = codes "curfew " ++ pair_names book k a
+broken_text book (NoLink k a) = codes "nolink " ++ pair_names book k a
+broken_text book (Counter k a c) = codes "counter " ++ pair_names book k a ++ codes " " ++ counter_name book c
+
+-- the line of a broken rule
+abbrev pub broken_line : BookSeen → Broken → List ℕ
+broken_line book rule = broken_text book rule ++ newline
+
+-- the lines of an audit
+abbrev pub audit_lines : BookSeen → Audit → List (List ℕ)
+audit_lines book (audit.Legal cost) = (codes "legal " ++ decimal cost ++ newline) ∷ []
+audit_lines book (audit.Broken rules) = (codes "broken " ++ decimal (length rules.items) ++ newline) ∷ map (broken_line book) rules.items
+
+-- the audit as it is printed
+abbrev pub audit_text : BookSeen → Audit → List ℕ
+audit_text book found = text_of (audit_lines book found)
+
+-- the numbers in a broken rule are of the book
+abbrev pub IsOfBook : BookSeen → Broken → Type 0
+IsOfBook book (Unknown name) = ⊤
+IsOfBook book (Twice name) = ⊤
+IsOfBook book (Uncovered a) = a < activities book
+IsOfBook book (NotAllowed k a) = (k < aircraft book) × (a < activities book)
+IsOfBook book (Curfew k a) = (k < aircraft book) × (a < activities book)
+IsOfBook book (NoLink k a) = (k < aircraft book) × (a < activities book)
+IsOfBook book (Counter k a c) = (k < aircraft book) × (a < activities book) × (c < length book.rules.counters)
+
+-- the numbers in an audit's broken rules are of the book
+abbrev pub AreOfBook : BookSeen → Audit → Type 0
+AreOfBook book (audit.Legal cost) = ⊤
+AreOfBook book (audit.Broken rules) = All (IsOfBook book) rules.items

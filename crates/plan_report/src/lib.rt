@@ -1,0 +1,19 @@
+//! The report of an outcome, both ways, and the texts that both programs print.
+#![tactic(auto)]
+
+mod audit_text;
+pub mod laws;
+mod lines;
+mod parts;
+mod plan_text;
+mod refused;
+mod report;
+mod text_lines;
+mod writing;
+
+pub use audit_text::write_audit;
+pub use lines::put_lines;
+pub use plan_text::read_plan;
+pub use refused::refusal_line;
+pub use report::{report_lines, write_report};
+pub use writing::ReportFail;

@@ -1,0 +1,122 @@
+//! The report of an outcome, line by line.
+
+ghost use Rattle.std.specs.Prelude.{◌≡◌, ◌++◌, ◌<◌, ◌≤◌, false, IfOk, OnOk, OnErr, IsErrOf, All, codes};
+ghost use Rattle.tail_book.specs.Lookup.{activities, activity_of, aircraft};
+ghost use Rattle.tail_outside.specs.Outside.{Adds, AddsFront, HasRisen};
+ghost use Rattle.plan_report.specs.Report.{HasPlanFor, IsPlanFor, aircraft_line, aircraft_lines, first_line, ids_of, report, report_lines};
+
+use crate::writing::{ReportFail, write_lines};
+use std::alloc::Global;
+use tail_book::{Book, Memory, Outcome, Route};
+use tail_outside::Sink;
+use tail_text::Line;
+
+/// Writes the report of an outcome, one put a line: what was found, and with a plan a line for each aircraft.
+/// All lines are made before the first is put.
+pub fn write_report<S: Sink>(
+    alloc: Global,
+    book: &Book,
+    outcome: &Outcome,
+    out: &mut S,
+) -> Result<(), ReportFail>
+    requires { HasPlanFor book.now outcome.now }
+    ensures taken { OnOk result (S.ceased out.new ≡ false → Adds (S.told out.old) (S.told out.new) (report book.now outcome.now)) }
+    ensures front { OnErr result (S.ceased out.new ≡ false → AddsFront (S.told out.old) (S.told out.new) (report book.now outcome.now)) }
+    ensures beside { S.beside out.old out.new }
+    ensures counts { S.faults out.old ≤ S.faults out.new }
+    ensures cause { IsErrOf result ReportFail.Write → HasRisen (S.faults out.old) (S.faults out.new) }
+{
+    let Ok(lines) = report_lines(alloc, book, outcome) else {
+        return Err(ReportFail::Memory);
+    };
+    write_lines(&lines, out)
+}
+
+/// The lines of the report.
+pub fn report_lines(alloc: Global, book: &Book, outcome: &Outcome) -> Result<Vec<Line>, Memory>
+    requires { HasPlanFor book.now outcome.now }
+    ensures { IfOk result (λ lines. lines.items ≡ report_lines book.now outcome.now) }
+{
+    let mut lines = Vec::new(alloc);
+    lines.push(first_line(alloc, outcome)?)?;
+    match outcome {
+        Outcome::Optimal(plan, _) => add_aircraft(alloc, book, &plan.0, &mut lines)?,
+        Outcome::Between { plan, .. } => add_aircraft(alloc, book, &plan.0, &mut lines)?,
+        Outcome::Infeasible => {}
+        Outcome::Above { .. } => {}
+    }
+    Ok(lines)
+}
+
+fn first_line(alloc: Global, outcome: &Outcome) -> Result<Line, Memory>
+    ensures { IfOk result (λ line. line ≡ first_line outcome.now) }
+{
+    let mut line = Line::new(alloc)?;
+    match outcome {
+        Outcome::Optimal(_, cost) => {
+            line.text(b"optimal ")?;
+            line.unsigned(*cost)?;
+        }
+        Outcome::Infeasible => line.text(b"infeasible")?,
+        Outcome::Between { low, high, .. } => {
+            line.text(b"limit ")?;
+            line.unsigned(*low)?;
+            line.text(b" ")?;
+            line.unsigned(*high)?;
+        }
+        Outcome::Above { low, .. } => {
+            line.text(b"limit ")?;
+            line.unsigned(*low)?;
+            line.text(b" -")?;
+        }
+    }
+    line.text(b"\n")?;
+    Ok(line)
+}
+
+// Adds the lines of the aircraft.
+fn add_aircraft(
+    alloc: Global,
+    book: &Book,
+    routes: &[Route],
+    lines: &mut Vec<Line>,
+) -> Result<(), Memory>
+    requires { IsPlanFor book.now routes.now }
+    ensures { OnOk result (lines.new.items ≡ lines.old.items ++ aircraft_lines book.now 0 routes.now) }
+{
+    for k in 0..routes.len() {
+        lines.push(aircraft_line(alloc, book, k, &routes[k])?)?;
+    }
+    Ok(())
+}
+
+fn aircraft_line(alloc: Global, book: &Book, k: usize, route: &Route) -> Result<Line, Memory>
+    requires aircraft { k < aircraft book.now }
+    requires activities { All (λ a. a < activities book.now) route.now }
+    ensures { IfOk result (λ line. line ≡ aircraft_line book.now k route.now) }
+{
+    let mut line = Line::new(alloc)?;
+    line.text(book.tails[k].name.as_bytes())?;
+    line.text(b":")?;
+    add_ids(book, &route.0, &mut line)?;
+    line.text(b"\n")?;
+    Ok(line)
+}
+
+fn add_ids(book: &Book, route: &[u32], line: &mut Line) -> Result<(), Memory>
+    requires { All (λ a. a < activities book.now) route.now }
+    ensures { OnOk result (line.new ≡ line.old ++ ids_of book.now route.now) }
+{
+    for a in route {
+        add_id(book, *a, line)?;
+    }
+    Ok(())
+}
+
+fn add_id(book: &Book, a: u32, line: &mut Line) -> Result<(), Memory>
+    requires { a < activities book.now }
+    ensures { OnOk result (line.new ≡ line.old ++ codes " " ++ (activity_of book.now a).id) }
+{
+    line.text(b" ")?;
+    line.text(book.activities[a as usize].id.as_bytes())
+}

@@ -1,0 +1,60 @@
+//! The lines of a text, one after the other.
+
+ghost use Rattle.std.specs.Prelude.{◌≡◌, ◌∷◌, [], MatchOption};
+ghost use Rattle.plan_report.specs.Parts.{lines_of};
+
+use crate::parts::Parts;
+use std::marker::Model;
+
+/// A line without its newline, and whether it has one. Contracts see the record of both.
+#[derive(Debug, Drop)]
+pub struct TextLine<'a> {
+    pub text: &'a [u8],
+    pub ends: bool,
+}
+
+impl<'a> Model for TextLine<'a> {
+    ghost use Rattle.plan_report.specs.Parts.{LineSeen};
+
+    ghost Value = { LineSeen };
+
+    ghost view = { λ l. record { text = l.text.now; ends = l.ends } };
+}
+
+/// The lines of a text that are still to be taken. Contracts see the list of them.
+#[derive(Debug, Drop)]
+pub struct TextLines<'a> {
+    parts: Parts<'a>,
+}
+
+impl<'a> Model for TextLines<'a> {
+    ghost use Rattle.std.specs.Prelude.{List};
+    ghost use Rattle.plan_report.specs.Parts.{LineSeen, lines_among};
+
+    ghost Value = { List LineSeen };
+
+    ghost view = { λ l. lines_among l.parts };
+}
+
+impl<'a> TextLines<'a> {
+    /// All the lines of the text.
+    pub fn new(text: &'a [u8]) -> TextLines<'a>
+        ensures { result ≡ lines_of text.now }
+    {
+        TextLines {
+            parts: Parts::new(text, b'\n'),
+        }
+    }
+
+    /// Takes the first line that is left.
+    pub fn take(&mut self) -> Option<TextLine<'a>>
+        ensures { MatchOption result (self.old ≡ []) (λ line. self.old ≡ line ∷ self.new) }
+    {
+        let text = self.parts.take()?;
+        let ends = !self.parts.is_done();
+        if !ends && text.is_empty() {
+            return None;
+        }
+        Some(TextLine { text, ends })
+    }
+}

@@ -1,0 +1,33 @@
+//! How the writing of a text can fail.
+
+ghost use Rattle.std.specs.Prelude.{◌≡◌, ◌≤◌, false, OnOk, OnErr, IsErrOf};
+ghost use Rattle.plan_report.specs.Lines.{text_of};
+ghost use Rattle.tail_outside.specs.Outside.{Adds, AddsFront, HasRisen};
+
+use crate::put_lines;
+use tail_outside::{Fault, Sink};
+use tail_text::Line;
+
+/// Why a report or an audit was not written, or only a front of it.
+#[derive(Clone, Copy, PartialEq, Eq, Debug)]
+pub enum ReportFail {
+    /// A write failed, and the sink's count of failed pieces has risen.
+    Write,
+    /// There was no memory for the text, or for a piece of it.
+    Memory,
+}
+
+/// Puts the lines, one after the other, and says what failed.
+pub fn write_lines<S: Sink>(lines: &[Line], out: &mut S) -> Result<(), ReportFail>
+    ensures taken { OnOk result (S.ceased out.new ≡ false → Adds (S.told out.old) (S.told out.new) (text_of lines.now)) }
+    ensures front { OnErr result (S.ceased out.new ≡ false → AddsFront (S.told out.old) (S.told out.new) (text_of lines.now)) }
+    ensures beside { S.beside out.old out.new }
+    ensures counts { S.faults out.old ≤ S.faults out.new }
+    ensures cause { IsErrOf result ReportFail.Write → HasRisen (S.faults out.old) (S.faults out.new) }
+{
+    match put_lines(lines, out) {
+        Ok(()) => Ok(()),
+        Err(Fault::Failed) => Err(ReportFail::Write),
+        Err(Fault::Memory) => Err(ReportFail::Memory),
+    }
+}

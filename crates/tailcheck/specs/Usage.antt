@@ -1,0 +1,7 @@
+-- What is printed where the words are refused.
+use Rattle.std.specs.Prelude.{ℕ, List, ◌++◌, codes}
+use Rattle.tailcheck.specs.Lines.{newline}
+
+-- the words that the program takes
+abbrev pub usage_line : List ℕ
+usage_line = codes "usage: tailcheck TIMETABLE FLEET RULES (--cert FILE or --plan FILE)" ++ newline

@@ -1,0 +1,254 @@
+//! The reading of the words: which tables and which plan are judged.
+//!
+//! `clap` reads them for one simple command, and what it gives is stated for every list of words. So both outcomes
+//! are exact: names come where the command takes the words, and nothing where it refuses them.
+
+ghost use Rattle.std.specs.Prelude.{◌≡◌, IfOk, map, option_map, string_bytes};
+ghost use Rattle.clap.specs.Words.{app_of, first_of, found_of, rows_of};
+ghost use Rattle.tailcheck.specs.Words.{check_of, command, names_in, names_seen};
+
+use clap::error::ErrorKind;
+use clap::{Arg, ArgMatches, Command};
+use std::alloc::{AllocError, Global};
+use tail_book::Memory;
+
+/// The names of the three tables and of the plan's file, as the words give them.
+#[derive(Clone, Copy, PartialEq, Eq, Debug)]
+pub struct CheckNames<'a> {
+    pub timetable: &'a str,
+    pub fleet: &'a str,
+    pub rules: &'a str,
+    pub plan: &'a str,
+}
+
+/// The command: three words that have to stand in their places, an option that has to be given, and no flag for help.
+fn command<'a>(alloc: Global) -> Result<Command<'a>, AllocError>
+    ensures { IfOk result (λ c. app_of c ≡ command) }
+{
+    Command::new(alloc, "tailcheck")
+        .disable_help_flag(true)
+        .arg(Arg::new(alloc, "timetable").required(true))?
+        .arg(Arg::new(alloc, "fleet").required(true))?
+        .arg(Arg::new(alloc, "rules").required(true))?
+        .arg(Arg::new(alloc, "plan").long("plan").required(true))
+}
+
+/// The word that an argument was given.
+fn text_of<'a>(matches: &ArgMatches<'a>, id: &str) -> Option<&'a str>
+    ensures { option_map (λ s. s.now) result ≡ first_of id.now (rows_of (found_of matches.now)) }
+{
+    matches.get_str(id)
+}
+
+/// The names among what the command matched.
+fn names_in<'a>(matches: &ArgMatches<'a>) -> Option<CheckNames<'a>>
+    ensures { option_map names_seen result ≡ names_in (rows_of (found_of matches.now)) }
+{
+    let timetable = text_of(matches, "timetable")?;
+    let fleet = text_of(matches, "fleet")?;
+    let rules = text_of(matches, "rules")?;
+    let plan = text_of(matches, "plan")?;
+    Some(CheckNames {
+        timetable,
+        fleet,
+        rules,
+        plan,
+    })
+}
+
+/// The names of the tables and of the plan's file, or nothing where the words are refused. The words begin with the
+/// program's name.
+pub fn check_of<'a>(alloc: Global, words: &'a [String]) -> Result<Option<CheckNames<'a>>, Memory>
+    ensures { IfOk result (λ names. option_map names_seen names ≡ check_of (map string_bytes words.now)) }
+{
+    let command = command(alloc)?;
+    match command.try_get_matches_from(words) {
+        Ok(matches) => Ok(names_in(&matches)),
+        Err(error) if error.kind() == ErrorKind::OutOfMemory => Err(Memory),
+        Err(_) => Ok(None),
+    }
+}
+
+#[cfg(test)]
+mod tests {
+    use super::*;
+    use std::test::Fail;
+
+    fn strings_of(alloc: Global, words: &[&str]) -> Result<Vec<String>, Fail> {
+        let mut all = Vec::new(alloc);
+        for word in words {
+            all.push(String::from_str(alloc, word)?)?;
+        }
+        Ok(all)
+    }
+
+    fn named<'a>(
+        timetable: &'a str,
+        fleet: &'a str,
+        rules: &'a str,
+        plan: &'a str,
+    ) -> CheckNames<'a> {
+        CheckNames {
+            timetable,
+            fleet,
+            rules,
+            plan,
+        }
+    }
+
+    // Whether the words are read as these names, or refused where none are given.
+    fn are_read_as(alloc: Global, words: &[&str], names: Option<CheckNames>) -> Result<bool, Fail> {
+        let words = strings_of(alloc, words)?;
+        Ok(check_of(alloc, &words)? == names)
+    }
+
+    // Three names, and the plan's behind its option, wherever that stands.
+    #[test]
+    fn names_are_taken_in_their_places(rt: HostRuntime) -> Result<(), Fail> {
+        for (words, names) in [
+            (
+                ["tailcheck", "t", "f", "r", "--plan", "p"].as_slice(),
+                named("t", "f", "r", "p"),
+            ),
+            (
+                &["tailcheck", "--plan", "p", "t", "f", "r"],
+                named("t", "f", "r", "p"),
+            ),
+            (
+                &["tailcheck", "t", "--plan", "p", "f", "r"],
+                named("t", "f", "r", "p"),
+            ),
+            (
+                &["tailcheck", "t", "f", "--plan", "p", "r"],
+                named("t", "f", "r", "p"),
+            ),
+            (
+                &["tailcheck", "t", "f", "r", "--plan=p"],
+                named("t", "f", "r", "p"),
+            ),
+            (
+                &["tailcheck", "t", "--plan=p", "f", "r"],
+                named("t", "f", "r", "p"),
+            ),
+            (
+                &["tailcheck", "x", "x", "x", "--plan", "x"],
+                named("x", "x", "x", "x"),
+            ),
+            (
+                &["", "t", "f", "r", "--plan", "p"],
+                named("t", "f", "r", "p"),
+            ),
+            (
+                &["--plan=p", "t", "f", "r", "--plan", "q"],
+                named("t", "f", "r", "q"),
+            ),
+        ] {
+            let are_read = are_read_as(rt.alloc(), words, Some(names))?;
+            assert!(rt; are_read, "{words:?}");
+        }
+        Ok(())
+    }
+
+    // Names that look odd: empty, a dash alone, with a dash in front behind `=` or two dashes.
+    #[test]
+    fn odd_names_are_taken(rt: HostRuntime) -> Result<(), Fail> {
+        for (words, names) in [
+            (
+                ["tailcheck", "", "", "", "--plan", ""].as_slice(),
+                named("", "", "", ""),
+            ),
+            (
+                &["tailcheck", "t", "f", "r", "--plan="],
+                named("t", "f", "r", ""),
+            ),
+            (
+                &["tailcheck", "-", "f", "-", "--plan", "-"],
+                named("-", "f", "-", "-"),
+            ),
+            (
+                &["tailcheck", "t", "f", "r", "--plan=-x"],
+                named("t", "f", "r", "-x"),
+            ),
+            (
+                &["tailcheck", "t", "f", "r", "--plan==p"],
+                named("t", "f", "r", "=p"),
+            ),
+            (
+                &["tailcheck", "help", "a b", "r=1", "--plan", "p q"],
+                named("help", "a b", "r=1", "p q"),
+            ),
+            (
+                &["tailcheck", "tåg", "flyg", "regler", "--plan", "år"],
+                named("tåg", "flyg", "regler", "år"),
+            ),
+            (
+                &["tailcheck", "--plan", "p", "--", "-t", "--plan", "-"],
+                named("-t", "--plan", "-", "p"),
+            ),
+            (
+                &["tailcheck", "t", "--plan", "p", "--", "--", "--help"],
+                named("t", "--", "--help", "p"),
+            ),
+            (
+                &["tailcheck", "t", "f", "r", "--plan", "p", "--"],
+                named("t", "f", "r", "p"),
+            ),
+        ] {
+            let are_read = are_read_as(rt.alloc(), words, Some(names))?;
+            assert!(rt; are_read, "{words:?}");
+        }
+        Ok(())
+    }
+
+    // Other numbers of names, and names that begin with a dash.
+    #[test]
+    fn other_names_are_refused(rt: HostRuntime) -> Result<(), Fail> {
+        for words in [
+            [].as_slice(),
+            &["tailcheck"],
+            &["tailcheck", "--plan", "p"],
+            &["tailcheck", "t", "--plan", "p"],
+            &["tailcheck", "t", "f", "--plan", "p"],
+            &["tailcheck", "t", "f", "r", "x", "--plan", "p"],
+            &["tailcheck", "t", "f", "r", "", "--plan", "p"],
+            &["tailcheck", "-t", "f", "r", "--plan", "p"],
+            &["tailcheck", "t", "f", "-5", "--plan", "p"],
+            &["tailcheck", "t", "f", "--r", "--plan", "p"],
+            &["tailcheck", "--plan", "p", "--", "t", "f"],
+            &["tailcheck", "t", "f", "r", "--plan", "p", "--", "x"],
+        ] {
+            let are_refused = are_read_as(rt.alloc(), words, None)?;
+            assert!(rt; are_refused, "{words:?}");
+        }
+        Ok(())
+    }
+
+    // The plan's option left out, twice, without a value or written otherwise, flags, and options that are not built.
+    #[test]
+    fn other_options_are_refused(rt: HostRuntime) -> Result<(), Fail> {
+        for words in [
+            ["tailcheck", "t", "f", "r"].as_slice(),
+            &["tailcheck", "t", "f", "r", "--plan", "p", "--plan", "q"],
+            &["tailcheck", "t", "f", "r", "--plan=p", "--plan=p"],
+            &["tailcheck", "t", "f", "r", "--plan"],
+            &["tailcheck", "t", "f", "r", "--plan", "-x"],
+            &["tailcheck", "t", "f", "r", "--plan", "--"],
+            &["tailcheck", "--", "t", "f", "r", "--plan", "p"],
+            &["tailcheck", "t", "f", "r", "--pla", "p"],
+            &["tailcheck", "t", "f", "r", "-plan", "p"],
+            &["tailcheck", "t", "f", "r", "-p", "p"],
+            &["tailcheck", "t", "f", "r", "--cert", "c"],
+            &["tailcheck", "t", "f", "r", "--plan", "p", "--cert", "c"],
+            &["tailcheck", "t", "f", "r", "--plan", "p", "--nodes", "5"],
+            &["tailcheck", "--help"],
+            &["tailcheck", "-h"],
+            &["tailcheck", "--version"],
+            &["tailcheck", "t", "f", "r", "--plan", "p", "--help"],
+            &["tailcheck", "t", "f", "r", "--plan", "p", "-V"],
+        ] {
+            let are_refused = are_read_as(rt.alloc(), words, None)?;
+            assert!(rt; are_refused, "{words:?}");
+        }
+        Ok(())
+    }
+}

@@ -1,0 +1,81 @@
+-- What the words mean, at command lines that are written out.
+use Rattle.std.proofs.Common.{◌≡◌, ℕ, List, [], ◌∷◌, Option, Some, None, codes, refl}
+use Rattle.clap.proofs.OnLiterals.{clap_on_literals}
+use Rattle.tailplan.specs.Words.{RunNames, run_of}
+
+-- the words after the program's name
+abbrev after_name : List (List ℕ) → Option RunNames
+after_name words = run_of (codes "tailplan" ∷ words)
+
+-- the words name these tables
+abbrev named : List ℕ → List ℕ → List ℕ → Option RunNames
+named timetable fleet rules = Some (record { timetable = timetable; fleet = fleet; rules = rules })
+
+-- no words at all, or the program's name alone, give no names
+no_words : (run_of [] ≡ None) × (after_name [] ≡ None)
+unfolding clap_on_literals
+no_words = (refl, refl)
+
+-- three names are taken in their order, whatever the program is called
+three_names : (after_name (codes "t" ∷ codes "f" ∷ codes "r" ∷ []) ≡ named (codes "t") (codes "f") (codes "r"))
+    × (run_of (codes "" ∷ codes "t" ∷ codes "f" ∷ codes "r" ∷ []) ≡ named (codes "t") (codes "f") (codes "r"))
+    × (run_of (codes "--help" ∷ codes "t" ∷ codes "f" ∷ codes "r" ∷ []) ≡ named (codes "t") (codes "f") (codes "r"))
+    × (after_name (codes "x" ∷ codes "x" ∷ codes "x" ∷ []) ≡ named (codes "x") (codes "x") (codes "x"))
+unfolding clap_on_literals
+three_names = (refl, refl, refl, refl)
+
+-- one or two names are too few, and four are too many
+other_counts : (after_name (codes "t" ∷ []) ≡ None)
+    × (after_name (codes "t" ∷ codes "f" ∷ []) ≡ None)
+    × (after_name (codes "t" ∷ codes "f" ∷ codes "r" ∷ codes "x" ∷ []) ≡ None)
+    × (after_name (codes "t" ∷ codes "f" ∷ codes "r" ∷ codes "" ∷ []) ≡ None)
+unfolding clap_on_literals
+other_counts = (refl, refl, refl, refl)
+
+-- an empty word, a dash alone, a path and the word help are names like others
+odd_names : (after_name (codes "" ∷ codes "" ∷ codes "" ∷ []) ≡ named (codes "") (codes "") (codes ""))
+    × (after_name (codes "-" ∷ codes "f" ∷ codes "-" ∷ []) ≡ named (codes "-") (codes "f") (codes "-"))
+    × (after_name (codes "./t.csv" ∷ codes "a b" ∷ codes "r=1" ∷ []) ≡ named (codes "./t.csv") (codes "a b") (codes "r=1"))
+    × (after_name (codes "help" ∷ codes "f" ∷ codes "r" ∷ []) ≡ named (codes "help") (codes "f") (codes "r"))
+unfolding clap_on_literals
+odd_names = (refl, refl, refl, refl)
+
+-- a name that begins with a dash is refused
+dash_in_front : (after_name (codes "-t" ∷ codes "f" ∷ codes "r" ∷ []) ≡ None)
+    × (after_name (codes "t" ∷ codes "f" ∷ codes "-5" ∷ []) ≡ None)
+    × (after_name (codes "t" ∷ codes "--f" ∷ codes "r" ∷ []) ≡ None)
+    × (after_name (codes "t" ∷ codes "f" ∷ codes "r" ∷ codes "-x" ∷ []) ≡ None)
+unfolding clap_on_literals
+dash_in_front = (refl, refl, refl, refl)
+
+-- behind two dashes each word is a name, a dash in front or not
+behind_two_dashes : (after_name (codes "--" ∷ codes "t" ∷ codes "f" ∷ codes "r" ∷ []) ≡ named (codes "t") (codes "f") (codes "r"))
+    × (after_name (codes "--" ∷ codes "-t" ∷ codes "--help" ∷ codes "-" ∷ []) ≡ named (codes "-t") (codes "--help") (codes "-"))
+    × (after_name (codes "t" ∷ codes "--" ∷ codes "f" ∷ codes "--nodes" ∷ []) ≡ named (codes "t") (codes "f") (codes "--nodes"))
+    × (after_name (codes "--" ∷ codes "--" ∷ codes "f" ∷ codes "r" ∷ []) ≡ named (codes "--") (codes "f") (codes "r"))
+    × (after_name (codes "t" ∷ codes "f" ∷ codes "r" ∷ codes "--" ∷ []) ≡ named (codes "t") (codes "f") (codes "r"))
+    × (after_name (codes "t" ∷ codes "f" ∷ codes "r" ∷ codes "--" ∷ codes "x" ∷ []) ≡ None)
+    × (after_name (codes "--" ∷ []) ≡ None)
+unfolding clap_on_literals
+behind_two_dashes = (refl, refl, refl, refl, refl, refl, refl)
+
+-- there is no flag for help or for the version, alone or beside the names
+no_help : (after_name (codes "--help" ∷ []) ≡ None)
+    × (after_name (codes "-h" ∷ []) ≡ None)
+    × (after_name (codes "--version" ∷ []) ≡ None)
+    × (after_name (codes "-V" ∷ []) ≡ None)
+    × (after_name (codes "t" ∷ codes "f" ∷ codes "r" ∷ codes "--help" ∷ []) ≡ None)
+    × (after_name (codes "-h" ∷ codes "t" ∷ codes "f" ∷ codes "r" ∷ []) ≡ None)
+    × (after_name (codes "t" ∷ codes "f" ∷ codes "r" ∷ codes "--version" ∷ []) ≡ None)
+unfolding clap_on_literals
+no_help = (refl, refl, refl, refl, refl, refl, refl)
+
+-- no option is taken, in whatever way it is written
+no_options : (after_name (codes "t" ∷ codes "f" ∷ codes "r" ∷ codes "--nodes" ∷ codes "5" ∷ []) ≡ None)
+    × (after_name (codes "--nodes=5" ∷ codes "t" ∷ codes "f" ∷ codes "r" ∷ []) ≡ None)
+    × (after_name (codes "t" ∷ codes "--cert" ∷ codes "c" ∷ codes "f" ∷ codes "r" ∷ []) ≡ None)
+    × (after_name (codes "t" ∷ codes "f" ∷ codes "r" ∷ codes "--cert=c" ∷ []) ≡ None)
+    × (after_name (codes "--cert" ∷ codes "f" ∷ codes "r" ∷ []) ≡ None)
+    × (after_name (codes "t" ∷ codes "f" ∷ codes "r" ∷ codes "--rules=x" ∷ []) ≡ None)
+unfolding clap_on_literals
+no_options = (refl, refl, refl, refl, refl, refl)

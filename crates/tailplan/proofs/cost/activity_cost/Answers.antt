@@ -1,4 +1,0 @@
-use Rattle.tailplan.proofs.cost.activity_cost.Goals as goal
-
-pub returns-clause-most : goal.returns-clause-most
-returns-clause-most c = rw c.flying_cost.ensures (c.activities_cost_at_most.ensures c.args.book.now c.every_book_is_sound.ensures c.args.k c.args.a c.requires.activity)
