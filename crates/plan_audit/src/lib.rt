@@ -2,5 +2,7 @@
 #![tactic(auto)]
 
 mod broken;
+mod leg;
+mod met;
 
 pub use broken::{Audit, Broken};
