@@ -4,5 +4,8 @@
 mod broken;
 mod leg;
 mod met;
+mod no_links;
+mod not_allowed;
+mod uncovered;
 
 pub use broken::{Audit, Broken};

@@ -1,0 +1,35 @@
+//! What the names of a plan show: those that are unknown or repeated, and the activities that no route has.
+
+ghost use Rattle.std.specs.Prelude.{◌≡◌, ◌++◌, IfOk, length};
+ghost use Rattle.tail_book.specs.Lookup.{activities};
+ghost use Rattle.plan_audit.specs.Marks.{AreMarks};
+ghost use Rattle.plan_audit.specs.Met.{activities_met};
+ghost use Rattle.plan_audit.specs.Rules.{unknown, twice, uncovered};
+
+use crate::broken::Broken;
+use crate::met::Met;
+use tail_book::{Book, Memory};
+
+/// Adds the names that nothing has.
+pub fn add_unknown(met: &[Met], list: &mut Vec<Broken>) -> Result<(), Memory>
+    ensures { IfOk result (λ _. list.new.items ≡ list.old.items ++ unknown met.now) }
+{
+    for name in met {
+        if let Met::Unknown(name) = *name {
+            list.push(Broken::Unknown(name))?;
+        }
+    }
+    Ok(())
+}
+
+/// Adds the names that were met before.
+pub fn add_twice(met: &[Met], list: &mut Vec<Broken>) -> Result<(), Memory>
+    ensures { IfOk result (λ _. list.new.items ≡ list.old.items ++ twice met.now) }
+{
+    for name in met {
+        if let Met::Twice(name) = *name {
+            list.push(Broken::Twice(name))?;
+        }
+    }
+    Ok(())
+}
