@@ -1,5 +1,5 @@
 -- The rules that a plan breaks, in their order, and what an audit tells of them.
-use Rattle.std.specs.Prelude.{◌≡◌, ◌≢◌, ℕ, List, [], ◌++◌}
+use Rattle.std.specs.Prelude.{◌≡◌, ◌≢◌, ℕ, List, [], ◌++◌, replicate, length, pos}
 use Rattle.tail_book.specs.Seen.{BookSeen, RawPlanSeen}
 use Rattle.tail_book.specs.Truth.{IsPlanOf}
 use Rattle.plan_audit.specs.declared.broken.Broken.{Broken}
@@ -14,7 +14,7 @@ use Rattle.plan_audit.specs.Rules.{unknown, twice, uncovered, not_allowed, curfe
 abbrev pub broken_by : BookSeen → List Met → List Broken
 broken_by book met =
     unknown met ++ twice met ++ uncovered book met ++ not_allowed book (legs_met met) ++ curfews book (legs_met met)
-    ++ no_links book (legs_met met) ++ past_limits book [] (legs_met met)
+    ++ no_links book (legs_met met) ++ past_limits book (replicate (length book.rules.counters) (pos 0)) (legs_met met)
 
 -- the broken rules of a plan: ordered by rule, then as they are read, and what no route has by number
 abbrev pub broken : BookSeen → RawPlanSeen → List Broken

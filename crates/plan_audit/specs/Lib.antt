@@ -1,5 +1,8 @@
-pub mod Marks
 pub mod Met
+pub mod Names
+pub mod Marks
+pub mod Reading
 pub mod Kept
 pub mod Rules
+pub mod Counted
 pub mod Broken

@@ -76,3 +76,10 @@ IsMetOf book (Unknown name) = ⊤
 IsMetOf book (Twice name) = ⊤
 IsMetOf book (Tail k) = k < aircraft book
 IsMetOf book (Activity a) = a < activities book
+
+-- a name is met as one that is unknown or was met before
+abbrev pub IsDropped : Met → Type 0
+IsDropped (Unknown name) = ⊤
+IsDropped (Twice name) = ⊤
+IsDropped (Tail k) = ⊥
+IsDropped (Activity a) = ⊥

@@ -4,8 +4,11 @@
 mod broken;
 mod leg;
 mod met;
+mod names;
 mod no_links;
 mod not_allowed;
+mod reading;
+mod past_limits;
 mod uncovered;
 
 pub use broken::{Audit, Broken};

@@ -1,0 +1,116 @@
+//! Counters past their limits, along the whole of each route.
+//!
+//! A route of a plan that is audited may run backwards in time, and then a counter may fall below 0. Each leg adds or
+//! takes less than 2^27 minutes, so the values of fewer than 2^64 legs fit into 128 bits.
+
+ghost use Rattle.std.specs.Prelude.{◌≡◌, ◌<◌, ◌≤◌, ◌+◌, ◌^◌, ◌++◌, ℕ, IfOk, OnOk, All, length, replicate, pos};
+ghost use Rattle.tail_book.specs.Numbers.{contains};
+ghost use Rattle.tail_book.specs.Lookup.{activities, resets_of};
+ghost use Rattle.tail_book.specs.Counters.{step_one};
+ghost use Rattle.plan_audit.specs.Kept.{IsLegOf};
+ghost use Rattle.plan_audit.specs.Counted.{value_before, IsWithinLegs};
+ghost use Rattle.plan_audit.specs.Rules.{values_after, past_limits_at, past_limits};
+
+use crate::broken::Broken;
+use crate::leg::Leg;
+use maint_counters::{amount, cleared};
+use std::alloc::Global;
+use tail_book::{Book, Counter, Memory, Place};
+
+/// Counter `c` before a leg: what the aircraft comes in with, and else what the leg before left.
+fn value_before(book: &Book, leg: Leg, c: u32, value: i128) -> i128
+    requires leg { IsLegOf book.now leg }
+    requires counter { c < length book.now.rules.counters }
+    ensures value { result ≡ value_before book.now leg.tail leg.from c value }
+    ensures far { (legs : ℕ) → IsWithinLegs legs value → IsWithinLegs legs result }
+{
+    match leg.from {
+        Place::Carry => book.tails[leg.tail as usize].carry[c as usize] as i128,
+        Place::After(_) => value,
+    }
+}
+
+/// Whether an activity sets a counter to 0 at its end.
+fn resets(book: &Book, b: u32, c: u32) -> bool
+    requires { b < activities book.now }
+    ensures { result ≡ contains (resets_of book.now b) c }
+{
+    book.activities[b as usize].resets.contains(&c)
+}
+
+/// Counter `c` after a leg.
+fn value_after(book: &Book, leg: Leg, c: u32, counter: &Counter, value: i128) -> i128
+    requires leg { IsLegOf book.now leg }
+    requires range { IsWithinLegs (2 ^ 64) value }
+    ensures value { result ≡ step_one book.now leg.tail leg.from leg.activity c counter.now value }
+    ensures far { (legs : ℕ) → IsWithinLegs legs value → IsWithinLegs (legs + 1) result }
+{
+    let clears = cleared(book, leg.tail, leg.from, leg.activity, counter);
+    let added = amount(
+        book,
+        leg.tail,
+        leg.from,
+        leg.activity,
+        clears,
+        counter.kind,
+    );
+    if resets(book, leg.activity, c) {
+        return 0;
+    }
+    if clears {
+        added as i128
+    } else {
+        value + added as i128
+    }
+}
+
+/// Counts a leg on each counter.
+fn count_leg(book: &Book, leg: Leg, values: &mut Vec<i128>)
+    requires leg { IsLegOf book.now leg }
+    requires width { length values.old.items ≡ length book.now.rules.counters }
+    requires range { All (IsWithinLegs (2 ^ 64)) values.old.items }
+    ensures steps { values.new.items ≡ values_after book.now leg values.old.items }
+    ensures far { (legs : ℕ) → All (IsWithinLegs legs) values.old.items → All (IsWithinLegs (legs + 1)) values.new.items }
+{
+    for c in 0..values.len() {
+        let before = value_before(book, leg, c as u32, values[c]);
+        values[c] = value_after(book, leg, c as u32, &book.rules.counters[c], before);
+    }
+}
+
+/// Adds the counters that are past their limits after a leg.
+fn add_past_limits_at(
+    leg: Leg,
+    counters: &[Counter],
+    values: &[i128],
+    list: &mut Vec<Broken>,
+) -> Result<(), Memory>
+    requires width { length values.now ≡ length counters.now }
+    requires few { length counters.now ≤ 6 }
+    ensures { IfOk result (λ _. list.new.items ≡ list.old.items ++ past_limits_at leg 0 counters.now values.now) }
+{
+    for c in 0..counters.len() {
+        if values[c] > counters[c].limit as i128 {
+            list.push(Broken::Counter(leg.tail, leg.activity, c as u32))?;
+        }
+    }
+    Ok(())
+}
+
+/// Adds the counters that are past their limits along the legs.
+pub fn add_past_limits(
+    alloc: Global,
+    book: &Book,
+    legs: &[Leg],
+    list: &mut Vec<Broken>,
+) -> Result<(), Memory>
+    requires { All (IsLegOf book.now) legs.now }
+    ensures { IfOk result (λ _. list.new.items ≡ list.old.items ++ past_limits book.now (replicate (length book.now.rules.counters) (pos 0)) legs.now) }
+{
+    let mut values = vec![in alloc; 0; book.rules.counters.len()]?;
+    for leg in legs {
+        count_leg(book, *leg, &mut values);
+        add_past_limits_at(*leg, &book.rules.counters, &values, list)?;
+    }
+    Ok(())
+}
