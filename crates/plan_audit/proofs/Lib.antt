@@ -1,3 +1,4 @@
 mod NameLemmas
 mod MarkLemmas
 mod MetLemmas
+mod CountLemmas
