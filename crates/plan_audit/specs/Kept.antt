@@ -24,7 +24,7 @@ abbrev pub route_met : List Met → ℕ → List ℕ
 route_met [] k = []
 route_met (Unknown name ∷ met) k = route_met met k
 route_met (Twice name ∷ met) k = route_met met k
-route_met (Tail j ∷ met) k = if nat_eq j k then next_route met else route_met met k
+route_met (Tail j ∷ met) k = if nat_eq k j then next_route met else route_met met k
 route_met (Activity a ∷ met) k = route_met met k
 
 -- the kept plan: a line whose aircraft is unknown or had a line before is dropped with its ids, and in the other lines

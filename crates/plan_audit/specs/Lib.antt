@@ -3,6 +3,8 @@ pub mod Names
 pub mod Marks
 pub mod Reading
 pub mod Kept
+pub mod LegCost
 pub mod Rules
 pub mod Counted
 pub mod Broken
+pub mod Laws
