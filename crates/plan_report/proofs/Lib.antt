@@ -1,5 +1,6 @@
 pub mod SinkLemmas
 pub mod Writable
+pub mod WritableAudit
 pub mod PartLemmas
 pub mod IdLemmas
 pub mod LineLemmas
