@@ -1,6 +1,6 @@
 -- The report of a plan is read as the names of the plan: it is small enough, it begins with no byte order mark, its first
 -- line says what was found, and each later line is read as the names of one route.
-use Rattle.std.proofs.Common.{◌≡◌, ◌∙◌, ℕ, suc, ◌+◌, ◌*◌, ◌-◌, ◌^◌, ◌<◌, ◌≤◌, true, List, [], ◌∷◌, ◌++◌, Ok, false, length, length-append, refl, sym, ap, map, arith, nat_le, not, append_assoc}
+use Rattle.std.proofs.Common.{◌≡◌, ◌∙◌, ℕ, ◌+◌, ◌*◌, ◌^◌, ◌<◌, ◌≤◌, true, List, [], ◌∷◌, ◌++◌, Ok, false, length, length-append, refl, ap, map, arith, nat_le, not, append_assoc}
 use Rattle.std.proofs.lemmas.Bool.Decides.{nat_tests}
 use Rattle.std.proofs.lemmas.Fmt.{length-decimal-le}
 use Rattle.std.proofs.lemmas.List.Elements.{All-append, All-head, All-tail}
@@ -17,7 +17,7 @@ use Rattle.plan_report.specs.Laws.{HasNoRepeats, ReportIsReadBack, names_from, n
 use Rattle.plan_report.specs.Lines.{newline, text_of}
 use Rattle.plan_report.specs.Parts.{lines_of, parts_of, whole_line}
 use Rattle.plan_report.specs.PlanText.{is_cost, is_heading, lines_from, plan_in, without_mark}
-use Rattle.plan_report.specs.Report.{IsPlanFor, aircraft_line, aircraft_lines, first_line, report}
+use Rattle.plan_report.specs.Report.{IsPlanFor, aircraft_line, aircraft_lines}
 use Rattle.plan_report.specs.declared.plan_text.TheConstants.{ID_LIMIT, LINE_LIMIT, SIZE_LIMIT}
 use Rattle.plan_report.proofs.CountLemmas.{at_most}
 use Rattle.plan_report.proofs.DecimalLemmas.{decimal-digits, number_of-decimal}
