@@ -32,7 +32,7 @@ all_below n [] each = tt
 all_below n (route ∷ plan) each =
     Below-append n route (flat_map (λ r. r) plan) (each 0 (omega arith)) (all_below n plan (λ i lt. each (suc i) (omega (arith, lt))))
 
-found : {A B : Type 0} (P : A → Type 0) (Q : B → Type 0) (f : A → B) (d : B) → ((x : A) → P x → Q (f x)) → Q d
+pub found : {A B : Type 0} (P : A → Type 0) (Q : B → Type 0) (f : A → B) (d : B) → ((x : A) → P x → Q (f x)) → Q d
     → (test : A → Bool) (xs : List A) → All P xs → Q (option_map_or f (find test xs) d)
 found P Q f d step base test [] all = base
 found {A} {B} P Q f d step base test (x ∷ xs) all = either (test x) (find test xs) (found P Q f d step base test xs (All-tail P x xs all))
@@ -96,6 +96,12 @@ plan_most book sound k (route ∷ plan) each =
     joined : (a b m n l : ℕ) → a ≤ 2000000 * m → b ≤ 2000000 * n → l ≡ m + n → a + b ≤ 2000000 * l
     joined a b m n l h i e = omega arith
 
+-- the routes of a legal plan have activities of the book
+legal_below : (book : BookSeen) → IsBook book → (plan : List (List ℕ)) → IsLegalPlan book plan → (i : ℕ) → i < length plan → Below (activities book) (route_of plan i)
+legal_below book sound plan legal i lt =
+    rising_below (activities book) Carry (route_of plan i)
+    (rises_from book (timed_of book sound) i Carry (carry_of book i) (route_of plan i) tt (legal.routes i (omega (arith, legal.one_each, lt))))
+
 ones : (xs : List ℕ) → total (map (λ a. pos 1) xs) ≡ pos (length xs)
 ones [] = refl
 ones (x ∷ xs) = let h = ones xs in omega (arith, ints, h)
@@ -104,15 +110,19 @@ ones_below : (n : ℕ) → sum_below n (λ a. pos 1) ≡ pos n
 ones_below zero = refl
 ones_below (suc n) = let h = ones_below n in omega (arith, ints, h)
 
-pub cost_most : (book : BookSeen) → IsBook book → (plan : List (List ℕ)) → IsLegalPlan book plan → plan_cost book plan ≤ greatest_cost book
-cost_most book sound plan legal =
-    let each : (i : ℕ) → i < length plan → Below (activities book) (route_of plan i) = λ i lt.
-    rising_below (activities book) Carry (route_of plan i) (rises_from book (timed_of book sound) i Carry (carry_of book i) (route_of plan i) tt (legal.routes i (omega (arith, legal.one_each, lt)))) in
-    let most = plan_most book sound 0 plan each in
-    let sums = sum_of_partition (activities book) (λ a. pos 1) (flat_map (λ r. r) plan) (all_below (activities book) plan each) legal.partition in
+-- in a legal plan as many activities are flown as there are
+pub all_flown : (book : BookSeen) → IsBook book → (plan : List (List ℕ)) → IsLegalPlan book plan → length (flat_map (λ route. route) plan) ≡ activities book
+all_flown book sound plan legal =
+    let sums = sum_of_partition (activities book) (λ a. pos 1) (flat_map (λ r. r) plan) (all_below (activities book) plan (legal_below book sound plan legal)) legal.partition in
     let l = ones (flat_map (λ r. r) plan) in
     let m = ones_below (activities book) in
-    same (plan_cost book plan) (length (flat_map (λ r. r) plan)) (activities book) most (sym l ∙ sums ∙ m)
+    same (length (flat_map (λ r. r) plan)) (activities book) (sym l ∙ sums ∙ m)
   where
-    same : (c l n : ℕ) → c ≤ 2000000 * l → pos l ≡ pos n → c ≤ 2000000 * n
-    same c l n h e = omega (arith, ints, h, e)
+    same : (l n : ℕ) → pos l ≡ pos n → l ≡ n
+    same l n e = omega (arith, ints, e)
+
+pub cost_most : (book : BookSeen) → IsBook book → (plan : List (List ℕ)) → IsLegalPlan book plan → plan_cost book plan ≤ greatest_cost book
+cost_most book sound plan legal =
+    let most = plan_most book sound 0 plan (legal_below book sound plan legal) in
+    let flown = all_flown book sound plan legal in
+    omega (arith, most, flown)

@@ -9,6 +9,7 @@ use Rattle.tail_book.specs.declared.rules.CounterKind.{CounterKind}
 use Rattle.tail_book.specs.declared.rules.CounterKind.TheVariants.{Minutes, Landings, Days}
 use Rattle.tail_book.specs.Counters.{step}
 use Rattle.tail_book.specs.Cost.{plan_cost}
+use Rattle.tail_book.specs.CostTable.{activity_cost_in, costs_of, plan_cost_in}
 use Rattle.tail_book.specs.Curfew.{is_curfewed}
 use Rattle.tail_book.specs.Link.{gap}
 use Rattle.tail_book.specs.Route.{counters_after}
@@ -85,6 +86,16 @@ cheaper_cost = refl
 
 dearer_cost : plan_cost rates ((0 ∷ []) ∷ (1 ∷ []) ∷ []) ≡ 300
 dearer_cost = refl
+
+-- the first aircraft's costs, and then the second's
+table_of_rates : (costs_of rates).fly ≡ 60 ∷ 120 ∷ 120 ∷ 240 ∷ []
+table_of_rates = refl
+
+second_aircraft_entry : activity_cost_in (costs_of rates) 1 0 ≡ 120
+second_aircraft_entry = refl
+
+cheaper_cost_in_table : plan_cost_in (costs_of rates) rates ((1 ∷ []) ∷ (0 ∷ []) ∷ []) ≡ 240
+cheaper_cost_in_table = refl
 
 not_both_at_once : is_legal_plan rates ((0 ∷ 1 ∷ []) ∷ [] ∷ []) ≡ false
 not_both_at_once = refl
@@ -211,6 +222,9 @@ dear_connection = refl
 
 dear_connection_cost : plan_cost landings ((0 ∷ 1 ∷ 3 ∷ 4 ∷ []) ∷ (2 ∷ []) ∷ []) ≡ 740
 dear_connection_cost = refl
+
+dear_connection_cost_in_table : plan_cost_in (costs_of landings) landings ((0 ∷ 1 ∷ 3 ∷ 4 ∷ []) ∷ (2 ∷ []) ∷ []) ≡ 740
+dear_connection_cost_in_table = refl
 
 fourth_landing : counters_after landings 0 (0 ∷ 1 ∷ 2 ∷ 3 ∷ 4 ∷ []) ≡ pos 4 ∷ []
 fourth_landing = refl

@@ -15,3 +15,5 @@ pub mod Truth
 pub mod Rising
 pub mod Bounds
 pub mod Tests
+pub mod CostTable
+pub mod TableLaws

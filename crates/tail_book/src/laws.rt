@@ -3,6 +3,7 @@
 ghost use Rattle.tail_book.specs.Rising.{LinksRise, LegalRoutesRise, EachIsFlownOnce};
 ghost use Rattle.tail_book.specs.Bounds.{ActivitiesCostAtMost, ConnectionsCostAtMost, LegalPlansCostAtMost};
 ghost use Rattle.tail_book.specs.Sound.{IsBook};
+ghost use Rattle.tail_book.specs.TableLaws.{OwnCostsAreForBook, OwnCostsOfActivities, OwnCostsOfConnections, OwnCostsOfRoutes, OwnCostsOfPlans, OwnCostsOfLegalPlans, LegalPlansCostAtMostIn};
 ghost use Rattle.tail_book.specs.Tests.{AllowedDecides, LinkDecides, LimitsDecide, LegalRouteDecides, LegalPlanDecides};
 
 use crate::Book;
@@ -35,6 +36,41 @@ pub fn connections_cost_at_most()
 /// A legal plan costs at most two million for each activity.
 pub fn legal_plans_cost_at_most()
     ensures { LegalPlansCostAtMost }
+{}
+
+/// The book's own costs are a table for the book.
+pub fn own_costs_are_for_book()
+    ensures { OwnCostsAreForBook }
+{}
+
+/// By the book's own costs an activity costs an aircraft what the book says.
+pub fn own_costs_of_activities()
+    ensures { OwnCostsOfActivities }
+{}
+
+/// By the book's own costs a connection costs what the book says.
+pub fn own_costs_of_connections()
+    ensures { OwnCostsOfConnections }
+{}
+
+/// By the book's own costs a route of the book's activities costs what the book says.
+pub fn own_costs_of_routes()
+    ensures { OwnCostsOfRoutes }
+{}
+
+/// By the book's own costs a plan of the book's activities costs what the book says.
+pub fn own_costs_of_plans()
+    ensures { OwnCostsOfPlans }
+{}
+
+/// By the book's own costs a legal plan costs what the book says.
+pub fn own_costs_of_legal_plans()
+    ensures { OwnCostsOfLegalPlans }
+{}
+
+/// By a table a legal plan costs at most what its maxima say of each activity.
+pub fn legal_plans_cost_at_most_in()
+    ensures { LegalPlansCostAtMostIn }
 {}
 
 /// Whether an aircraft may fly an activity is decided by a test.

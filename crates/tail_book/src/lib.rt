@@ -4,6 +4,7 @@
 mod activity;
 mod aircraft;
 mod book;
+mod cost_table;
 pub mod laws;
 mod memory;
 mod name;
@@ -16,6 +17,7 @@ mod rules;
 pub use activity::Activity;
 pub use aircraft::Tail;
 pub use book::Book;
+pub use cost_table::CostTable;
 pub use memory::Memory;
 pub use name::Name;
 pub use outcome::Outcome;
@@ -23,3 +25,6 @@ pub use place::Place;
 pub use plan::{Plan, Route};
 pub use raw_plan::{RawLine, RawPlan};
 pub use rules::{AircraftType, Airport, Band, Counter, CounterKind, Curfew, Rules};
+
+#[cfg(test)]
+mod tests;

@@ -1,0 +1,132 @@
+-- The book's own costs: the entry of aircraft k and activity a stands behind k rows, and so each cost by the table is the book's.
+use Rattle.std.proofs.Common.{◌≡◌, ℕ, ℤ, zero, suc, ◌+◌, ◌*◌, ◌^◌, ◌<◌, ◌≤◌, arith, List, [], ◌∷◌, ◌++◌, length, sym, refl, ap, ap₂, ◌∙◌, subst, get_or}
+use Rattle.std.proofs.Math.Nat.{mul-le-mul}
+use Rattle.std.proofs.lemmas.List.{append-nil, append_assoc, get_or_append_left, get_or-append-add, length-append}
+use Rattle.std.proofs.lemmas.List.Elements.{All-head, All-tail, All-cons, All-append, All-from_get_or}
+use Rattle.std.proofs.lemmas.List.FromFn.{length-map-range_with_len, get_or-map-range_with_len}
+use Rattle.std.specs.Prelude.{All}
+use Rattle.std.specs.List.{flat_map, range_with_len}
+use Rattle.tail_book.specs.Seen.{BookSeen}
+use Rattle.tail_book.specs.declared.place.Place.{Place}
+use Rattle.tail_book.specs.declared.place.Place.TheVariants.{Carry, After}
+use Rattle.tail_book.specs.Lookup.{activities, aircraft, carry_of}
+use Rattle.tail_book.specs.Counters.{step}
+use Rattle.tail_book.specs.Route.{IsLegalFrom}
+use Rattle.tail_book.specs.Cost.{activity_cost, connection_cost, cost_from, cost_of_routes, plan_cost}
+use Rattle.tail_book.specs.CostTable.{IsCostTable, IsTableFor, activity_cost_in, connection_cost_in, cost_from_in, cost_of_routes_in, plan_cost_in, activity_costs, costs_of}
+use Rattle.tail_book.specs.Plan.{IsLegalPlan, route_of}
+use Rattle.tail_book.specs.Sound.{IsBook}
+use Rattle.tail_book.proofs.Costs.{activity_cost_most}
+
+-- one row more
+pub rows_more : {A : Type 0} (f : ℕ → List A) (s n j : ℕ) → s + n ≡ j → flat_map f (range_with_len s (suc n)) ≡ flat_map f (range_with_len s n) ++ f j
+rows_more f s zero j e = append-nil (f s) ∙ ap f (omega (arith, e))
+rows_more f s (suc n) j e =
+    let rest = rows_more f (s + 1) n j (omega (arith, e)) in
+    ap (λ xs. f s ++ xs) rest ∙ sym (append_assoc (f s) (flat_map f (range_with_len (s + 1) n)) (f j))
+
+-- rows of n elements each
+rows_length : (f : ℕ → List ℕ) (n : ℕ) → ((j : ℕ) → length (f j) ≡ n) → (s m : ℕ) → length (flat_map f (range_with_len s m)) ≡ n * m
+rows_length f n each s zero = omega arith
+rows_length f n each s (suc m) =
+    let joined = length-append (f s) (flat_map f (range_with_len (s + 1) m)) in
+    let here = each s in
+    let rest = rows_length f n each (s + 1) m in
+    omega (arith, joined, here, rest)
+
+entry : (f : ℕ → List ℕ) (n : ℕ) → ((j : ℕ) → length (f j) ≡ n) → (s m k a : ℕ) → k < m → a < n
+    → get_or (flat_map f (range_with_len s m)) (k * n + a) 0 ≡ get_or (f (s + k)) a 0
+entry f n each s zero k a lt la = absurd (omega (arith, lt))
+entry f n each s (suc m) zero a lt la =
+    let rest = flat_map f (range_with_len (s + 1) m) in
+    let place : 0 * n + a ≡ a = omega arith in
+    let same : f s ≡ f (s + 0) = ap f (omega arith) in
+    ap (λ i. get_or (f s ++ rest) i 0) place ∙ get_or_append_left (f s) rest 0 a (omega (arith, each s, la)) ∙ ap (λ row. get_or row a 0) same
+entry f n each s (suc m) (suc k) a lt la =
+    let rest = flat_map f (range_with_len (s + 1) m) in
+    let place : suc k * n + a ≡ length (f s) + (k * n + a) = omega (arith, each s) in
+    let same : f (s + 1 + k) ≡ f (s + suc k) = ap f (omega arith) in
+    ap (λ i. get_or (f s ++ rest) i 0) place ∙ get_or-append-add (f s) rest (k * n + a) 0
+    ∙ entry f n each (s + 1) m k a (omega (arith, lt)) la ∙ ap (λ row. get_or row a 0) same
+
+row_length : (book : BookSeen) (k : ℕ) → length (activity_costs book k) ≡ activities book
+row_length book k = length-map-range_with_len (activity_cost book k) 0 (activities book)
+
+row_entry : (book : BookSeen) (k a : ℕ) → a < activities book → get_or (activity_costs book k) a 0 ≡ activity_cost book k a
+row_entry book k a lt = get_or-map-range_with_len (activity_cost book k) 0 (activities book) a a 0 lt (omega arith)
+
+pub own_costs_for_book : (book : BookSeen) → IsTableFor book (costs_of book)
+own_costs_for_book book = record {
+  activities = refl;
+  aircraft = refl;
+  entries = rows_length (activity_costs book) (activities book) (row_length book) 0 (aircraft book);
+}
+
+pub own_activity_cost : (book : BookSeen) (k a : ℕ) → k < aircraft book → a < activities book → activity_cost_in (costs_of book) k a ≡ activity_cost book k a
+own_activity_cost book k a lk la =
+    let same : activity_costs book (0 + k) ≡ activity_costs book k = ap (activity_costs book) (omega arith) in
+    entry (activity_costs book) (activities book) (row_length book) 0 (aircraft book) k a lk la ∙ ap (λ row. get_or row a 0) same ∙ row_entry book k a la
+
+pub own_connection_cost : (book : BookSeen) (k : ℕ) (x : Place) (b : ℕ) → connection_cost_in (costs_of book) book k x b ≡ connection_cost book k x b
+own_connection_cost book k Carry b = refl
+own_connection_cost book k (After x) b = refl
+
+summed : (a b c d e f : ℕ) → a ≡ d → b ≡ e → c ≡ f → a + b + c ≡ d + e + f
+summed a b c d e f p q r = omega (arith, p, q, r)
+
+pub own_cost_from : (book : BookSeen) (k : ℕ) (x : Place) (route : List ℕ) → k < aircraft book → All (λ a. a < activities book) route
+    → cost_from_in (costs_of book) book k x route ≡ cost_from book k x route
+own_cost_from book k x [] lk below = refl
+own_cost_from book k x (b ∷ rest) lk below =
+    summed _ _ _ _ _ _ (own_activity_cost book k b lk (All-head (λ a. a < activities book) b rest below)) (own_connection_cost book k x b)
+    (own_cost_from book k (After b) rest lk (All-tail (λ a. a < activities book) b rest below))
+
+pub own_cost_of_routes : (book : BookSeen) (k : ℕ) (plan : List (List ℕ)) → k + length plan ≤ aircraft book → All (All (λ a. a < activities book)) plan
+    → cost_of_routes_in (costs_of book) book k plan ≡ cost_of_routes book k plan
+own_cost_of_routes book k [] most below = refl
+own_cost_of_routes book k (route ∷ plan) most below =
+    ap₂ (λ (a b : ℕ). a + b)
+    (own_cost_from book k Carry route (omega (arith, most)) (All-head (All (λ a. a < activities book)) route plan below))
+    (own_cost_of_routes book (k + 1) plan (omega (arith, most)) (All-tail (All (λ a. a < activities book)) route plan below))
+
+-- each entry is within a million
+row_most : (book : BookSeen) → IsBook book → (k : ℕ) → All (λ c. c ≤ 1_000_000) (activity_costs book k)
+row_most book sound k = All-from_get_or (λ c. c ≤ 1_000_000) (activity_costs book k) 0 (λ i lt. within i (subst (λ n. i < n) (row_length book k) lt))
+  where
+    within : (i : ℕ) → i < activities book → get_or (activity_costs book k) i 0 ≤ 1_000_000
+    within i lt = let same = row_entry book k i lt in let most = activity_cost_most book sound k i lt in omega (arith, same, most)
+
+rows_most : (book : BookSeen) → IsBook book → (s m : ℕ) → All (λ c. c ≤ 1_000_000) (flat_map (activity_costs book) (range_with_len s m))
+rows_most book sound s zero = λ i d lt. absurd (omega (arith, lt))
+rows_most book sound s (suc m) = All-append (λ c. c ≤ 1_000_000) _ _ (row_most book sound s) (rows_most book sound (s + 1) m)
+
+-- 4,000 activities at two million each, in thousandths
+sums_most : (n : ℕ) → n ≤ 4000 → n * 1000 * (n * (1_000_000 + 1_000_000) + 1) + 1000 * (n * (1_000_000 + 1_000_000)) ≤ 2 ^ 61
+sums_most n few =
+    let squared : n * n ≤ 4000 * 4000 = mul-le-mul few few in
+    spread n (n * n) (n * 1000 * (n * 2_000_000 + 1)) few squared (omega arith)
+  where
+    spread : (n s p : ℕ) → n ≤ 4000 → s ≤ 16_000_000 → p ≡ 2_000_000_000 * s + 1000 * n → p + 1000 * (n * (1_000_000 + 1_000_000)) ≤ 2 ^ 61
+    spread n s p few squared e = omega arith
+
+pub own_costs_sound : (book : BookSeen) → IsBook book → IsCostTable (costs_of book)
+own_costs_sound book sound = record {
+  fly = rows_most book sound 0 (aircraft book);
+  bands = λ i d lt. (sound.rules.bands i d lt).cost;
+  sums = sums_most (activities book) sound.few_activities;
+}
+
+-- the activities of a legal route are of the book
+all_legal : (book : BookSeen) (k : ℕ) (x : Place) (values : List ℤ) (route : List ℕ) → IsLegalFrom book k x values route → All (λ a. a < activities book) route
+all_legal book k x values [] legal = λ i d lt. absurd (omega (arith, lt))
+all_legal book k x values (b ∷ rest) legal =
+    All-cons (λ a. a < activities book) b rest legal.0 (all_legal book k (After b) (step book k x b values) rest legal.3)
+
+pub own_plan_cost : (book : BookSeen) (plan : List (List ℕ)) → length plan ≡ aircraft book → All (All (λ a. a < activities book)) plan
+    → plan_cost_in (costs_of book) book plan ≡ plan_cost book plan
+own_plan_cost book plan one_each below = own_cost_of_routes book 0 plan (omega (arith, one_each)) below
+
+pub own_legal_cost : (book : BookSeen) (plan : List (List ℕ)) → IsLegalPlan book plan → plan_cost_in (costs_of book) book plan ≡ plan_cost book plan
+own_legal_cost book plan legal = own_plan_cost book plan legal.one_each
+    (All-from_get_or (All (λ a. a < activities book)) plan []
+    (λ i lt. all_legal book i Carry (carry_of book i) (route_of plan i) (legal.routes i (omega (arith, legal.one_each, lt)))))

@@ -1,0 +1,106 @@
+//! What flying costs, as a table: an entry for each aircraft and activity, and the bands of connection costs.
+
+ghost use Rattle.std.specs.Prelude.{◌≡◌, ◌<◌, ◌≤◌, ◌++◌, IfOk, unsigned_abs};
+ghost use Rattle.tail_book.specs.Lookup.{activities, aircraft};
+ghost use Rattle.tail_book.specs.Cost.{activity_cost};
+ghost use Rattle.tail_book.specs.Counters.{flown};
+ghost use Rattle.tail_book.specs.CostTable.{activity_costs, costs_of};
+
+use crate::{Band, Book, Memory, laws};
+use std::alloc::Global;
+use std::marker::Model;
+
+/// What each of `n` activities costs each of `m` aircraft, in cost units, with that of aircraft `k` and activity `a` at
+/// `fly[k * n + a]`, the bands of connection costs, and the most that an entry and a band cost. Every table keeps these
+/// maxima, and sums of its costs in thousandths stay below 2^61. Contracts see the record of its fields.
+#[derive(Debug, Drop)]
+pub struct CostTable {
+    pub n: usize,
+    pub m: usize,
+    pub fly: Vec<u64>,
+    pub bands: Vec<Band>,
+    pub fly_max: u64,
+    pub band_max: u64,
+}
+
+impl Model for CostTable {
+    ghost use Rattle.tail_book.specs.Seen.{CostTableSeen};
+    ghost use Rattle.tail_book.specs.CostTable.{IsCostTable};
+
+    ghost Value = { CostTableSeen };
+
+    ghost view = { λ t. record { n = t.n; m = t.m; fly = t.fly.items; bands = t.bands.items; fly_max = t.fly_max; band_max = t.band_max } };
+
+    ghost invariant = { λ t. IsCostTable (record { n = t.n; m = t.m; fly = t.fly.items; bands = t.bands.items; fly_max = t.fly_max; band_max = t.band_max }) };
+}
+
+// What an entry, and a band, of a book cost at most.
+const COST_MAX: u64 = 1_000_000;
+
+impl CostTable {
+    /// The book's own costs, with maxima of a million each.
+    pub fn of(alloc: Global, book: &Book) -> Result<CostTable, Memory>
+        ensures { IfOk result (λ table. table ≡ costs_of book.now) }
+    {
+        laws::every_book_is_sound(book);
+        let (n, m) = (book.activities.len(), book.tails.len());
+        let fly = costs_of_all(alloc, book)?;
+        let mut bands = Vec::new(alloc);
+        bands.extend_from_slice(&book.rules.bands)?;
+        Ok(CostTable {
+            n,
+            m,
+            fly,
+            bands,
+            fly_max: COST_MAX,
+            band_max: COST_MAX,
+        })
+    }
+}
+
+// Minutes flown in an activity.
+fn minutes_flown(book: &Book, a: usize) -> u64
+    requires { a < activities book.now }
+    ensures value { result ≡ unsigned_abs (flown book.now a) }
+    ensures most { result ≤ 2880 }
+{
+    let activity = &book.activities[a];
+    if activity.flight {
+        (activity.end - activity.start).unsigned_abs()
+    } else {
+        0
+    }
+}
+
+// What an activity costs an aircraft.
+fn flying_cost(book: &Book, k: usize, a: usize) -> u64
+    requires aircraft { k < aircraft book.now }
+    requires activity { a < activities book.now }
+    ensures { result ≡ activity_cost book.now k a }
+{
+    let tail = &book.tails[k];
+    let kind = &book.rules.kinds[tail.kind as usize];
+    kind.rate * minutes_flown(book, a) + tail.fixed
+}
+
+// Adds what each activity costs an aircraft.
+fn add_costs(book: &Book, k: usize, fly: &mut Vec<u64>) -> Result<(), Memory>
+    requires { k < aircraft book.now }
+    ensures { IfOk result (λ _. fly.new.items ≡ fly.old.items ++ activity_costs book.now k) }
+{
+    for a in 0..book.activities.len() {
+        fly.push(flying_cost(book, k, a))?;
+    }
+    Ok(())
+}
+
+// What each activity costs each aircraft, the first aircraft's costs first.
+fn costs_of_all(alloc: Global, book: &Book) -> Result<Vec<u64>, Memory>
+    ensures { IfOk result (λ fly. fly.items ≡ (costs_of book.now).fly) }
+{
+    let mut fly = Vec::with_capacity(alloc, book.activities.len() * book.tails.len())?;
+    for k in 0..book.tails.len() {
+        add_costs(book, k, &mut fly)?;
+    }
+    Ok(fly)
+}
