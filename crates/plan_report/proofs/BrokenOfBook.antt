@@ -1,24 +1,23 @@
 -- The numbers in the broken rules of a plan are of the book: those of names are none, those of legs are the legs' own, and
 -- activities and counters are counted from 0 on.
-use Rattle.std.proofs.Common.{◌≡◌, ℕ, zero, suc, ℤ, ◌+◌, ◌<◌, ◌≤◌, Bool, true, false, List, [], ◌∷◌, ◌++◌, length, map, refl, arith, not, pos, replicate, if◌then◌else◌}
+use Rattle.std.proofs.Common.{ℕ, zero, suc, ℤ, ◌+◌, ◌<◌, ◌≤◌, Bool, true, false, List, [], ◌∷◌, ◌++◌, length, map, arith, not, if◌then◌else◌}
 use Rattle.std.proofs.lemmas.List.Elements.{All-append, All-cons, All-head, All-tail, All-same}
 use Rattle.std.specs.List.{All, filter, range_with_len}
 use Rattle.tail_book.specs.Lookup.{activities}
 use Rattle.tail_book.specs.Numbers.{contains, int_le}
 use Rattle.tail_book.specs.Seen.{BookSeen, CounterSeen, RawPlanSeen}
-use Rattle.plan_audit.specs.Broken.{IsAuditOf, broken}
+use Rattle.plan_audit.specs.Broken.{broken}
 use Rattle.plan_audit.specs.Kept.{IsLegOf, legs_met}
 use Rattle.plan_audit.specs.Laws.{LegsAreOfBook}
 use Rattle.plan_audit.specs.Met.{activities_met, names_met}
-use Rattle.plan_audit.specs.Rules.{curfews, is_connected, is_permitted, no_links, not_allowed, past_limits, past_limits_at, twice, uncovered, unknown, values_after}
-use Rattle.plan_audit.specs.declared.broken.Audit.{Audit}
+use Rattle.plan_audit.specs.Rules.{is_permitted, past_limits, past_limits_at, twice, uncovered, unknown, values_after}
 use Rattle.plan_audit.specs.declared.broken.Audit.TheVariants as audit
 use Rattle.plan_audit.specs.declared.broken.Broken.{Broken}
 use Rattle.plan_audit.specs.declared.broken.Broken.TheVariants as rule
 use Rattle.plan_audit.specs.declared.leg.Leg.{Leg}
 use Rattle.plan_audit.specs.declared.met.Met.{Met}
 use Rattle.plan_audit.specs.declared.met.Met.TheVariants.{Unknown, Twice, Tail, Activity}
-use Rattle.plan_report.specs.AuditText.{AreOfBook, IsOfBook}
+use Rattle.plan_report.specs.AuditText.{IsOfBook}
 use Rattle.plan_report.specs.Laws.{AuditsCanBeWritten}
 
 -- what is made of the elements that pass a test

@@ -250,7 +250,7 @@ fn repeated(
     Ok(text)
 }
 
-// The front of a text that so many bytes are.
+// Whether what was taken is the front of a text, of so many bytes.
 fn is_front(taken: &[u8], text: &str, length: usize) -> bool {
     taken.len() == length && text.as_bytes().starts_with(taken)
 }
