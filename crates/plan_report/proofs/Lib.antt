@@ -1,6 +1,5 @@
 pub mod SinkLemmas
 pub mod Writable
-pub mod WritableAudit
 pub mod PartLemmas
 pub mod IdLemmas
 pub mod LineLemmas
@@ -10,3 +9,4 @@ pub mod CountLemmas
 pub mod TextLemmas
 pub mod NamedLines
 pub mod ReadBack
+pub mod BrokenOfBook

@@ -17,7 +17,7 @@ use Rattle.plan_report.specs.Report.{HasPlanFor, report}
 abbrev pub TrueOutcomesCanBeWritten : Type 0
 TrueOutcomesCanBeWritten = (book : BookSeen) → IsBook book → (outcome : Outcome) → IsTrueOutcome book outcome → HasPlanFor book outcome
 
--- the law of audits: the numbers in the broken rules that an audit tells are of the book
+-- the law of audits: the numbers in what an audit finds are of the book
 abbrev pub AuditsCanBeWritten : Type 0
 AuditsCanBeWritten = (book : BookSeen) (raw : RawPlanSeen) (found : Audit) → IsAuditOf book raw found → AreOfBook book found
 

@@ -3,16 +3,16 @@
 ghost use Rattle.plan_report.specs.Laws.{AuditsCanBeWritten, ReportIsReadBack, TrueOutcomesCanBeWritten};
 
 use plan_audit::laws::legs_are_of_book;
-use tail_book::laws;
+use tail_book::laws::legal_routes_rise;
 
 /// The plan of a true outcome has one route for each aircraft, of activities of the book.
 pub fn true_outcomes_can_be_written()
     ensures { TrueOutcomesCanBeWritten }
 {
-    laws::legal_routes_rise();
+    legal_routes_rise();
 }
 
-/// The numbers in the broken rules that an audit tells are of the book.
+/// The numbers in the broken rules of an audit are of the book.
 pub fn audits_can_be_written()
     ensures { AuditsCanBeWritten }
 {

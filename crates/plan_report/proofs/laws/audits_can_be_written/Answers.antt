@@ -1,4 +1,4 @@
-use Rattle.plan_report.proofs.WritableAudit.{can_be_written}
+use Rattle.plan_report.proofs.BrokenOfBook.{can_be_written}
 use Rattle.plan_report.proofs.laws.audits_can_be_written.Goals as goal
 
 pub returns : goal.returns
