@@ -39,5 +39,5 @@ fn words_of(rt: &HostRuntime) -> io::Result<Vec<String>> {
     }
 }
 
-
-
+#[cfg(test)]
+mod tests;

@@ -44,7 +44,11 @@ pub fn read_tables<F: Files>(
         Err(fail) => return Err(fail),
     };
     match read_all(alloc, files, names.rules, READ_LIMIT) {
-        Ok(rules) => Ok(Tables { timetable, fleet, rules }),
+        Ok(rules) => Ok(Tables {
+            timetable,
+            fleet,
+            rules,
+        }),
         Err(fail) => Err(fail),
     }
 }
