@@ -30,10 +30,18 @@ broken_text book (Counter k a c) = codes "counter " ++ pair_names book k a ++ co
 abbrev pub broken_line : BookSeen → Broken → List ℕ
 broken_line book rule = broken_text book rule ++ newline
 
+-- what a legal plan costs, as a line
+abbrev pub legal_line : ℕ → List ℕ
+legal_line cost = codes "legal " ++ decimal cost ++ newline
+
+-- how many rules are broken, and a line for each of them
+abbrev pub broken_lines : BookSeen → List Broken → List (List ℕ)
+broken_lines book rules = (codes "broken " ++ decimal (length rules) ++ newline) ∷ map (broken_line book) rules
+
 -- the lines of an audit
 abbrev pub audit_lines : BookSeen → Audit → List (List ℕ)
-audit_lines book (audit.Legal cost) = (codes "legal " ++ decimal cost ++ newline) ∷ []
-audit_lines book (audit.Broken rules) = (codes "broken " ++ decimal (length rules.items) ++ newline) ∷ map (broken_line book) rules.items
+audit_lines book (audit.Legal cost) = legal_line cost ∷ []
+audit_lines book (audit.Broken rules) = broken_lines book rules.items
 
 -- the audit as it is printed
 abbrev pub audit_text : BookSeen → Audit → List ℕ

@@ -5,4 +5,5 @@ pub mod PartsLeft
 pub mod Report
 pub mod AuditText
 pub mod Laws
+pub mod Printed
 pub mod PlanText

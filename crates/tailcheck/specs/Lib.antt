@@ -1,3 +1,5 @@
-pub mod Lines
 pub mod Usage
 pub mod Words
+pub mod Cases
+pub mod Answers
+pub mod Promises

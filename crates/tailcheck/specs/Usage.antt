@@ -1,6 +1,6 @@
 -- What is printed where the words are refused.
 use Rattle.std.specs.Prelude.{ℕ, List, ◌++◌, codes}
-use Rattle.tailcheck.specs.Lines.{newline}
+use Rattle.plan_report.specs.Lines.{newline}
 
 -- the words that the program takes
 abbrev pub usage_line : List ℕ

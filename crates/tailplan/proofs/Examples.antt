@@ -13,7 +13,7 @@ named timetable fleet rules = Some (record { timetable = timetable; fleet = flee
 
 -- no words at all, or the program's name alone, give no names
 no_words : (run_of [] ≡ None) × (after_name [] ≡ None)
-unfolding clap_on_literals
+unfolding clap_on_literals run_of
 no_words = (refl, refl)
 
 -- three names are taken in their order, whatever the program is called
@@ -21,7 +21,7 @@ three_names : (after_name (codes "t" ∷ codes "f" ∷ codes "r" ∷ []) ≡ nam
     × (run_of (codes "" ∷ codes "t" ∷ codes "f" ∷ codes "r" ∷ []) ≡ named (codes "t") (codes "f") (codes "r"))
     × (run_of (codes "--help" ∷ codes "t" ∷ codes "f" ∷ codes "r" ∷ []) ≡ named (codes "t") (codes "f") (codes "r"))
     × (after_name (codes "x" ∷ codes "x" ∷ codes "x" ∷ []) ≡ named (codes "x") (codes "x") (codes "x"))
-unfolding clap_on_literals
+unfolding clap_on_literals run_of
 three_names = (refl, refl, refl, refl)
 
 -- one or two names are too few, and four are too many
@@ -29,7 +29,7 @@ other_counts : (after_name (codes "t" ∷ []) ≡ None)
     × (after_name (codes "t" ∷ codes "f" ∷ []) ≡ None)
     × (after_name (codes "t" ∷ codes "f" ∷ codes "r" ∷ codes "x" ∷ []) ≡ None)
     × (after_name (codes "t" ∷ codes "f" ∷ codes "r" ∷ codes "" ∷ []) ≡ None)
-unfolding clap_on_literals
+unfolding clap_on_literals run_of
 other_counts = (refl, refl, refl, refl)
 
 -- an empty word, a dash alone, a path and the word help are names like others
@@ -37,7 +37,7 @@ odd_names : (after_name (codes "" ∷ codes "" ∷ codes "" ∷ []) ≡ named (c
     × (after_name (codes "-" ∷ codes "f" ∷ codes "-" ∷ []) ≡ named (codes "-") (codes "f") (codes "-"))
     × (after_name (codes "./t.csv" ∷ codes "a b" ∷ codes "r=1" ∷ []) ≡ named (codes "./t.csv") (codes "a b") (codes "r=1"))
     × (after_name (codes "help" ∷ codes "f" ∷ codes "r" ∷ []) ≡ named (codes "help") (codes "f") (codes "r"))
-unfolding clap_on_literals
+unfolding clap_on_literals run_of
 odd_names = (refl, refl, refl, refl)
 
 -- a name that begins with a dash is refused
@@ -45,7 +45,7 @@ dash_in_front : (after_name (codes "-t" ∷ codes "f" ∷ codes "r" ∷ []) ≡ 
     × (after_name (codes "t" ∷ codes "f" ∷ codes "-5" ∷ []) ≡ None)
     × (after_name (codes "t" ∷ codes "--f" ∷ codes "r" ∷ []) ≡ None)
     × (after_name (codes "t" ∷ codes "f" ∷ codes "r" ∷ codes "-x" ∷ []) ≡ None)
-unfolding clap_on_literals
+unfolding clap_on_literals run_of
 dash_in_front = (refl, refl, refl, refl)
 
 -- behind two dashes each word is a name, a dash in front or not
@@ -56,7 +56,7 @@ behind_two_dashes : (after_name (codes "--" ∷ codes "t" ∷ codes "f" ∷ code
     × (after_name (codes "t" ∷ codes "f" ∷ codes "r" ∷ codes "--" ∷ []) ≡ named (codes "t") (codes "f") (codes "r"))
     × (after_name (codes "t" ∷ codes "f" ∷ codes "r" ∷ codes "--" ∷ codes "x" ∷ []) ≡ None)
     × (after_name (codes "--" ∷ []) ≡ None)
-unfolding clap_on_literals
+unfolding clap_on_literals run_of
 behind_two_dashes = (refl, refl, refl, refl, refl, refl, refl)
 
 -- there is no flag for help or for the version, alone or beside the names
@@ -67,7 +67,7 @@ no_help : (after_name (codes "--help" ∷ []) ≡ None)
     × (after_name (codes "t" ∷ codes "f" ∷ codes "r" ∷ codes "--help" ∷ []) ≡ None)
     × (after_name (codes "-h" ∷ codes "t" ∷ codes "f" ∷ codes "r" ∷ []) ≡ None)
     × (after_name (codes "t" ∷ codes "f" ∷ codes "r" ∷ codes "--version" ∷ []) ≡ None)
-unfolding clap_on_literals
+unfolding clap_on_literals run_of
 no_help = (refl, refl, refl, refl, refl, refl, refl)
 
 -- no option is taken, in whatever way it is written
@@ -77,5 +77,5 @@ no_options : (after_name (codes "t" ∷ codes "f" ∷ codes "r" ∷ codes "--nod
     × (after_name (codes "t" ∷ codes "f" ∷ codes "r" ∷ codes "--cert=c" ∷ []) ≡ None)
     × (after_name (codes "--cert" ∷ codes "f" ∷ codes "r" ∷ []) ≡ None)
     × (after_name (codes "t" ∷ codes "f" ∷ codes "r" ∷ codes "--rules=x" ∷ []) ≡ None)
-unfolding clap_on_literals
+unfolding clap_on_literals run_of
 no_options = (refl, refl, refl, refl, refl, refl)

@@ -1,4 +1,5 @@
 pub mod Cut
 pub mod Examples
+pub mod SmallBook
 pub mod WordLaws
 pub mod Promised

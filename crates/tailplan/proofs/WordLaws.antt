@@ -9,25 +9,26 @@ named timetable fleet rules = Some (record { timetable = timetable; fleet = flee
 
 -- the program's name does not matter
 whatever_it_is_called : (one other : List ℕ) (words : List (List ℕ)) → run_of (one ∷ words) ≡ run_of (other ∷ words)
+unfolding run_of
 whatever_it_is_called one other words = refl
 
 -- behind two dashes any three words are the names
 any_names : (program timetable fleet rules : List ℕ) → run_of (program ∷ codes "--" ∷ timetable ∷ fleet ∷ rules ∷ []) ≡ named timetable fleet rules
-unfolding clap_on_literals
+unfolding clap_on_literals run_of
 any_names program timetable fleet rules = refl
 
 -- and more than three are too many
 any_four : (program one two three four : List ℕ) (rest : List (List ℕ)) → run_of (program ∷ codes "--" ∷ one ∷ two ∷ three ∷ four ∷ rest) ≡ None
-unfolding clap_on_literals
+unfolding clap_on_literals run_of
 any_four program one two three four rest = refl
 
 -- without them, three words are the names where each begins with another sign than a dash
 plain_names : (program timetable fleet rules_file : List ℕ) (t f r : ℕ) → (t == 45) ≡ false → (f == 45) ≡ false → (r == 45) ≡ false
     → run_of (program ∷ (t ∷ timetable) ∷ (f ∷ fleet) ∷ (r ∷ rules_file) ∷ []) ≡ named (t ∷ timetable) (f ∷ fleet) (r ∷ rules_file)
-unfolding clap_on_literals
+unfolding clap_on_literals run_of
 plain_names program timetable fleet rules_file t f r et ef er = simp (et, ef, er) refl
 
 -- whatever else is written behind two dashes in one word, no option of that name is taken
 no_option_first : (program : List ℕ) (sign : ℕ) (name : List ℕ) (words : List (List ℕ)) → run_of (program ∷ (codes "--" ++ sign ∷ name) ∷ words) ≡ None
-unfolding clap_on_literals
+unfolding clap_on_literals run_of
 no_option_first program sign name words = refl

@@ -9,40 +9,42 @@ use Rattle.book_maker.specs.Made.{book_of}
 use Rattle.tailplan.specs.Answers.{Shown}
 use Rattle.plan_report.specs.Refused.{refusal_line}
 use Rattle.plan_report.specs.Report.{report}
-use Rattle.tailplan.specs.Words.{FileNames, names_of}
+use Rattle.tailplan.specs.SmallBook.{small_book_of}
+use Rattle.tailplan.specs.Words.{RunNames, run_of}
 
 -- the sink took exactly this text in the call, where it tells what it took
 abbrev pub Prints : Shown → List ℕ → Type 0
 Prints shown text = shown.ceased ≡ false → Adds shown.told_before shown.told text
 
 -- the tables are a book, and the report of a plan was printed that is legal, has the printed cost, and is undercut by no legal plan
-pub record PrintsLeastPlan (shown : Shown) (timetable fleet : List ℕ) : Type 0 where
+pub record PrintsLeastPlan (shown : Shown) (timetable fleet rules : List ℕ) : Type 0 where
   pub book : BookSeen
   pub plan : List (List ℕ)
   pub cost : ℕ
-  pub is : book_of timetable fleet ≡ Ok book
+  pub is : book_of timetable fleet rules ≡ Ok book
   pub truth : IsTrueOutcome book (Optimal plan cost)
   pub printed : Prints shown (report book (Optimal plan cost))
 
 -- the tables are a book of which no plan is legal, and that was printed
-pub record PrintsInfeasible (shown : Shown) (timetable fleet : List ℕ) : Type 0 where
+pub record PrintsInfeasible (shown : Shown) (timetable fleet rules : List ℕ) : Type 0 where
   pub book : BookSeen
-  pub is : book_of timetable fleet ≡ Ok book
+  pub is : book_of timetable fleet rules ≡ Ok book
   pub truth : HasNoPlan book
   pub printed : Prints shown (report book Infeasible)
 
 -- the tables are refused, and the first refusal was printed
-pub record PrintsRefusal (shown : Shown) (timetable fleet : List ℕ) : Type 0 where
+pub record PrintsRefusal (shown : Shown) (timetable fleet rules : List ℕ) : Type 0 where
   pub refusal : Refusal
-  pub is : book_of timetable fleet ≡ Err refusal
+  pub is : small_book_of timetable fleet rules ≡ Err refusal
   pub printed : Prints shown (refusal_line refusal)
 
--- the words name two files that hold these bytes
-pub record AreNamed (words : List (List ℕ)) (holds : List ℕ → Option (List ℕ)) (timetable fleet : List ℕ) : Type 0 where
-  pub names : FileNames
-  pub given : names_of words ≡ Some names
+-- the words name three files that hold these bytes
+pub record AreNamed (words : List (List ℕ)) (holds : List ℕ → Option (List ℕ)) (timetable fleet rules : List ℕ) : Type 0 where
+  pub names : RunNames
+  pub given : run_of words ≡ Some names
   pub timetable_held : holds names.timetable ≡ Some timetable
   pub fleet_held : holds names.fleet ≡ Some fleet
+  pub rules_held : holds names.rules ≡ Some rules
 
 -- the status is this one, unless a write failed or memory was wanting
 abbrev pub IsUnlessStopped : ℕ → ℕ → Type 0

@@ -35,7 +35,7 @@ names_in rows =
     (first_of (codes "rules") rows)) (first_of (codes "fleet") rows)) (first_of (codes "timetable") rows)
 
 -- the names that the words give; words that the command refuses give none
-abbrev pub run_of : List (List ℕ) → Option RunNames
+unfoldable pub run_of : List (List ℕ) → Option RunNames
 run_of words = if is_taken words then names_in (matches_of command words) else None
 
 -- the names, as bytes

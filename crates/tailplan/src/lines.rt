@@ -2,9 +2,9 @@
 
 ghost use Rattle.std.specs.Prelude.{◌≡◌, IfOk, [], ◌∷◌};
 ghost use Rattle.tailplan.specs.Answers.{IsPrintable, lines_of};
-ghost use Rattle.tailplan.specs.Usage.{usage_line};
 
 use crate::answer::Answer;
+use crate::usage::usage_line;
 use plan_report::{refusal_line, report_lines};
 use std::alloc::Global;
 use tail_book::Memory;
@@ -30,12 +30,4 @@ fn one_line(alloc: Global, line: Line) -> Result<Vec<Line>, Memory>
     let mut lines = Vec::new(alloc);
     lines.push(line)?;
     Ok(lines)
-}
-
-fn usage_line(alloc: Global) -> Result<Line, Memory>
-    ensures { IfOk result (λ line. line ≡ usage_line) }
-{
-    let mut line = Line::new(alloc)?;
-    line.text(b"usage: tailplan TIMETABLE FLEET\n")?;
-    Ok(line)
 }

@@ -1,9 +1,11 @@
-//! The planner: reads a timetable and a fleet, and prints a legal plan of least cost, or that no plan is legal.
+//! The planner: reads a timetable, a fleet and rules, and prints a legal plan of least cost, or that no plan is legal.
 #![tactic(auto)]
 
 mod answer;
 mod lines;
 mod run;
+mod small_book;
+mod tables;
 mod usage;
 mod words;
 

@@ -1,6 +1,6 @@
-//! A whole run: the words, the tables, the least plan, and what is printed.
+//! A whole run: the words, the three tables, the least plan, and what is printed.
 
-ghost use Rattle.std.specs.Prelude.{◌≡◌, ◌≤◌, ◌⊎◌, ℕ, List, map, string_bytes, IfOk, IfSome, IsErrOf, IsTrue, None, Ok, Err, [], take};
+ghost use Rattle.std.specs.Prelude.{◌≡◌, ◌⊎◌, ℕ, List, map, string_bytes, IfSome, IsTrue, None, Ok, Err, []};
 ghost use Rattle.tail_book.specs.Seen.{BookSeen};
 ghost use Rattle.tail_outside.specs.Outside.{HasRisen};
 ghost use Rattle.tailplan.specs.Answers.{IsAnswerTo, IsPrintable, IsPrinted, IsTrueAnswer, OfTables, lines_of, shown_of, status_of};
@@ -8,29 +8,27 @@ ghost use Rattle.tailplan.specs.Promises.{AreNamed, IsUnlessStopped, Prints, Pri
 ghost use Rattle.tailplan.specs.Usage.{usage_line};
 ghost use Rattle.tail_text.specs.declared.refusal.Refusal.{Refusal};
 ghost use Rattle.plan_report.specs.Lines.{text_of};
-ghost use Rattle.tailplan.specs.Words.{names_of};
+ghost use Rattle.tailplan.specs.SmallBook.{small_book_of};
+ghost use Rattle.tailplan.specs.Words.{run_of};
 ghost use Rattle.tailplan.specs.declared.answer.Answer.{Answer};
-ghost use Rattle.book_maker.specs.Made.{book_of};
-ghost use Rattle.tailplan.specs.declared.run.TheConstants.{READ_LIMIT};
 
 use crate::answer::Answer;
 use crate::lines::lines_of;
-use book_maker::read_book;
+use crate::small_book::small_book;
+use crate::tables::read_tables;
+use crate::words::run_of;
 use plan_enumeration::least_plan;
 use plan_report::laws::true_outcomes_can_be_written;
 use plan_report::put_lines;
 use std::alloc::Global;
 use tail_book::{Outcome, laws};
-use tail_outside::{Fault, Files, ReadFail, Sink, read_all};
+use tail_outside::{Fault, Files, ReadFail, Sink};
 use tail_text::Stopped;
 
 /// How a run ended: 0 with a least plan, 1 with no plan that is legal, 2 with words that are refused, 3 with a table
 /// that is refused, 4 at a limit of the search, 5 after a failed read, 6 after a failed write, 7 for want of memory.
 #[derive(Clone, Copy, PartialEq, Eq, Debug)]
 pub struct Status(pub u8);
-
-/// The most bytes that are read of a table: one more than a table may have, so that a table cut here is still too big.
-pub const READ_LIMIT: usize = 16_777_217;
 
 /// A run that found no memory.
 pub const NO_MEMORY: Status = Status(7);
@@ -42,30 +40,30 @@ pub struct Ran<F> {
     pub files: F,
 }
 
-/// Plans the timetable and the fleet that the words name: prints a legal plan of least cost, or that no plan is
-/// legal, or why the words or a table are refused. The files are handed back as they stand.
+/// Plans the timetable, the fleet and the rules that the words name: prints a legal plan of least cost, or that no
+/// plan is legal, or why the words or a table are refused. The files are handed back as they stand.
 pub fn solve_run<F: Files, S: Sink>(
     alloc: Global,
     words: &[String],
     files: F,
     out: &mut S,
 ) -> Ran<F>
-    requires { IfSome (names_of (map string_bytes words.now)) (λ names. IsTrue (F.lets_read files names.timetable) × IsTrue (F.lets_read files names.fleet)) }
+    requires { IfSome (run_of (map string_bytes words.now)) (λ names. IsTrue (F.lets_read files names.timetable) × IsTrue (F.lets_read files names.fleet) × IsTrue (F.lets_read files names.rules)) }
 
     // What each status says, where the files tell their bytes and the sink what it took.
     ensures least { result.status.0 ≡ 0 → OfTables (map string_bytes words.now) (F.holds files) (PrintsLeastPlan (shown_of (S.told out.old) (S.told out.new) (S.faults out.old) (S.faults out.new) (S.ceased out.new))) }
     ensures infeasible { result.status.0 ≡ 1 → OfTables (map string_bytes words.now) (F.holds files) (PrintsInfeasible (shown_of (S.told out.old) (S.told out.new) (S.faults out.old) (S.faults out.new) (S.ceased out.new))) }
-    ensures usage { result.status.0 ≡ 2 → (names_of (map string_bytes words.now) ≡ None) × Prints (shown_of (S.told out.old) (S.told out.new) (S.faults out.old) (S.faults out.new) (S.ceased out.new)) usage_line }
+    ensures usage { result.status.0 ≡ 2 → (run_of (map string_bytes words.now) ≡ None) × Prints (shown_of (S.told out.old) (S.told out.new) (S.faults out.old) (S.faults out.new) (S.ceased out.new)) usage_line }
     ensures refused { result.status.0 ≡ 3 → OfTables (map string_bytes words.now) (F.holds files) (PrintsRefusal (shown_of (S.told out.old) (S.told out.new) (S.faults out.old) (S.faults out.new) (S.ceased out.new))) }
     ensures read_failed { result.status.0 ≡ 5 → HasRisen (F.read_faults files) (F.read_faults result.files) × Prints (shown_of (S.told out.old) (S.told out.new) (S.faults out.old) (S.faults out.new) (S.ceased out.new)) [] }
     ensures write_failed { result.status.0 ≡ 6 → HasRisen (S.faults out.old) (S.faults out.new) }
 
     // When each comes.
-    ensures words_refused { names_of (map string_bytes words.now) ≡ None → IsUnlessStopped 2 result.status.0 }
-    ensures tables_refused { (timetable fleet : List ℕ) (refusal : Refusal) → AreNamed (map string_bytes words.now) (F.holds files) timetable fleet
-        → book_of timetable fleet ≡ Err refusal → (result.status.0 ≡ 5) ⊎ IsUnlessStopped 3 result.status.0 }
-    ensures answers { (timetable fleet : List ℕ) (book : BookSeen) → AreNamed (map string_bytes words.now) (F.holds files) timetable fleet
-        → book_of timetable fleet ≡ Ok book → ¬ HasRisen (F.read_faults files) (F.read_faults result.files) → ¬ HasRisen (S.faults out.old) (S.faults out.new)
+    ensures words_refused { run_of (map string_bytes words.now) ≡ None → IsUnlessStopped 2 result.status.0 }
+    ensures tables_refused { (timetable fleet rules : List ℕ) (refusal : Refusal) → AreNamed (map string_bytes words.now) (F.holds files) timetable fleet rules
+        → small_book_of timetable fleet rules ≡ Err refusal → (result.status.0 ≡ 5) ⊎ IsUnlessStopped 3 result.status.0 }
+    ensures answers { (timetable fleet rules : List ℕ) (book : BookSeen) → AreNamed (map string_bytes words.now) (F.holds files) timetable fleet rules
+        → small_book_of timetable fleet rules ≡ Ok book → ¬ HasRisen (F.read_faults files) (F.read_faults result.files) → ¬ HasRisen (S.faults out.old) (S.faults out.new)
         → (result.status.0 ≡ 0) ⊎ ((result.status.0 ≡ 1) ⊎ (result.status.0 ≡ 7)) }
 
     // In each case some answer is true of the words and the files, and what was printed is its text, or a front of it
@@ -83,44 +81,12 @@ pub fn solve_run<F: Files, S: Sink>(
     Ran { status, files }
 }
 
-/// The bytes of the two tables.
-#[derive(Debug, Drop)]
-pub struct Tables {
-    pub timetable: Vec<u8>,
-    pub fleet: Vec<u8>,
-}
-
-// The bytes of the tables under two names.
-fn read_tables<F: Files>(
-    alloc: Global,
-    files: &mut F,
-    timetable: &str,
-    fleet: &str,
-) -> Result<Tables, ReadFail>
-    requires timetable { IsTrue (F.lets_read files.old timetable.now) }
-    requires fleet { IsTrue (F.lets_read files.old fleet.now) }
-    ensures timetable { IfOk result (λ t. IfSome (F.holds files.old timetable.now) (λ bytes. t.timetable.items ≡ take READ_LIMIT bytes)) }
-    ensures fleet { IfOk result (λ t. IfSome (F.holds files.old fleet.now) (λ bytes. t.fleet.items ≡ take READ_LIMIT bytes)) }
-    ensures same { (other : List ℕ) → F.holds files.new other ≡ F.holds files.old other }
-    ensures counts { F.read_faults files.old ≤ F.read_faults files.new }
-    ensures cause { IsErrOf result ReadFail.Failed → HasRisen (F.read_faults files.old) (F.read_faults files.new) }
-{
-    let timetable = match read_all(alloc, files, timetable, READ_LIMIT) {
-        Ok(bytes) => bytes,
-        Err(fail) => return Err(fail),
-    };
-    match read_all(alloc, files, fleet, READ_LIMIT) {
-        Ok(fleet) => Ok(Tables { timetable, fleet }),
-        Err(fail) => Err(fail),
-    }
-}
-
 // The answer to the bytes of the tables.
-fn solved(alloc: Global, timetable: &[u8], fleet: &[u8]) -> Answer
-    ensures answer { IsAnswerTo timetable.now fleet.now result }
+fn solved(alloc: Global, timetable: &[u8], fleet: &[u8], rules: &[u8]) -> Answer
+    ensures answer { IsAnswerTo timetable.now fleet.now rules.now result }
     ensures printable { IsPrintable result }
 {
-    let book = match read_book(alloc, timetable, fleet) {
+    let book = match small_book(alloc, timetable, fleet, rules) {
         Ok(book) => book,
         Err(Stopped::Refused(refusal)) => return Answer::Refused(refusal),
         Err(Stopped::Memory) => return Answer::Memory,
@@ -135,16 +101,18 @@ fn solved(alloc: Global, timetable: &[u8], fleet: &[u8]) -> Answer
 
 // The answer to the words.
 fn answer_of<F: Files>(alloc: Global, words: &[String], files: &mut F) -> Answer
-    requires { IfSome (names_of (map string_bytes words.now)) (λ names. IsTrue (F.lets_read files.old names.timetable) × IsTrue (F.lets_read files.old names.fleet)) }
+    requires { IfSome (run_of (map string_bytes words.now)) (λ names. IsTrue (F.lets_read files.old names.timetable) × IsTrue (F.lets_read files.old names.fleet) × IsTrue (F.lets_read files.old names.rules)) }
     ensures answer { IsTrueAnswer (map string_bytes words.now) (F.holds files.old) (F.read_faults files.old) (F.read_faults files.new) result }
     ensures printable { IsPrintable result }
     ensures same { (other : List ℕ) → F.holds files.new other ≡ F.holds files.old other }
 {
-    let [_, timetable, fleet] = words else {
-        return Answer::Usage;
+    let names = match run_of(alloc, words) {
+        Ok(Some(names)) => names,
+        Ok(None) => return Answer::Usage,
+        Err(_) => return Answer::Memory,
     };
-    match read_tables(alloc, files, timetable.as_str(), fleet.as_str()) {
-        Ok(tables) => solved(alloc, &tables.timetable, &tables.fleet),
+    match read_tables(alloc, files, &names) {
+        Ok(tables) => solved(alloc, &tables.timetable, &tables.fleet, &tables.rules),
         Err(ReadFail::Failed) => Answer::ReadFailed,
         Err(ReadFail::Memory) => Answer::Memory,
     }

@@ -53,6 +53,7 @@ fn names_in<'a>(matches: &ArgMatches<'a>) -> Option<RunNames<'a>>
 }
 
 /// The names of the tables, or nothing where the words are refused. The words begin with the program's name.
+#[tactic(auto, unfolding(crate::specs::Words::run_of))]
 pub fn run_of<'a>(alloc: Global, words: &'a [String]) -> Result<Option<RunNames<'a>>, Memory>
     ensures { IfOk result (λ names. option_map names_seen names ≡ run_of (map string_bytes words.now)) }
 {

@@ -1,6 +1,0 @@
--- Lines of text, one after the other.
-use Rattle.std.specs.Prelude.{ℕ, List, [], ◌∷◌}
-
--- the end of a line
-abbrev pub newline : List ℕ
-newline = 10 ∷ []

@@ -1,0 +1,8 @@
+//! Runs over files and a sink in memory, on tables and plans as a planner types them.
+
+mod faults;
+mod fixtures;
+mod plan_files;
+mod refusals;
+mod verdicts;
+mod week;

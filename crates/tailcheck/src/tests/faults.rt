@@ -1,0 +1,89 @@
+//! Reads and writes that fail.
+
+use super::fixtures::{
+    FLEET, ONE_AT_ARLANDA, RULES, THERE_AND_BACK, TIMETABLE, Typed, WORDS, files_of, run_failing,
+};
+use std::test::Fail;
+
+const GOOD: Typed<'_> = Typed {
+    timetable: &[TIMETABLE, THERE_AND_BACK],
+    fleet: &[FLEET, ONE_AT_ARLANDA],
+    rules: &[RULES],
+    plan: &["optimal 120\nA1: F1 F2\n"],
+};
+
+// A plan that breaks three rules: four lines are printed.
+const BROKEN: Typed<'_> = Typed {
+    plan: &["optimal 120\nA1: F1 F9 F1\n"],
+    ..GOOD
+};
+
+const REFUSED: Typed<'_> = Typed {
+    plan: &["infeasible\n"],
+    ..GOOD
+};
+
+// A write that fails ends the run with what was printed before it.
+#[test]
+fn a_failed_write_ends_a_run(rt: HostRuntime) -> Result<(), Fail> {
+    for (typed, put, status, printed) in [
+        (GOOD, 1, 6, ""),
+        (GOOD, 2, 0, "legal 120\n"),
+        (BROKEN, 1, 6, ""),
+        (BROKEN, 2, 6, "broken 3\n"),
+        (BROKEN, 3, 6, "broken 3\nunknown F9\n"),
+        (BROKEN, 4, 6, "broken 3\nunknown F9\ntwice F1\n"),
+        (
+            BROKEN,
+            5,
+            1,
+            "broken 3\nunknown F9\ntwice F1\nuncovered F2\n",
+        ),
+        (REFUSED, 1, 6, ""),
+        (REFUSED, 2, 3, "refused 3 plan 1\n"),
+    ] {
+        let files = files_of(rt.alloc(), typed)?;
+        let seen = run_failing(rt.alloc(), &WORDS, files, &[], &[put])?;
+        assert!(rt; seen.is(status, printed), "{put} {printed}");
+    }
+    let files = files_of(rt.alloc(), GOOD)?;
+    let seen = run_failing(rt.alloc(), &["tailcheck"], files, &[], &[1])?;
+    assert!(rt; seen.is(6, ""));
+    Ok(())
+}
+
+// Each file is read in two calls, of which the second finds its end. Whichever of them fails, nothing is printed, also
+// where a table or the plan's file would be refused.
+#[test]
+fn a_failed_read_ends_a_run(rt: HostRuntime) -> Result<(), Fail> {
+    for call in 1..9 {
+        for typed in [GOOD, REFUSED] {
+            let files = files_of(rt.alloc(), typed)?;
+            let seen = run_failing(rt.alloc(), &WORDS, files, &[call], &[])?;
+            assert!(rt; seen.is(5, ""), "{call}");
+        }
+    }
+    let files = files_of(rt.alloc(), GOOD)?;
+    let seen = run_failing(rt.alloc(), &WORDS, files, &[9], &[])?;
+    assert!(rt; seen.is(0, "legal 120\n"));
+    Ok(())
+}
+
+// A file that isn't there can't be read, even where a table is bad: the plan's file is no timetable.
+#[test]
+fn a_missing_file_ends_a_run(rt: HostRuntime) -> Result<(), Fail> {
+    for words in [
+        ["tailcheck", "none", "f", "r", "--plan", "p"],
+        ["tailcheck", "t", "none", "r", "--plan", "p"],
+        ["tailcheck", "t", "f", "none", "--plan", "p"],
+        ["tailcheck", "t", "f", "r", "--plan", "none"],
+        ["tailcheck", "p", "f", "r", "--plan", "none"],
+        ["tailcheck", "t", "p", "r", "--plan", "none"],
+        ["tailcheck", "t", "f", "p", "--plan", "none"],
+    ] {
+        let files = files_of(rt.alloc(), GOOD)?;
+        let seen = run_failing(rt.alloc(), &words, files, &[], &[])?;
+        assert!(rt; seen.is(5, ""), "{words:?}");
+    }
+    Ok(())
+}

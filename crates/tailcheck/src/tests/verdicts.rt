@@ -1,0 +1,229 @@
+//! Plans that are legal, and plans that break rules.
+
+use super::fixtures::{ONE_AT_ARLANDA, THERE_AND_BACK, TWO_AT_ARLANDA, run_there_and_back, run_with};
+use std::test::Fail;
+
+// The plans of two flights and one aircraft.
+#[test]
+fn plans_of_two_flights_are_judged(rt: HostRuntime) -> Result<(), Fail> {
+    for (plan, status, printed) in [
+        // the planner's report, also where its first line says something else
+        ("optimal 120\nA1: F1 F2\n", 0, "legal 120\n"),
+        ("optimal 5\nA1: F1 F2\n", 0, "legal 120\n"),
+        ("limit 7 120\nA1: F1 F2\n", 0, "legal 120\n"),
+        // the flights the wrong way round
+        (
+            "optimal 120\nA1: F2 F1\n",
+            1,
+            "broken 2\nnolink A1 F2\nnolink A1 F1\n",
+        ),
+        // an id that nothing has, and one that was there before
+        (
+            "optimal 120\nA1: F1 F9 F1\n",
+            1,
+            "broken 3\nunknown F9\ntwice F1\nuncovered F2\n",
+        ),
+        // an aircraft that nothing has, and one that was there before: their ids are dropped
+        (
+            "optimal 120\nA9: F1 F8\nA1: F1 F2\n",
+            1,
+            "broken 1\nunknown A9\n",
+        ),
+        (
+            "optimal 120\nA1: F1\nA1: F2 F8\n",
+            1,
+            "broken 2\ntwice A1\nuncovered F2\n",
+        ),
+        // no aircraft has a line
+        (
+            "optimal 0\n",
+            1,
+            "broken 2\nuncovered F1\nuncovered F2\n",
+        ),
+    ] {
+        let seen = run_there_and_back(rt.alloc(), plan)?;
+        assert!(rt; seen.is(status, printed), "{plan}");
+    }
+    Ok(())
+}
+
+const FLIGHT_HOURS: &str =
+    "[[counter]]\nname = \"fh\"\nkind = \"minutes\"\nlimit = 120\nbases = [\"ARN\"]\nstop = 60\n";
+
+const LANDINGS: &str =
+    "[[counter]]\nname = \"ldg\"\nkind = \"landings\"\nlimit = 3\nbases = [\"ARN\"]\nstop = 60\n\
+[[band]]\nupto = 59\ncost = 0\n[[band]]\nupto = 10000000\ncost = 500\n";
+
+const CHECK: &str =
+    "[[counter]]\nname = \"chk\"\nkind = \"days\"\nlimit = 1\nbases = [\"ARN\"]\nstop = 60\n";
+
+const NIGHT: &str = "[[curfew]]\nairport = \"ARN\"\nfrom = \"23:00\"\nto = \"06:00\"\ntypes = []\n\
+start = false\nlanding = true\n";
+
+const FOUR_FLIGHTS: &str = "F1,flight,ARN,OSL,2025-03-03T06:00,2025-03-03T07:00,,,,\n\
+F2,flight,OSL,ARN,2025-03-03T07:30,2025-03-03T08:30,,,,\n\
+F3,flight,ARN,OSL,2025-03-03T09:30,2025-03-03T10:30,,,,\n\
+F4,flight,OSL,ARN,2025-03-03T11:00,2025-03-03T12:00,,,,\n";
+
+// The same with a third flight a minute earlier, so that the counter isn't reset before it.
+const FOUR_WITHOUT_A_RESET: &str = "F1,flight,ARN,OSL,2025-03-03T06:00,2025-03-03T07:00,,,,\n\
+F2,flight,OSL,ARN,2025-03-03T07:30,2025-03-03T08:30,,,,\n\
+F3,flight,ARN,OSL,2025-03-03T09:29,2025-03-03T10:29,,,,\n\
+F4,flight,OSL,ARN,2025-03-03T11:00,2025-03-03T12:00,,,,\n";
+
+const GROUND_BETWEEN: &str = "F1,flight,ARN,OSL,2025-03-03T06:00,2025-03-03T07:00,,,A1,\n\
+F2,flight,OSL,ARN,2025-03-03T07:30,2025-03-03T08:30,,,A1,\n\
+G1,ground,ARN,ARN,2025-03-03T09:00,2025-03-03T09:45,,,,\n\
+F5,flight,ARN,OSL,2025-03-03T10:00,2025-03-03T11:00,,,A1,\n\
+F6,flight,OSL,ARN,2025-03-03T11:30,2025-03-03T12:30,,,A1,\n";
+
+const CHECK_IN_OSLO: &str = "G1,ground,OSL,OSL,2025-03-03T10:00,2025-03-03T12:00,,,A1,chk\n\
+F1,flight,OSL,ARN,2025-03-03T12:30,2025-03-03T13:30,,,,\n";
+
+// Counters, with and without a reset, and what a wait costs.
+#[test]
+fn counters_are_judged(rt: HostRuntime) -> Result<(), Fail> {
+    for (records, aircraft, rules, plan, status, printed) in [
+        (
+            FOUR_FLIGHTS,
+            ONE_AT_ARLANDA,
+            FLIGHT_HOURS,
+            "optimal 1\nA1: F1 F2 F3 F4\n",
+            0,
+            "legal 240\n",
+        ),
+        (
+            FOUR_WITHOUT_A_RESET,
+            ONE_AT_ARLANDA,
+            FLIGHT_HOURS,
+            "optimal 1\nA1: F1 F2 F3 F4\n",
+            1,
+            "broken 2\ncounter A1 F3 fh\ncounter A1 F4 fh\n",
+        ),
+        (
+            GROUND_BETWEEN,
+            TWO_AT_ARLANDA,
+            LANDINGS,
+            "optimal 1\nA1: F1 F2 F5 F6\nA2: G1\n",
+            0,
+            "legal 740\n",
+        ),
+        (
+            GROUND_BETWEEN,
+            TWO_AT_ARLANDA,
+            LANDINGS,
+            "optimal 1\nA1: F1 F2 G1 F5 F6\nA2:\n",
+            1,
+            "broken 1\ncounter A1 F6 ldg\n",
+        ),
+        (
+            CHECK_IN_OSLO,
+            "A1,P,OSL,2025-03-03T00:00,7,,,chk=1000\n",
+            CHECK,
+            "optimal 1\nA1: G1 F1\n",
+            0,
+            "legal 74\n",
+        ),
+    ] {
+        let seen = run_with(rt.alloc(), records, aircraft, rules, plan)?;
+        assert!(rt; seen.is(status, printed), "{records}{plan}");
+    }
+    Ok(())
+}
+
+const QUICK_AND_SLOW: &str = "F1,flight,ARN,OSL,2025-03-03T06:00,2025-03-03T07:00,,,,\n\
+F2,flight,ARN,OSL,2025-03-03T06:00,2025-03-03T08:00,,,,\n";
+
+const CHEAP_AND_DEAR: &str = "A1,P,ARN,2025-03-03T05:00,0,,,\nA2,Q,ARN,2025-03-03T05:00,0,,,\n";
+
+const DEAR_TYPE: &str = "[[type]]\nname = \"Q\"\nrate = 2\nturn = 30\n";
+
+const ONE_EACH: &str = "FB,flight,ARN,OSL,2025-03-03T06:00,2025-03-03T07:00,,,A1,\n\
+FA,flight,ARN,OSL,2025-03-03T06:00,2025-03-03T07:00,,,A2,\n";
+
+// Who may fly what, and what it costs.
+#[test]
+fn aircraft_are_judged(rt: HostRuntime) -> Result<(), Fail> {
+    for (records, aircraft, rules, plan, status, printed) in [
+        (
+            QUICK_AND_SLOW,
+            CHEAP_AND_DEAR,
+            DEAR_TYPE,
+            "optimal 240\nA1: F2\nA2: F1\n",
+            0,
+            "legal 240\n",
+        ),
+        // legal, though another plan costs less
+        (
+            QUICK_AND_SLOW,
+            CHEAP_AND_DEAR,
+            DEAR_TYPE,
+            "optimal 240\nA2: F2\nA1: F1\n",
+            0,
+            "legal 300\n",
+        ),
+        (
+            ONE_EACH,
+            TWO_AT_ARLANDA,
+            "",
+            "optimal 1\nA1: FA\nA2: FB\n",
+            1,
+            "broken 2\nnotallowed A1 FA\nnotallowed A2 FB\n",
+        ),
+        (
+            ONE_EACH,
+            TWO_AT_ARLANDA,
+            "",
+            "optimal 1\nA1: FB\nA2: FA\n",
+            0,
+            "legal 120\n",
+        ),
+        // two aircraft with nothing to fly, and no aircraft at all
+        ("", TWO_AT_ARLANDA, "", "optimal 0\nA1:\nA2:\n", 0, "legal 0\n"),
+        ("", "", "", "optimal 0\n", 0, "legal 0\n"),
+        (
+            THERE_AND_BACK,
+            "",
+            "",
+            "optimal 0\n",
+            1,
+            "broken 2\nuncovered F1\nuncovered F2\n",
+        ),
+    ] {
+        let seen = run_with(rt.alloc(), records, aircraft, rules, plan)?;
+        assert!(rt; seen.is(status, printed), "{records}{plan}");
+    }
+    Ok(())
+}
+
+// A landing at Arlanda a minute before the night, at its start, in its last minute, and at its end.
+#[test]
+fn curfews_are_judged(rt: HostRuntime) -> Result<(), Fail> {
+    let at_oslo = "A1,P,OSL,2025-03-03T00:00,0,,,\n";
+    for (records, status, printed) in [
+        (
+            "F1,flight,OSL,ARN,2025-03-03T20:59,2025-03-03T21:59,,,,\n",
+            0,
+            "legal 60\n",
+        ),
+        (
+            "F1,flight,OSL,ARN,2025-03-03T21:00,2025-03-03T22:00,,,,\n",
+            1,
+            "broken 1\ncurfew A1 F1\n",
+        ),
+        (
+            "F1,flight,OSL,ARN,2025-03-03T03:59,2025-03-03T04:59,,,,\n",
+            1,
+            "broken 1\ncurfew A1 F1\n",
+        ),
+        (
+            "F1,flight,OSL,ARN,2025-03-03T04:00,2025-03-03T05:00,,,,\n",
+            0,
+            "legal 60\n",
+        ),
+    ] {
+        let seen = run_with(rt.alloc(), records, at_oslo, NIGHT, "optimal 1\nA1: F1\n")?;
+        assert!(rt; seen.is(status, printed), "{records}");
+    }
+    Ok(())
+}

@@ -1,0 +1,284 @@
+//! Counters of minutes, landings and days: limits, bases, stops, resets and what an aircraft comes in with.
+
+use super::{ONE, THERE, THERE_AND_BACK, TWO, ends_so};
+use std::test::Fail;
+
+// A counter of flown minutes of at most two hours, which an hour at Arlanda resets.
+const TWO_HOURS: &str =
+    "[[counter]]\nname = \"fh\"\nkind = \"minutes\"\nlimit = 120\nbases = [\"ARN\"]\nstop = 60\n";
+
+// Flown minutes may add up to the limit. A stop at a base of so many minutes sets them to nothing.
+#[test]
+fn a_stop_at_a_base_resets_minutes(rt: HostRuntime) -> Result<(), Fail> {
+    for (records, rules, status, printed) in [
+        // an hour at Arlanda after two hours in the air
+        (
+            "F1,flight,ARN,OSL,2025-03-03T06:00,2025-03-03T07:00,,,,\n\
+F2,flight,OSL,ARN,2025-03-03T07:30,2025-03-03T08:30,,,,\n\
+F3,flight,ARN,OSL,2025-03-03T09:30,2025-03-03T10:30,,,,\n\
+F4,flight,OSL,ARN,2025-03-03T11:00,2025-03-03T12:00,,,,\n",
+            TWO_HOURS,
+            0,
+            "optimal 240\nA1: F1 F2 F3 F4\n",
+        ),
+        // a minute less
+        (
+            "F1,flight,ARN,OSL,2025-03-03T06:00,2025-03-03T07:00,,,,\n\
+F2,flight,OSL,ARN,2025-03-03T07:30,2025-03-03T08:30,,,,\n\
+F3,flight,ARN,OSL,2025-03-03T09:29,2025-03-03T10:29,,,,\n\
+F4,flight,OSL,ARN,2025-03-03T11:00,2025-03-03T12:00,,,,\n",
+            TWO_HOURS,
+            1,
+            "infeasible\n",
+        ),
+        // two hours in the air are a minute too many
+        (
+            THERE_AND_BACK,
+            "[[counter]]\nname = \"fh\"\nkind = \"minutes\"\nlimit = 119\nbases = [\"ARN\"]\nstop = 60\n",
+            1,
+            "infeasible\n",
+        ),
+        // half an hour in Oslo resets where it is a base and long enough
+        (
+            THERE_AND_BACK,
+            "[[counter]]\nname = \"fh\"\nkind = \"minutes\"\nlimit = 60\nbases = [\"OSL\"]\nstop = 30\n",
+            0,
+            "optimal 120\nA1: F1 F2\n",
+        ),
+        (
+            THERE_AND_BACK,
+            "[[counter]]\nname = \"fh\"\nkind = \"minutes\"\nlimit = 60\nbases = [\"OSL\"]\nstop = 31\n",
+            1,
+            "infeasible\n",
+        ),
+        (
+            THERE_AND_BACK,
+            "[[counter]]\nname = \"fh\"\nkind = \"minutes\"\nlimit = 60\nbases = [\"ARN\"]\nstop = 30\n",
+            1,
+            "infeasible\n",
+        ),
+        // the second of two counters is the one that is passed
+        (
+            THERE_AND_BACK,
+            "[[counter]]\nname = \"fh\"\nkind = \"minutes\"\nlimit = 120\nbases = []\nstop = 1\n\
+[[counter]]\nname = \"ldg\"\nkind = \"landings\"\nlimit = 1\nbases = []\nstop = 1\n",
+            1,
+            "infeasible\n",
+        ),
+    ] {
+        let ends = ends_so(rt.alloc(), records, ONE, rules, status, printed)?;
+        assert!(rt; ends, "{records}{rules}");
+    }
+    Ok(())
+}
+
+// An aircraft comes in with what it carries. A stop before its first flight may reset that.
+#[test]
+fn carried_values_count(rt: HostRuntime) -> Result<(), Fail> {
+    for (aircraft, rules, status, printed) in [
+        (
+            "A1,P,ARN,2025-03-03T05:30,0,,,fh=60\n",
+            TWO_HOURS,
+            0,
+            "optimal 60\nA1: F1\n",
+        ),
+        (
+            "A1,P,ARN,2025-03-03T05:30,0,,,fh=61\n",
+            TWO_HOURS,
+            1,
+            "infeasible\n",
+        ),
+        // an hour at the base before the first flight
+        (
+            "A1,P,ARN,2025-03-03T05:00,0,,,fh=120\n",
+            TWO_HOURS,
+            0,
+            "optimal 60\nA1: F1\n",
+        ),
+        (
+            "A1,P,ARN,2025-03-03T05:01,0,,,fh=120\n",
+            TWO_HOURS,
+            1,
+            "infeasible\n",
+        ),
+        // one that carries too much may stay where it is
+        (
+            "A1,P,ARN,2025-03-03T05:30,0,,,fh=500\nA2,P,ARN,2025-03-03T05:30,8,,,\n",
+            TWO_HOURS,
+            0,
+            "optimal 68\nA1:\nA2: F1\n",
+        ),
+        // a value is that of the counter it names
+        (
+            "A1,P,ARN,2025-03-03T05:30,0,,,ldg=3 fh=60\n",
+            "[[counter]]\nname = \"fh\"\nkind = \"minutes\"\nlimit = 120\nbases = []\nstop = 1\n\
+[[counter]]\nname = \"ldg\"\nkind = \"landings\"\nlimit = 4\nbases = []\nstop = 1\n",
+            0,
+            "optimal 60\nA1: F1\n",
+        ),
+        (
+            "A1,P,ARN,2025-03-03T05:30,0,,,ldg=4 fh=60\n",
+            "[[counter]]\nname = \"fh\"\nkind = \"minutes\"\nlimit = 120\nbases = []\nstop = 1\n\
+[[counter]]\nname = \"ldg\"\nkind = \"landings\"\nlimit = 4\nbases = []\nstop = 1\n",
+            1,
+            "infeasible\n",
+        ),
+    ] {
+        let ends = ends_so(rt.alloc(), THERE, aircraft, rules, status, printed)?;
+        assert!(rt; ends, "{aircraft}{rules}");
+    }
+    Ok(())
+}
+
+// An activity that resets a counter leaves it at nothing, after it was counted there.
+#[test]
+fn an_activity_resets_counters(rt: HostRuntime) -> Result<(), Fail> {
+    for (records, status, printed) in [
+        (
+            "F1,flight,ARN,OSL,2025-03-03T06:00,2025-03-03T08:00,,,,\n\
+G1,ground,OSL,OSL,2025-03-03T08:00,2025-03-03T08:20,,,,fh\n\
+F2,flight,OSL,ARN,2025-03-03T08:30,2025-03-03T10:30,,,,\n",
+            0,
+            "optimal 240\nA1: F1 G1 F2\n",
+        ),
+        (
+            "F1,flight,ARN,OSL,2025-03-03T06:00,2025-03-03T08:00,,,,\n\
+G1,ground,OSL,OSL,2025-03-03T08:00,2025-03-03T08:20,,,,\n\
+F2,flight,OSL,ARN,2025-03-03T08:30,2025-03-03T10:30,,,,\n",
+            1,
+            "infeasible\n",
+        ),
+        // after the limit was passed it is too late
+        (
+            "F1,flight,ARN,OSL,2025-03-03T06:00,2025-03-03T08:01,,,,\n\
+G1,ground,OSL,OSL,2025-03-03T08:01,2025-03-03T08:20,,,,fh\n",
+            1,
+            "infeasible\n",
+        ),
+    ] {
+        let ends = ends_so(rt.alloc(), records, ONE, TWO_HOURS, status, printed)?;
+        assert!(rt; ends, "{records}");
+    }
+    Ok(())
+}
+
+// A landing counts one, and time on the ground none.
+#[test]
+fn landings_are_counted(rt: HostRuntime) -> Result<(), Fail> {
+    for (records, aircraft, status, printed) in [
+        (THERE_AND_BACK, ONE, 1, "infeasible\n"),
+        (
+            THERE_AND_BACK,
+            "A1,P,ARN,2025-03-03T05:00,0,,,\nA2,P,OSL,2025-03-03T05:00,0,,,\n",
+            0,
+            "optimal 120\nA1: F1\nA2: F2\n",
+        ),
+        (
+            "F1,flight,ARN,OSL,2025-03-03T06:00,2025-03-03T07:00,,,,\n\
+G1,ground,OSL,OSL,2025-03-03T07:00,2025-03-03T08:00,,,,\n\
+G2,ground,OSL,OSL,2025-03-03T08:00,2025-03-03T09:00,,,,\n",
+            ONE,
+            0,
+            "optimal 60\nA1: F1 G1 G2\n",
+        ),
+    ] {
+        let ends = ends_so(
+            rt.alloc(),
+            records,
+            aircraft,
+            "[[counter]]\nname = \"ldg\"\nkind = \"landings\"\nlimit = 1\nbases = []\nstop = 1\n",
+            status,
+            printed,
+        )?;
+        assert!(rt; ends, "{records}{aircraft}");
+    }
+    Ok(())
+}
+
+// A counter of days goes on in the air and on the ground, from when the aircraft is ready.
+#[test]
+fn days_go_by_between_flights(rt: HostRuntime) -> Result<(), Fail> {
+    for (records, status, printed) in [
+        // exactly a day after it was ready
+        (
+            "F1,flight,ARN,OSL,2025-03-03T06:00,2025-03-03T07:00,,,,\n\
+F2,flight,OSL,ARN,2025-03-04T04:00,2025-03-04T05:00,,,,\n",
+            0,
+            "optimal 120\nA1: F1 F2\n",
+        ),
+        (
+            "F1,flight,ARN,OSL,2025-03-03T06:00,2025-03-03T07:00,,,,\n\
+F2,flight,OSL,ARN,2025-03-04T04:01,2025-03-04T05:01,,,,\n",
+            1,
+            "infeasible\n",
+        ),
+        // a night at the base begins anew with the flight
+        (
+            "F1,flight,ARN,OSL,2025-03-03T06:00,2025-03-03T07:00,,,,\n\
+F2,flight,OSL,ARN,2025-03-03T07:30,2025-03-03T08:30,,,,\n\
+F3,flight,ARN,OSL,2025-03-06T06:00,2025-03-06T07:00,,,,\n",
+            0,
+            "optimal 180\nA1: F1 F2 F3\n",
+        ),
+    ] {
+        let ends = ends_so(
+            rt.alloc(),
+            records,
+            ONE,
+            "[[counter]]\nname = \"chk\"\nkind = \"days\"\nlimit = 1\nbases = [\"ARN\"]\nstop = 600\n",
+            status,
+            printed,
+        )?;
+        assert!(rt; ends, "{records}");
+    }
+    Ok(())
+}
+
+// A check on the ground resets the days that an aircraft came in with, before they are compared.
+#[test]
+fn a_check_resets_days(rt: HostRuntime) -> Result<(), Fail> {
+    for (aircraft, status, printed) in [
+        (
+            "A1,P,OSL,2025-03-03T00:00,7,,,chk=1000\n",
+            0,
+            "optimal 74\nA1: G1 F1\n",
+        ),
+        (
+            "A1,P,OSL,2025-03-03T00:00,7,,,chk=10000000\n",
+            0,
+            "optimal 74\nA1: G1 F1\n",
+        ),
+    ] {
+        let ends = ends_so(
+            rt.alloc(),
+            "G1,ground,OSL,OSL,2025-03-03T10:00,2025-03-03T12:00,,,A1,chk\n\
+F1,flight,OSL,ARN,2025-03-03T12:30,2025-03-03T13:30,,,,\n",
+            aircraft,
+            "[[counter]]\nname = \"chk\"\nkind = \"days\"\nlimit = 1\nbases = [\"ARN\"]\nstop = 60\n",
+            status,
+            printed,
+        )?;
+        assert!(rt; ends, "{aircraft}");
+    }
+    Ok(())
+}
+
+// The cheap way to F5 goes through G1, and keeps the counter full: F6 would be the fourth landing. The dear one is taken.
+#[test]
+fn a_dear_stop_empties_a_counter(rt: HostRuntime) -> Result<(), Fail> {
+    let ends = ends_so(
+        rt.alloc(),
+        "F1,flight,ARN,OSL,2025-03-03T06:00,2025-03-03T07:00,,,A1,\n\
+F2,flight,OSL,ARN,2025-03-03T07:30,2025-03-03T08:30,,,A1,\n\
+G1,ground,ARN,ARN,2025-03-03T09:00,2025-03-03T09:45,,,,\n\
+F5,flight,ARN,OSL,2025-03-03T10:00,2025-03-03T11:00,,,A1,\n\
+F6,flight,OSL,ARN,2025-03-03T11:30,2025-03-03T12:30,,,A1,\n",
+        TWO,
+        "[[counter]]\nname = \"ldg\"\nkind = \"landings\"\nlimit = 3\nbases = [\"ARN\"]\nstop = 60\n\
+[[band]]\nupto = 59\ncost = 0\n[[band]]\nupto = 10000000\ncost = 500\n",
+        0,
+        "optimal 740\nA1: F1 F2 F5 F6\nA2: G1\n",
+    )?;
+    assert!(rt; ends);
+    Ok(())
+}

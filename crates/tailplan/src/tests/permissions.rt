@@ -1,0 +1,129 @@
+//! Who may fly what: types, tags, avoided airports and preassignment.
+
+use super::{DEAR_TYPE, ends_so};
+use std::test::Fail;
+
+// A cheap aircraft and a dear one.
+const CHEAP_AND_DEAR: &str = "A1,P,ARN,2025-03-03T05:00,0,,,\nA2,Q,ARN,2025-03-03T05:00,0,,,\n";
+
+// A list of types names the only ones that may fly it. Without a list all may.
+#[test]
+fn a_list_of_types_decides(rt: HostRuntime) -> Result<(), Fail> {
+    for (records, printed) in [
+        (
+            "F1,flight,ARN,OSL,2025-03-03T06:00,2025-03-03T07:00,,,,\n",
+            "optimal 60\nA1: F1\nA2:\n",
+        ),
+        (
+            "F1,flight,ARN,OSL,2025-03-03T06:00,2025-03-03T07:00,Q,,,\n",
+            "optimal 120\nA1:\nA2: F1\n",
+        ),
+        (
+            "F1,flight,ARN,OSL,2025-03-03T06:00,2025-03-03T07:00,Q P Q,,,\n",
+            "optimal 60\nA1: F1\nA2:\n",
+        ),
+    ] {
+        let ends = ends_so(rt.alloc(), records, CHEAP_AND_DEAR, DEAR_TYPE, 0, printed)?;
+        assert!(rt; ends, "{records}");
+    }
+    Ok(())
+}
+
+// An aircraft needs every tag that an activity names.
+#[test]
+fn every_tag_is_needed(rt: HostRuntime) -> Result<(), Fail> {
+    for (aircraft, status, printed) in [
+        (
+            "A1,P,ARN,2025-03-03T05:00,0,wifi,,\nA2,P,ARN,2025-03-03T05:00,9,etops wifi,,\n",
+            0,
+            "optimal 69\nA1:\nA2: F1\n",
+        ),
+        (
+            "A1,P,ARN,2025-03-03T05:00,0,wifi etops vip,,\nA2,P,ARN,2025-03-03T05:00,9,etops wifi,,\n",
+            0,
+            "optimal 60\nA1: F1\nA2:\n",
+        ),
+        (
+            "A1,P,ARN,2025-03-03T05:00,0,wifi,,\nA2,P,ARN,2025-03-03T05:00,9,etops,,\n",
+            1,
+            "infeasible\n",
+        ),
+    ] {
+        let ends = ends_so(
+            rt.alloc(),
+            "F1,flight,ARN,OSL,2025-03-03T06:00,2025-03-03T07:00,,wifi etops,,\n",
+            aircraft,
+            "",
+            status,
+            printed,
+        )?;
+        assert!(rt; ends, "{aircraft}");
+    }
+    Ok(())
+}
+
+// An aircraft neither starts nor lands where it avoids to be, though it may stand there.
+#[test]
+fn avoided_airports_are_avoided(rt: HostRuntime) -> Result<(), Fail> {
+    for (aircraft, status, printed) in [
+        (
+            "A1,P,ARN,2025-03-03T05:00,0,,ARN,\nA2,P,ARN,2025-03-03T05:00,5,,,\n",
+            0,
+            "optimal 65\nA1:\nA2: F1\n",
+        ),
+        (
+            "A1,P,ARN,2025-03-03T05:00,0,,OSL,\nA2,P,ARN,2025-03-03T05:00,5,,,\n",
+            0,
+            "optimal 65\nA1:\nA2: F1\n",
+        ),
+        (
+            "A1,P,ARN,2025-03-03T05:00,0,,BGO,\nA2,P,ARN,2025-03-03T05:00,5,,,\n",
+            0,
+            "optimal 60\nA1: F1\nA2:\n",
+        ),
+        (
+            "A1,P,ARN,2025-03-03T05:00,0,,BGO OSL,\nA2,P,ARN,2025-03-03T05:00,5,,ARN,\n",
+            1,
+            "infeasible\n",
+        ),
+    ] {
+        let ends = ends_so(
+            rt.alloc(),
+            "F1,flight,ARN,OSL,2025-03-03T06:00,2025-03-03T07:00,,,,\n",
+            aircraft,
+            "[[airport]]\nname = \"BGO\"\noffset = 60\nturn = 20\n",
+            status,
+            printed,
+        )?;
+        assert!(rt; ends, "{aircraft}");
+    }
+    Ok(())
+}
+
+// A preassigned activity is flown by that aircraft or by nobody.
+#[test]
+fn preassigned_aircraft_fly_it(rt: HostRuntime) -> Result<(), Fail> {
+    for (aircraft, status, printed) in [
+        (
+            "A1,P,ARN,2025-03-03T05:00,0,,,\nA2,P,ARN,2025-03-03T05:00,9,,,\n",
+            0,
+            "optimal 69\nA1:\nA2: F1\n",
+        ),
+        (
+            "A1,P,ARN,2025-03-03T05:00,0,,,\nA2,P,OSL,2025-03-03T05:00,9,,,\n",
+            1,
+            "infeasible\n",
+        ),
+    ] {
+        let ends = ends_so(
+            rt.alloc(),
+            "F1,flight,ARN,OSL,2025-03-03T06:00,2025-03-03T07:00,,,A2,\n",
+            aircraft,
+            "",
+            status,
+            printed,
+        )?;
+        assert!(rt; ends, "{aircraft}");
+    }
+    Ok(())
+}

@@ -1,0 +1,88 @@
+//! The words of a run: which are taken, and what is printed for others.
+
+use super::{Seen, is_so, run_over, text_of, usual_files};
+use crate::run::solve_run;
+use std::alloc::Global;
+use std::test::Fail;
+use tail_outside::{MemFile, MemFiles, MemSink};
+
+const USAGE: &str = "usage: tailplan TIMETABLE FLEET RULES [--nodes N] [--cert FILE]\n";
+
+const PLANNED: &str = "optimal 120\nA1: F1 F2\n";
+
+// The usual tables, and the timetable under a second name too.
+fn files_with(alloc: Global, name: &str) -> Result<Vec<MemFile>, Fail> {
+    let mut files = usual_files(alloc)?;
+    let table = text_of(alloc, &[super::TIMETABLE, super::THERE_AND_BACK])?;
+    files.push(super::file_of(alloc, name, table)?)?;
+    Ok(files)
+}
+
+// Words that name no three tables are refused, and no file is asked for: there is none.
+#[test]
+fn other_words_are_refused(rt: HostRuntime) -> Result<(), Fail> {
+    for words in [
+        [].as_slice(),
+        &["tailplan"],
+        &["tailplan", "t"],
+        &["tailplan", "t", "f"],
+        &["tailplan", "t", "f", "r", "x"],
+        &["tailplan", "--help"],
+        &["tailplan", "--version"],
+        &["tailplan", "t", "f", "r", "--fast"],
+        &["tailplan", "t", "f", "r", "--nodes", "5"],
+        &["tailplan", "--nodes=5", "t", "f", "r"],
+        &["tailplan", "t", "f", "r", "--cert", "c"],
+        &["tailplan", "-t", "f", "r"],
+        &["tailplan", "t", "f", "--"],
+    ] {
+        let seen = run_over(rt.alloc(), words, Vec::new(rt.alloc()))?;
+        assert!(rt; is_so(&seen, 2, USAGE), "{words:?}");
+    }
+    Ok(())
+}
+
+// Three names are taken, whatever the program is called; behind two dashes also names that begin with a dash.
+#[test]
+fn three_names_are_taken(rt: HostRuntime) -> Result<(), Fail> {
+    for words in [
+        ["tailplan", "t", "f", "r"].as_slice(),
+        &["", "t", "f", "r"],
+        &["tailplan", "--", "t", "f", "r"],
+        &["tailplan", "t", "--", "f", "r"],
+        &["tailplan", "--", "-t", "f", "r"],
+    ] {
+        let seen = run_over(rt.alloc(), words, files_with(rt.alloc(), "-t")?)?;
+        assert!(rt; is_so(&seen, 0, PLANNED), "{words:?}");
+    }
+    Ok(())
+}
+
+// The tables are those of their places: the fleet's name in the timetable's place is no timetable.
+#[test]
+fn each_name_has_its_place(rt: HostRuntime) -> Result<(), Fail> {
+    for (words, printed) in [
+        (["tailplan", "f", "t", "r"], "refused 3 timetable 1\n"),
+        (["tailplan", "t", "t", "r"], "refused 3 fleet 1\n"),
+        (["tailplan", "t", "f", "f"], "refused 13 rules 0\n"),
+    ] {
+        let seen = run_over(rt.alloc(), &words, usual_files(rt.alloc())?)?;
+        assert!(rt; is_so(&seen, 3, printed), "{words:?}");
+    }
+    Ok(())
+}
+
+// A usage line that can't be written is status 6, with nothing printed.
+#[test]
+fn a_usage_line_may_fail(rt: HostRuntime) -> Result<(), Fail> {
+    let files = MemFiles::new(rt.alloc(), Vec::new(rt.alloc()), Vec::new(rt.alloc()))?;
+    let mut sink = MemSink::new(rt.alloc(), vec![in rt.alloc(); 1]?)?;
+    let words = super::words_of(rt.alloc(), &["tailplan", "t"])?;
+    let ran = solve_run(rt.alloc(), &words, files, &mut sink);
+    let seen = Seen {
+        status: ran.status.0,
+        printed: sink.bytes().to_vec(rt.alloc())?,
+    };
+    assert!(rt; is_so(&seen, 6, ""));
+    Ok(())
+}
