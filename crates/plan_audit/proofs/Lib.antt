@@ -6,3 +6,4 @@ mod WellMet
 mod Along
 mod Legality
 mod Unbroken
+mod Deciding

@@ -1,6 +1,7 @@
 pub mod Met
 pub mod Names
 pub mod Marks
+pub mod Times
 pub mod Reading
 pub mod Kept
 pub mod LegCost

@@ -6,6 +6,7 @@ mod broken;
 mod costs;
 pub mod laws;
 mod leg;
+mod legal_plan;
 mod met;
 mod names;
 mod no_links;
