@@ -136,8 +136,8 @@ taken-routes flown routes i route within here =
     ∙ ap (λ r. flown ++ r) (sym (ap (flat_map (λ r. r)) more ∙ flat_map-append (λ r. r) (take i routes) (route ∷ []) ∙ ap (λ r. flat_map (λ r. r) (take i routes) ++ r) (append-nil route)))
 
 -- nothing is counted yet
-pub times-none : (n : ℕ) → AreTimes (replicate n 0) []
-times-none n a below = get_or-replicate n a 0 0 (omega (arith, length-replicate {A = ℕ} n 0, below))
+pub times-none : (times : List ℕ) → All (λ t. t ≡ 0) times → AreTimes times []
+times-none times none a below = none a 0 below
 
 -- each activity is flown exactly once where each is counted once
 pub once_by : (book : BookSeen) (plan : List (List ℕ)) (times : List ℕ) → length times ≡ activities book → AreTimes times (flat_map (λ r. r) plan)

@@ -8,4 +8,5 @@ pub mod LegCost
 pub mod Rules
 pub mod Counted
 pub mod Broken
+pub mod PlanCost
 pub mod Laws

@@ -1,6 +1,6 @@
 //! Whether a plan is legal: each route is, and each activity is flown exactly once.
 
-ghost use Rattle.std.specs.Prelude.{◌≡◌, ◌<◌, ◌++◌, ◌∷◌, [], ◌&&◌, ◌==◌, List, ℕ, length, nat_lt, IfOk, IsTrue};
+ghost use Rattle.std.specs.Prelude.{◌≡◌, ◌<◌, ◌++◌, ◌∷◌, [], ◌&&◌, ◌==◌, List, ℕ, length, nat_lt, IfOk, IsTrue, All};
 ghost use Rattle.std.specs.List.{flat_map, list_all};
 ghost use Rattle.tail_book.specs.Lookup.{activities, aircraft};
 ghost use Rattle.tail_book.specs.Counters.{step};
@@ -103,13 +103,22 @@ fn are_ones(times: &[u8]) -> bool
     times.iter().all(|time| *time == 1)
 }
 
+/// Whether each activity is flown exactly once, where none is counted yet.
+fn are_counted_once(book: &Book, routes: &[Route], times: &mut [u8]) -> bool
+    requires long { length times.old ≡ activities book.now }
+    requires none { All (λ time. time ≡ 0) times.old }
+    ensures { result ≡ are_flown_once_below routes.now (activities book.now) }
+{
+    count_routes(routes, times);
+    are_ones(times)
+}
+
 /// Whether each activity is flown exactly once.
 fn are_flown_once(alloc: Global, book: &Book, routes: &[Route]) -> Result<bool, Memory>
     ensures { IfOk result (λ once. once ≡ are_flown_once_below routes.now (activities book.now)) }
 {
     let mut times = vec![in alloc; 0; book.activities.len()]?;
-    count_routes(routes, &mut times);
-    Ok(are_ones(&times))
+    Ok(are_counted_once(book, routes, &mut times))
 }
 
 /// Whether a plan is legal.

@@ -11,6 +11,7 @@ mod met;
 mod names;
 mod no_links;
 mod not_allowed;
+mod plan_cost;
 mod reading;
 mod past_limits;
 mod uncovered;
