@@ -1,6 +1,8 @@
 -- Laws of the audit.
-use Rattle.std.specs.Prelude.{◌≡◌, [], All}
+use Rattle.std.specs.Prelude.{ℕ, ◌≡◌, ◌<◌, List, [], All}
 use Rattle.tail_book.specs.Seen.{BookSeen, RawPlanSeen}
+use Rattle.tail_book.specs.Lookup.{activities}
+use Rattle.tail_book.specs.Plan.{IsLegalPlan}
 use Rattle.tail_book.specs.Sound.{IsBook}
 use Rattle.tail_book.specs.Truth.{IsPlanOf}
 use Rattle.plan_audit.specs.Met.{names_met}
@@ -16,3 +18,7 @@ LegsAreOfBook = (book : BookSeen) (raw : RawPlanSeen) → All (IsLegOf book) (le
 abbrev pub UnbrokenPlansAreLegal : Type 0
 UnbrokenPlansAreLegal = (book : BookSeen) → IsBook book → (raw : RawPlanSeen) → broken book raw ≡ []
     → IsPlanOf book (legs_cost book (legs_met (names_met book raw))) (kept book raw)
+
+-- the routes of a legal plan are of activities of the book
+abbrev pub LegalPlansFlyTheBook : Type 0
+LegalPlansFlyTheBook = (book : BookSeen) (plan : List (List ℕ)) → IsLegalPlan book plan → All (All (λ a. a < activities book)) plan

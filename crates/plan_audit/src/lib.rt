@@ -11,10 +11,10 @@ mod met;
 mod names;
 mod no_links;
 mod not_allowed;
-mod plan_cost;
-mod reading;
 mod past_limits;
+mod reading;
+mod table_costs;
 mod uncovered;
 
-pub use auditing::audit;
+pub use auditing::{audit, audit_plan};
 pub use broken::{Audit, Broken};

@@ -1,17 +1,13 @@
 //! What a plan costs in a table, in cost units, where it is legal.
 
-ghost use Rattle.std.specs.Prelude.{◌≡◌, ◌<◌, ◌≤◌, ◌^◌, ℕ, length, All, IfOk};
+ghost use Rattle.std.specs.Prelude.{◌≡◌, ◌<◌, ◌^◌, length, All};
 ghost use Rattle.tail_book.specs.Lookup.{activities, aircraft};
-ghost use Rattle.tail_book.specs.Cost.{band_cost};
-ghost use Rattle.tail_book.specs.CostTable.{IsTableFor, activity_cost_in, connection_cost_in, cost_from_in, route_cost_in, cost_of_routes_in, plan_cost_in};
+ghost use Rattle.tail_book.specs.CostTable.{IsTableFor, activity_cost_in, connection_cost_in, route_cost_in, plan_cost_in};
 ghost use Rattle.turn_rules.specs.InRange.{IsPlaceOf};
-ghost use Rattle.plan_audit.specs.PlanCost.{IsPlanCost};
 
 use crate::costs::band_cost;
-use crate::legal_plan::is_legal;
-use std::alloc::Global;
-use tail_book::laws::{every_book_is_sound, legal_plan_decides, legal_plans_cost_at_most_in, legal_routes_rise};
-use tail_book::{Book, CostTable, Memory, Place, Plan, Route};
+use tail_book::laws::every_book_is_sound;
+use tail_book::{Book, CostTable, Place, Route};
 use turn_rules::gap;
 
 /// What an activity costs an aircraft.
@@ -54,8 +50,8 @@ fn route_cost(book: &Book, table: &CostTable, k: u32, route: &[u32]) -> u64
     cost
 }
 
-/// What routes cost, each flown by the aircraft of its number.
-fn routes_cost(book: &Book, table: &CostTable, routes: &[Route]) -> u64
+/// What the routes of a plan cost, each flown by the aircraft of its number.
+pub fn plan_cost(book: &Book, table: &CostTable, routes: &[Route]) -> u64
     requires table { IsTableFor book.now table.now }
     requires one_each { length routes.now ≡ aircraft book.now }
     requires activities { All (All (λ a. a < activities book.now)) routes.now }
