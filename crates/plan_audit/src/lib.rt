@@ -18,3 +18,6 @@ mod uncovered;
 
 pub use auditing::{audit, audit_plan};
 pub use broken::{Audit, Broken};
+
+#[cfg(test)]
+mod tests;
