@@ -97,7 +97,7 @@ no_route (Tail j ∷ met) k h = by (nat_eq k j) (contains (tails_met met) k) h (
     by false b e rest = rest e
 no_route (Activity a ∷ met) k h = no_route met k h
 
-differs : (k : ℕ) (ks : List ℕ) → IsDistinct nat_eq (k ∷ ks) → contains ks k ≡ false
+pub differs : (k : ℕ) (ks : List ℕ) → IsDistinct nat_eq (k ∷ ks) → contains ks k ≡ false
 differs k ks h = none ks (IsDistinct-head nat_eq k ks h)
   where
     none : (ks : List ℕ) → AllByRecursion (λ y. nat_eq k y ≡ false) ks → contains ks k ≡ false
@@ -131,7 +131,7 @@ module _ (h : ℕ → Place → ℕ → ℕ) (m : ℕ) where
       omega (arith, rest, first)
 
 -- the aircraft met are of the book
-tails_within : (book : BookSeen) (met : List Met) → All (IsMetOf book) met → AllByRecursion (λ j. j < aircraft book) (tails_met met)
+pub tails_within : (book : BookSeen) (met : List Met) → All (IsMetOf book) met → AllByRecursion (λ j. j < aircraft book) (tails_met met)
 tails_within book [] all = tt
 tails_within book (Unknown name ∷ met) all = tails_within book met (All-tail (IsMetOf book) (Unknown name) met all)
 tails_within book (Twice name ∷ met) all = tails_within book met (All-tail (IsMetOf book) (Twice name) met all)
@@ -196,7 +196,7 @@ kept_times book raw a =
     ∙ along-kept (λ k x b. cond (nat_eq a b) 1 0) book (names_met book raw) (names_well_met book raw)
     ∙ met-along a 0 Carry (names_met book raw)
 
-count_none : (a : ℕ) (xs : List ℕ) → contains xs a ≡ false → count_by (nat_eq a) xs ≡ 0
+pub count_none : (a : ℕ) (xs : List ℕ) → contains xs a ≡ false → count_by (nat_eq a) xs ≡ 0
 count_none a [] h = refl
 count_none a (x ∷ xs) h = by (nat_eq a x) (contains xs a) h (count_none a xs) (sum_by-cons (λ y. cond (nat_eq a y) 1 0) x xs)
   where

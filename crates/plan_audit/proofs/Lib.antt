@@ -7,3 +7,4 @@ mod Along
 mod Legality
 mod Unbroken
 mod Deciding
+mod Converse

@@ -8,6 +8,7 @@ use Rattle.tail_book.specs.Truth.{IsPlanOf}
 use Rattle.plan_audit.specs.Met.{names_met}
 use Rattle.plan_audit.specs.Kept.{kept, legs_met, IsLegOf}
 use Rattle.plan_audit.specs.LegCost.{legs_cost}
+use Rattle.plan_audit.specs.Rules.{unknown, twice}
 use Rattle.plan_audit.specs.Broken.{broken}
 
 -- the legs of a kept plan are of the book
@@ -22,3 +23,8 @@ UnbrokenPlansAreLegal = (book : BookSeen) → IsBook book → (raw : RawPlanSeen
 -- the routes of a legal plan are of activities of the book
 abbrev pub LegalPlansFlyTheBook : Type 0
 LegalPlansFlyTheBook = (book : BookSeen) (plan : List (List ℕ)) → IsLegalPlan book plan → All (All (λ a. a < activities book)) plan
+
+-- where the kept plan is legal, and no name was unknown or met twice, no rule is broken
+abbrev pub LegalPlansAreUnbroken : Type 0
+LegalPlansAreUnbroken = (book : BookSeen) (raw : RawPlanSeen) → IsLegalPlan book (kept book raw)
+    → unknown (names_met book raw) ≡ [] → twice (names_met book raw) ≡ [] → broken book raw ≡ []
