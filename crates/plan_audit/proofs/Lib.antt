@@ -8,3 +8,4 @@ mod Legality
 mod Unbroken
 mod Deciding
 mod Converse
+mod Listed

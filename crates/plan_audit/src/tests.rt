@@ -173,15 +173,26 @@ fn two_flights(alloc: Global) -> Result<Book, Memory> {
 }
 
 // There and back twice: before the second time the aircraft has a minute less than an hour at ARN.
+fn activities_of_four(alloc: Global, rules: &Rules) -> Result<Vec<Activity>, Memory>
+    requires airports { length rules.now.airports ≡ 2 }
+    ensures each { IfOk result (λ v. All (IsActivity rules.now 2) v.items) }
+    ensures order { IfOk result (λ v. AllPairs (λ a b. IsTrue (comes_before a b)) v.items) }
+    ensures ids { IfOk result (λ v. AllPairs (λ a b. a.id ≢ b.id) v.items) }
+    ensures count { IfOk result (λ v. length v.items ≡ 4) }
+{
+    let listed = vec![in alloc;
+        flight(alloc, rules, b"F1", (ARN, OSL), (360, 420), None),
+        flight(alloc, rules, b"F2", (OSL, ARN), (450, 510), None),
+        flight(alloc, rules, b"F3", (ARN, OSL), (569, 629), None),
+        flight(alloc, rules, b"F4", (OSL, ARN), (660, 720), None),
+    ]?;
+    Ok(listed)
+}
+
 fn four_flights(alloc: Global) -> Result<Book, Memory> {
     let rules = rules(alloc)?;
     let tails = tails(alloc, &rules, ARN)?;
-    let activities = vec![in alloc;
-        flight(alloc, &rules, b"F1", (ARN, OSL), (360, 420), None),
-        flight(alloc, &rules, b"F2", (OSL, ARN), (450, 510), None),
-        flight(alloc, &rules, b"F3", (ARN, OSL), (569, 629), None),
-        flight(alloc, &rules, b"F4", (OSL, ARN), (660, 720), None),
-    ]?;
+    let activities = activities_of_four(alloc, &rules)?;
     Ok(Book {
         activities,
         tails,
@@ -232,16 +243,27 @@ fn two_at_once(alloc: Global) -> Result<Book, Memory> {
 }
 
 // FA is for A2 alone, FC leaves ten minutes behind FB, FD lands in the curfew, and FE goes on.
+fn activities_of_five(alloc: Global, rules: &Rules) -> Result<Vec<Activity>, Memory>
+    requires airports { length rules.now.airports ≡ 2 }
+    ensures each { IfOk result (λ v. All (IsActivity rules.now 2) v.items) }
+    ensures order { IfOk result (λ v. AllPairs (λ a b. IsTrue (comes_before a b)) v.items) }
+    ensures ids { IfOk result (λ v. AllPairs (λ a b. a.id ≢ b.id) v.items) }
+    ensures count { IfOk result (λ v. length v.items ≡ 5) }
+{
+    let listed = vec![in alloc;
+        flight(alloc, rules, b"FA", (ARN, OSL), (360, 420), Some(1)),
+        flight(alloc, rules, b"FB", (OSL, ARN), (450, 510), None),
+        flight(alloc, rules, b"FC", (ARN, OSL), (520, 580), None),
+        flight(alloc, rules, b"FD", (OSL, ARN), (1260, 1320), None),
+        flight(alloc, rules, b"FE", (ARN, OSL), (1380, 1439), None),
+    ]?;
+    Ok(listed)
+}
+
 fn five_flights(alloc: Global) -> Result<Book, Memory> {
     let rules = rules(alloc)?;
     let tails = tails(alloc, &rules, ARN)?;
-    let activities = vec![in alloc;
-        flight(alloc, &rules, b"FA", (ARN, OSL), (360, 420), Some(1)),
-        flight(alloc, &rules, b"FB", (OSL, ARN), (450, 510), None),
-        flight(alloc, &rules, b"FC", (ARN, OSL), (520, 580), None),
-        flight(alloc, &rules, b"FD", (OSL, ARN), (1260, 1320), None),
-        flight(alloc, &rules, b"FE", (ARN, OSL), (1380, 1439), None),
-    ]?;
+    let activities = activities_of_five(alloc, &rules)?;
     Ok(Book {
         activities,
         tails,
@@ -255,47 +277,71 @@ fn name(id: &[u8; 2]) -> Name
     Name::new(id.as_slice())
 }
 
-fn line(alloc: Global, tail: Name, ids: &[Name]) -> Result<RawLine, Memory> {
-    let mut listed = Vec::new(alloc);
-    listed.extend_from_slice(ids)?;
-    Ok(RawLine { tail, ids: listed })
-}
-
-fn plan(alloc: Global, lines: &[(Name, &[Name])]) -> Result<RawPlan, Memory> {
-    let mut listed = Vec::new(alloc);
-    for (tail, ids) in lines {
-        listed.push(line(alloc, *tail, ids)?)?;
+// The name of two letters or digits, and else X9.
+fn named(first: u8, second: u8) -> Name {
+    if first.is_ascii_alphanumeric() && second.is_ascii_alphanumeric() {
+        return Name::new([first, second].as_slice());
     }
-    Ok(RawPlan { lines: listed })
+    name(b"X9")
 }
 
-// The cost that an audit tells, or else the broken rules.
-fn told(
+// Adds a name to a plan: an aircraft begins a line, and an id goes to the last one.
+fn add(alloc: Global, begins: bool, name: Name, lines: &mut Vec<RawLine>) -> Result<(), Memory> {
+    if begins {
+        lines.push(RawLine {
+            tail: name,
+            ids: Vec::new(alloc),
+        })?;
+    } else if let Some(line) = lines.last_mut() {
+        line.ids.push(name)?;
+    }
+    Ok(())
+}
+
+// The plan of a text like `A1:F1 F2 A2:`, in which each name has two letters and `:` or a space behind it.
+fn plan(alloc: Global, text: &[u8]) -> Result<RawPlan, Memory> {
+    let mut lines = Vec::new(alloc);
+    for i in 0..text.len() / 3 {
+        let (first, second, mark) = (text[i * 3], text[i * 3 + 1], text[i * 3 + 2]);
+        add(alloc, mark == b':', named(first, second), &mut lines)?;
+    }
+    Ok(RawPlan { lines })
+}
+
+// The cost that an audit tells, if it tells one.
+fn cost_of(alloc: Global, book: &Book, text: &[u8]) -> Result<Option<u64>, Memory> {
+    let plan = plan(alloc, text)?;
+    match audit(alloc, book, &plan)? {
+        Audit::Legal(cost) => Ok(Some(cost)),
+        Audit::Broken(_) => Ok(None),
+    }
+}
+
+// Whether an audit tells these broken rules.
+fn is_broken(
     alloc: Global,
     book: &Book,
-    lines: &[(Name, &[Name])],
-) -> Result<(Option<u64>, Vec<Broken>), Memory> {
-    let plan = plan(alloc, lines)?;
+    text: &[u8],
+    want: &[Broken],
+) -> Result<bool, Memory> {
+    let plan = plan(alloc, text)?;
     match audit(alloc, book, &plan)? {
-        Audit::Legal(cost) => Ok((Some(cost), Vec::new(alloc))),
-        Audit::Broken(list) => Ok((None, list)),
+        Audit::Legal(_) => Ok(false),
+        Audit::Broken(list) => Ok(list.as_slice() == want),
     }
 }
 
-// Legal plans, one of them in another order of lines and with a line that has no activity.
+// One aircraft flies both, the dearer one flies both and stands first, and two fly at once either way round.
 #[test]
 fn legal_plans(rt: HostRuntime) -> Result<(), Fail> {
     let alloc = rt.alloc();
-    let (two, pair) = (two_flights(alloc)?, two_at_once(alloc)?);
-    let (a1, a2, f1, f2) = (name(b"A1"), name(b"A2"), name(b"F1"), name(b"F2"));
-    for (book, lines, want) in [
-        (&two, [(a1, [f1, f2].as_slice())].as_slice(), 120),
-        (&two, [(a2, [f1, f2].as_slice()), (a1, [].as_slice())].as_slice(), 240),
-        (&pair, [(a1, [f2].as_slice()), (a2, [f1].as_slice())].as_slice(), 240),
-        (&pair, [(a2, [f2].as_slice()), (a1, [f1].as_slice())].as_slice(), 300),
-    ] {
-        let (cost, _) = told(alloc, book, lines)?;
-        assert_eq!(rt; cost, Some(want));
+    let two = two_flights(alloc)?;
+    for (text, want) in [(b"A1:F1 F2 ".as_slice(), 120), (b"A2:F1 F2 A1:".as_slice(), 240)] {
+        assert_eq!(rt; cost_of(alloc, &two, text)?, Some(want), "{text:?}");
+    }
+    let pair = two_at_once(alloc)?;
+    for (text, want) in [(b"A1:F2 A2:F1 ".as_slice(), 240), (b"A2:F2 A1:F1 ".as_slice(), 300)] {
+        assert_eq!(rt; cost_of(alloc, &pair, text)?, Some(want), "{text:?}");
     }
     Ok(())
 }
@@ -306,98 +352,103 @@ fn legal_plans(rt: HostRuntime) -> Result<(), Fail> {
 fn names_of_two_flights(rt: HostRuntime) -> Result<(), Fail> {
     let alloc = rt.alloc();
     let book = two_flights(alloc)?;
-    let (a1, a2, b7) = (name(b"A1"), name(b"A2"), name(b"B7"));
-    let (f1, f2, f9) = (name(b"F1"), name(b"F2"), name(b"F9"));
-    for (lines, want) in [
+    let (a1, b7, f1, f9) = (name(b"A1"), name(b"B7"), name(b"F1"), name(b"F9"));
+    for (text, want) in [
         (
-            [(a1, [f2, f1].as_slice())].as_slice(),
+            b"A1:F2 F1 ".as_slice(),
             [Broken::NoLink(0, 1), Broken::NoLink(0, 0)].as_slice(),
         ),
         (
-            [(a1, [f1, f9, f1].as_slice())].as_slice(),
-            [Broken::Unknown(f9), Broken::Twice(f1), Broken::Uncovered(1)].as_slice(),
+            b"A1:F1 F9 F1 ".as_slice(),
+            [
+                Broken::Unknown(f9),
+                Broken::Twice(f1),
+                Broken::Uncovered(1),
+            ]
+            .as_slice(),
         ),
         (
-            [].as_slice(),
+            b"".as_slice(),
             [Broken::Uncovered(0), Broken::Uncovered(1)].as_slice(),
         ),
         (
-            [(b7, [f9].as_slice()), (a1, [f1].as_slice()), (a1, [f2].as_slice())].as_slice(),
-            [Broken::Unknown(b7), Broken::Twice(a1), Broken::Uncovered(1)].as_slice(),
+            b"B7:F9 A1:F1 A1:F2 ".as_slice(),
+            [
+                Broken::Unknown(b7),
+                Broken::Twice(a1),
+                Broken::Uncovered(1),
+            ]
+            .as_slice(),
         ),
         (
-            [(a1, [f9, f1, f9, f2].as_slice())].as_slice(),
+            b"A1:F9 F1 F9 F2 ".as_slice(),
             [Broken::Unknown(f9), Broken::Unknown(f9)].as_slice(),
         ),
         (
-            [(a1, [f1, f2].as_slice()), (a2, [f1, f1].as_slice())].as_slice(),
+            b"A1:F1 F2 A2:F1 F1 ".as_slice(),
             [Broken::Twice(f1), Broken::Twice(f1)].as_slice(),
         ),
     ] {
-        let (_, list) = told(alloc, &book, lines)?;
-        assert_eq!(rt; list.as_slice(), want);
+        assert!(rt; is_broken(alloc, &book, text, want)?, "{text:?}");
     }
     Ok(())
 }
 
-// A counter that is past its limit twice, preassigned flights in the order of the lines, a landing in a curfew, and each
-// kind of rule at once.
+// Preassigned flights, in the order of the lines.
 #[test]
-fn rules_in_their_order(rt: HostRuntime) -> Result<(), Fail> {
+fn lines_in_reading_order(rt: HostRuntime) -> Result<(), Fail> {
     let alloc = rt.alloc();
-    let (four, assigned) = (four_flights(alloc)?, assigned_flights(alloc)?);
-    let (night, five) = (night_flight(alloc)?, five_flights(alloc)?);
-    let (a1, a2, b7) = (name(b"A1"), name(b"A2"), name(b"B7"));
-    let (f1, f2, f3, f4) = (name(b"F1"), name(b"F2"), name(b"F3"), name(b"F4"));
-    let (fa, fb, fc, fd) = (name(b"FA"), name(b"FB"), name(b"FC"), name(b"FD"));
-    let (fe, x9) = (name(b"FE"), name(b"X9"));
-    for (book, lines, want) in [
-        (
-            &four,
-            [(a1, [f1, f2, f3, f4].as_slice())].as_slice(),
-            [Broken::Counter(0, 2, 0), Broken::Counter(0, 3, 0)].as_slice(),
-        ),
-        (
-            &assigned,
-            [(a1, [fa].as_slice()), (a2, [fb].as_slice())].as_slice(),
-            [Broken::NotAllowed(0, 0), Broken::NotAllowed(1, 1)].as_slice(),
-        ),
-        (
-            &assigned,
-            [(a2, [fb].as_slice()), (a1, [fa].as_slice())].as_slice(),
-            [Broken::NotAllowed(1, 1), Broken::NotAllowed(0, 0)].as_slice(),
-        ),
-        (
-            &night,
-            [(a1, [f1].as_slice())].as_slice(),
-            [Broken::Curfew(0, 0)].as_slice(),
-        ),
-        (
-            &five,
-            [
-                (a1, [fa, x9, fb, fc, fa, fd].as_slice()),
-                (b7, [fe].as_slice()),
-                (a1, [fe].as_slice()),
-            ]
-            .as_slice(),
-            [
-                Broken::Unknown(x9),
-                Broken::Unknown(b7),
-                Broken::Twice(fa),
-                Broken::Twice(a1),
-                Broken::Uncovered(4),
-                Broken::NotAllowed(0, 0),
-                Broken::Curfew(0, 3),
-                Broken::NoLink(0, 2),
-                Broken::Counter(0, 2, 0),
-                Broken::Counter(0, 3, 0),
-            ]
-            .as_slice(),
-        ),
+    let book = assigned_flights(alloc)?;
+    let (first, second) = (Broken::NotAllowed(0, 0), Broken::NotAllowed(1, 1));
+    for (text, want) in [
+        (b"A1:FA A2:FB ".as_slice(), [first, second].as_slice()),
+        (b"A2:FB A1:FA ".as_slice(), [second, first].as_slice()),
     ] {
-        let (_, list) = told(alloc, book, lines)?;
-        assert_eq!(rt; list.as_slice(), want);
+        assert!(rt; is_broken(alloc, &book, text, want)?, "{text:?}");
     }
+    Ok(())
+}
+
+// A counter that is past its limit twice: a minute less than the stop does not clear it.
+#[test]
+fn a_counter_twice(rt: HostRuntime) -> Result<(), Fail> {
+    let alloc = rt.alloc();
+    let book = four_flights(alloc)?;
+    let want = [Broken::Counter(0, 2, 0), Broken::Counter(0, 3, 0)];
+    assert!(rt; is_broken(alloc, &book, b"A1:F1 F2 F3 F4 ".as_slice(), want.as_slice())?);
+    Ok(())
+}
+
+// A landing at the minute at which the curfew begins.
+#[test]
+fn a_curfew(rt: HostRuntime) -> Result<(), Fail> {
+    let alloc = rt.alloc();
+    let book = night_flight(alloc)?;
+    let want = [Broken::Curfew(0, 0)];
+    assert!(rt; is_broken(alloc, &book, b"A1:F1 ".as_slice(), want.as_slice())?);
+    Ok(())
+}
+
+// Each kind of rule at once, in the order of the rules.
+#[test]
+fn every_rule_at_once(rt: HostRuntime) -> Result<(), Fail> {
+    let alloc = rt.alloc();
+    let book = five_flights(alloc)?;
+    let (a1, b7, fa, x9) = (name(b"A1"), name(b"B7"), name(b"FA"), name(b"X9"));
+    let want = [
+        Broken::Unknown(x9),
+        Broken::Unknown(b7),
+        Broken::Twice(fa),
+        Broken::Twice(a1),
+        Broken::Uncovered(4),
+        Broken::NotAllowed(0, 0),
+        Broken::Curfew(0, 3),
+        Broken::NoLink(0, 2),
+        Broken::Counter(0, 2, 0),
+        Broken::Counter(0, 3, 0),
+    ];
+    let text = b"A1:FA X9 FB FC FA FD B7:FE A1:FE ".as_slice();
+    assert!(rt; is_broken(alloc, &book, text, want.as_slice())?);
     Ok(())
 }
 
