@@ -20,7 +20,7 @@ use Rattle.plan_audit.specs.declared.met.Met.{Met}
 use Rattle.plan_audit.specs.declared.met.Met.TheVariants.{Unknown, Twice, Tail, Activity}
 use Rattle.plan_audit.specs.Met.{IsMetOf, tails_met, activities_met, names_met}
 use Rattle.plan_audit.specs.Kept.{next_route, route_met, kept, legs_from, legs_met, IsLegOf}
-use Rattle.plan_audit.specs.LegCost.{leg_cost, legs_cost}
+use Rattle.plan_audit.specs.LegCost.{legs_cost}
 use Rattle.plan_audit.proofs.WellMet.{IsWellMet, names_well_met}
 
 legs-of_book : (book : BookSeen) (k : ℕ) (x : Place) (met : List Met) → All (IsMetOf book) met → k < aircraft book → IsPlaceOf book x → All (IsLegOf book) (legs_from k x met)
@@ -73,16 +73,16 @@ put f g j v none here others s (suc n) =
           omega (arith, gs, fs, same, head)),
       (λ least most. elim (cases_Bool (nat_eq s j)) [
         | inl t ↦ (
-          let e : s ≡ j = grind (arith, nat_tests) in
-          let same = rest.0 (omega (arith, e)) in
-          let head : g s ≡ v = ap g e ∙ here in
-          let zero_there : f s ≡ 0 = ap f e ∙ none in
-          omega (arith, gs, fs, same, head, zero_there))
+            let e : s ≡ j = grind (arith, nat_tests) in
+            let same = rest.0 (omega (arith, e)) in
+            let head : g s ≡ v = ap g e ∙ here in
+            let zero_there : f s ≡ 0 = ap f e ∙ none in
+            omega (arith, gs, fs, same, head, zero_there))
         | inr t ↦ (
-          let e : s ≢ j = grind (arith, nat_tests) in
-          let more = rest.1 (omega (arith, e, least)) (omega (arith, most)) in
-          let head = others s e in
-          omega (arith, gs, fs, more, head))
+            let e : s ≢ j = grind (arith, nat_tests) in
+            let more = rest.1 (omega (arith, e, least)) (omega (arith, most)) in
+            let head = others s e in
+            omega (arith, gs, fs, more, head))
       ]),
     )
 

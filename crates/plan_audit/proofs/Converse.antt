@@ -1,10 +1,9 @@
 -- Where the kept plan is legal and no name was dropped, no rule is broken. Each leg of a legal route is allowed, linked and
 -- within its limits, and an activity that is flown once was met.
-use Rattle.std.proofs.Common.{◌≡◌, ◌≢◌, ◌∙◌, sym, refl, ap, ap₂, arith, subst, true≢false, ℕ, zero, suc, ◌+◌, ◌<◌, ◌≤◌, ℤ, pos, inl, inr, Bool, true, false, ◌&&◌, ◌||◌, ◌+ℤ◌, cond, if◌then◌else◌, nat_eq, nat_lt, List, [], ◌∷◌, ◌++◌, map, length, replicate}
+use Rattle.std.proofs.Common.{◌≡◌, ◌∙◌, sym, refl, ap, arith, subst, true≢false, ℕ, zero, suc, ◌+◌, ◌<◌, ◌≤◌, ℤ, pos, inl, inr, Bool, true, false, ◌&&◌, ◌||◌, ◌+ℤ◌, cond, if◌then◌else◌, nat_eq, nat_lt, List, [], ◌∷◌, ◌++◌, map, length, replicate}
 use Rattle.std.specs.Prelude.{not, count_by}
 use Rattle.std.specs.List.{filter, list_all, range_with_len, IsDistinct, AllByRecursion}
 use Rattle.std.proofs.lemmas.Bool.{cases_Bool, eq-eqb, eqb-true}
-use Rattle.std.proofs.lemmas.Bool.Decides.{nat_tests}
 use Rattle.std.proofs.lemmas.Map.Keys.{IsDistinct-tail}
 use Rattle.tail_book.specs.Seen.{BookSeen, RawPlanSeen, CounterSeen}
 use Rattle.tail_book.specs.Numbers.{contains, int_le, is_none_or}
@@ -13,19 +12,18 @@ use Rattle.tail_book.specs.declared.place.Place.{Place}
 use Rattle.tail_book.specs.declared.place.Place.TheVariants.{Carry, After}
 use Rattle.tail_book.specs.Curfew.{covers_type, is_curfewed}
 use Rattle.tail_book.specs.Link.{port, free_from, turn_time}
-use Rattle.tail_book.specs.Counters.{step}
-use Rattle.tail_book.specs.Plan.{IsLegalPlan, times_flown}
+use Rattle.tail_book.specs.Plan.{IsLegalPlan}
 use Rattle.tail_book.specs.Tests.{is_allowed, is_allowed_at, is_link, within_limits, is_legal_from, is_legal_route, LegalRouteDecides}
 use Rattle.plan_audit.specs.declared.leg.Leg.{Leg}
 use Rattle.plan_audit.specs.declared.met.Met.{Met}
 use Rattle.plan_audit.specs.declared.met.Met.TheVariants.{Unknown, Twice, Tail, Activity}
 use Rattle.plan_audit.specs.declared.broken.Broken.{Broken}
 use Rattle.plan_audit.specs.declared.broken.Broken.TheVariants as rule
-use Rattle.plan_audit.specs.Met.{IsMetOf, tails_met, activities_met, names_met}
-use Rattle.plan_audit.specs.Kept.{next_route, route_met, kept, legs_from, legs_met}
-use Rattle.plan_audit.specs.Rules.{unknown, twice, uncovered, is_permitted, not_allowed, curfews, is_connected, no_links, past_limits_at, values_before, values_after, past_limits}
-use Rattle.plan_audit.specs.Broken.{broken, broken_by}
-use Rattle.plan_audit.proofs.WellMet.{IsWellMet, names_well_met}
+use Rattle.plan_audit.specs.Met.{tails_met, activities_met, names_met}
+use Rattle.plan_audit.specs.Kept.{next_route, route_met, kept, legs_from}
+use Rattle.plan_audit.specs.Rules.{unknown, twice, uncovered, is_permitted, is_connected, past_limits_at, values_before, values_after, past_limits}
+use Rattle.plan_audit.specs.Broken.{broken}
+use Rattle.plan_audit.proofs.WellMet.{names_well_met}
 use Rattle.plan_audit.proofs.Along.{kept_times, differs, count_none, tails_within}
 use Rattle.plan_audit.proofs.Legality.{IsUnbroken}
 use Rattle.plan_audit.proofs.Unbroken.{kept_route}
@@ -144,8 +142,8 @@ legal_is_unbroken decides book raw legal none_unknown none_twice =
     let start = replicate (length book.rules.counters) (pos 0) in
     let legs = legs_unbroken book 0 Carry start met well.tails (ap (is_legal_from book 0 Carry (carry_of book 0)) well.led)
     (λ i among.
-        let within : i < aircraft book = among_within (aircraft book) i (tails_met met) (tails_within book met well.of_book) among in
-        ap (is_legal_route book i) (sym (kept_route book raw i within)) ∙ (decides book i _).1 (legal.routes i within)) in
+    let within : i < aircraft book = among_within (aircraft book) i (tails_met met) (tails_within book met well.of_book) among in
+    ap (is_legal_route book i) (sym (kept_route book raw i within)) ∙ (decides book i _).1 (legal.routes i within)) in
     let covered : uncovered book met ≡ [] =
     none_in_range rule.Uncovered (λ b. not (contains (activities_met met) b)) 0 (activities book)
     (λ a least most. not_true (contains (activities_met met) a) (is_among a (activities_met met) (sym (kept_times book raw a) ∙ legal.partition a (omega (arith, most))))) in

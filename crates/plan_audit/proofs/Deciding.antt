@@ -1,12 +1,12 @@
 -- A plan is legal where its routes are and each activity is counted once: what is left of a route decides, and counts go up
 -- to 2, so that 1 tells that an activity is flown exactly once.
-use Rattle.std.proofs.Common.{◌≡◌, ◌≢◌, ◌∙◌, sym, refl, ap, arith, subst, true≢false, ℕ, zero, suc, ◌+◌, ◌<◌, ◌≤◌, ℤ, inl, inr, Bool, true, false, ◌&&◌, cond, nat_eq, nat_lt, List, [], ◌∷◌, ◌++◌, length, set, get_or, drop, take, append_assoc, replicate, All}
+use Rattle.std.proofs.Common.{◌≡◌, ◌≢◌, ◌∙◌, sym, refl, ap, arith, subst, true≢false, ℕ, zero, suc, ◌+◌, ◌<◌, ◌≤◌, ℤ, inl, inr, Bool, true, false, ◌&&◌, cond, nat_eq, nat_lt, List, [], ◌∷◌, ◌++◌, length, set, get_or, drop, take, append_assoc, All}
 use Rattle.std.specs.Prelude.{count_by, min, ◌==◌}
-use Rattle.std.specs.List.{flat_map, list_all, AllPass}
-use Rattle.std.specs.Bool.{Decides, one_answer}
+use Rattle.std.specs.List.{flat_map, list_all}
+use Rattle.std.specs.Bool.{one_answer}
 use Rattle.std.proofs.lemmas.Bool.{cases_Bool, eq-eqb, eqb-true}
-use Rattle.std.proofs.lemmas.Bool.Decides.{nat_tests, Decides-eqb, Decides-below_and, Decides-like}
-use Rattle.std.proofs.lemmas.List.{drop_more, take_more, take_all, get_or-set_same, get_or-set_other, length-set, get_or_default, append-nil, get_or-replicate, length-replicate}
+use Rattle.std.proofs.lemmas.Bool.Decides.{nat_tests, Decides-eqb, Decides-below_and}
+use Rattle.std.proofs.lemmas.List.{drop_more, take_more, get_or-set_same, get_or-set_other, length-set, get_or_default, append-nil}
 use Rattle.std.proofs.lemmas.List.Concat.{flat_map-append}
 use Rattle.std.proofs.lemmas.List.Sums.{sum_by-cons, sum_by-append, AllPass-from_list_all, list_all-from_AllPass}
 use Rattle.std.proofs.lemmas.List.Elements.{All-from_get_or, All-nil, All-cons}
@@ -54,9 +54,9 @@ pub routes-refused : (book : BookSeen) (plan : List (List ℕ)) (m k : ℕ) → 
 routes-refused book plan zero k lt e = absurd (omega arith)
 routes-refused book plan (suc m) k lt e = elim (cases_Bool (k == m)) [
   | inl t ↦ (let same : k ≡ m = eqb-true k m t in
-    ap (λ r. r && are_legal_below book plan m) (subst (λ j. is_legal_route book j (route_of plan j) ≡ false) same e))
+      ap (λ r. r && are_legal_below book plan m) (subst (λ j. is_legal_route book j (route_of plan j) ≡ false) same e))
   | inr t ↦ (let other : k ≢ m = grind (arith, nat_tests) in
-    and-false-right (is_legal_route book m (route_of plan m)) (are_legal_below book plan m) (routes-refused book plan m k (omega (arith, other, lt)) e))
+      and-false-right (is_legal_route book m (route_of plan m)) (are_legal_below book plan m) (routes-refused book plan m k (omega (arith, other, lt)) e))
 ]
 
 pub routes-legal : (book : BookSeen) (plan : List (List ℕ)) (m : ℕ) → ((k : ℕ) → k < m → is_legal_route book k (route_of plan k) ≡ true) → are_legal_below book plan m ≡ true
@@ -72,7 +72,7 @@ pub route-more : (book : BookSeen) (plan : List (List ℕ)) (i : ℕ) (route : L
     → ((j : ℕ) → j < i → is_legal_route book j (route_of plan j) ≡ true) → (j : ℕ) → j < i + 1 → is_legal_route book j (route_of plan j) ≡ true
 route-more book plan i route within here legal before j lt = elim (cases_Bool (j == i)) [
   | inl t ↦ (let same : j ≡ i = eqb-true j i t in
-    subst (λ n. is_legal_route book n (route_of plan n) ≡ true) (sym same) (ap (is_legal_route book i) (sym (read-route plan i route within here)) ∙ legal))
+      subst (λ n. is_legal_route book n (route_of plan n) ≡ true) (sym same) (ap (is_legal_route book i) (sym (read-route plan i route within here)) ∙ legal))
   | inr t ↦ (let other : j ≢ i = grind (arith, nat_tests) in before j (omega (arith, other, lt)))
 ]
 
@@ -103,14 +103,14 @@ times-more times flown a time within e are b below =
     let old = are b (omega arith) in
     elim (cases_Bool (nat_eq b a)) [
       | inl t ↦ (let same : b ≡ a = eqb-true b a t in
-        let there : get_or (set times a time) b 0 ≡ time = ap (λ j. get_or (set times a time) j 0) same ∙ get_or-set_same times a time 0 within in
-        let before : get_or times a 0 ≡ min (count_by (nat_eq b) flown) 2 = ap (λ j. get_or times j 0) (sym same) ∙ old in
-        let count = count-same flown a b t in
-        omega (arith, count, there, before, e))
+          let there : get_or (set times a time) b 0 ≡ time = ap (λ j. get_or (set times a time) j 0) same ∙ get_or-set_same times a time 0 within in
+          let before : get_or times a 0 ≡ min (count_by (nat_eq b) flown) 2 = ap (λ j. get_or times j 0) (sym same) ∙ old in
+          let count = count-same flown a b t in
+          omega (arith, count, there, before, e))
       | inr t ↦ (let other : b ≢ a = grind (arith, nat_tests) in
-        let kept = get_or-set_other times a b time 0 other in
-        let count = count-other flown a b t in
-        omega (arith, count, kept, old))
+          let kept = get_or-set_other times a b time 0 other in
+          let count = count-other flown a b t in
+          omega (arith, count, kept, old))
     ]
 
 -- a number that is no activity's counts nowhere
@@ -144,9 +144,10 @@ times-none times none a below = none a 0 below
 pub once_by : (book : BookSeen) (plan : List (List ℕ)) (times : List ℕ) → length times ≡ activities book → AreTimes times (flat_map (λ r. r) plan)
     → list_all (λ t. t == 1) times ≡ are_flown_once_below plan (activities book)
 once_by book plan times long are =
-    one_answer (list_all (λ t. t == 1) times) (are_flown_once_below plan (activities book))
-    ((λ e a below. to_one a below (AllPass-from_list_all (λ t. t == 1) times e a 0 (omega (arith, long, below)))),
-      (λ each. list_all-from_AllPass (λ t. t == 1) times (All-from_get_or (λ t. (t == 1) ≡ true) times 0 (λ a below. from_one a below (each a (omega (arith, long, below)))))))
+    one_answer (list_all (λ t. t == 1) times) (are_flown_once_below plan (activities book)) (
+      (λ e a below. to_one a below (AllPass-from_list_all (λ t. t == 1) times e a 0 (omega (arith, long, below)))),
+      (λ each. list_all-from_AllPass (λ t. t == 1) times (All-from_get_or (λ t. (t == 1) ≡ true) times 0 (λ a below. from_one a below (each a (omega (arith, long, below)))))),
+    )
     (Decides-below_and (λ a. times_flown plan a == 1) (λ a. times_flown plan a ≡ 1) (are_flown_once_below plan) (λ a. Decides-eqb (times_flown plan a) 1) refl (λ a. refl) (activities book))
   where
     to_one : (a : ℕ) → a < activities book → (get_or times a 0 == 1) ≡ true → times_flown plan a ≡ 1

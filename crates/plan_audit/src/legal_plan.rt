@@ -26,9 +26,7 @@ fn is_legal_next(book: &Book, k: u32, from: Place, b: u32, values: &mut [i64]) -
     ensures width { length values.new ≡ length book.now.rules.counters }
     ensures range { IsTrue result → AreCounts values.new }
 {
-    (b as usize) < book.activities.len()
-        && link(book, k, from, b)
-        && step(book, k, from, b, values)
+    (b as usize) < book.activities.len() && link(book, k, from, b) && step(book, k, from, b, values)
 }
 
 /// Whether a route is legal for an aircraft.

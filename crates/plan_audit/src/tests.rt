@@ -318,12 +318,7 @@ fn cost_of(alloc: Global, book: &Book, text: &[u8]) -> Result<Option<u64>, Memor
 }
 
 // Whether an audit tells these broken rules.
-fn is_broken(
-    alloc: Global,
-    book: &Book,
-    text: &[u8],
-    want: &[Broken],
-) -> Result<bool, Memory> {
+fn is_broken(alloc: Global, book: &Book, text: &[u8], want: &[Broken]) -> Result<bool, Memory> {
     let plan = plan(alloc, text)?;
     match audit(alloc, book, &plan)? {
         Audit::Legal(_) => Ok(false),
@@ -336,11 +331,17 @@ fn is_broken(
 fn legal_plans(rt: HostRuntime) -> Result<(), Fail> {
     let alloc = rt.alloc();
     let two = two_flights(alloc)?;
-    for (text, want) in [(b"A1:F1 F2 ".as_slice(), 120), (b"A2:F1 F2 A1:".as_slice(), 240)] {
+    for (text, want) in [
+        (b"A1:F1 F2 ".as_slice(), 120),
+        (b"A2:F1 F2 A1:".as_slice(), 240),
+    ] {
         assert_eq!(rt; cost_of(alloc, &two, text)?, Some(want), "{text:?}");
     }
     let pair = two_at_once(alloc)?;
-    for (text, want) in [(b"A1:F2 A2:F1 ".as_slice(), 240), (b"A2:F2 A1:F1 ".as_slice(), 300)] {
+    for (text, want) in [
+        (b"A1:F2 A2:F1 ".as_slice(), 240),
+        (b"A2:F2 A1:F1 ".as_slice(), 300),
+    ] {
         assert_eq!(rt; cost_of(alloc, &pair, text)?, Some(want), "{text:?}");
     }
     Ok(())
@@ -360,12 +361,7 @@ fn names_of_two_flights(rt: HostRuntime) -> Result<(), Fail> {
         ),
         (
             b"A1:F1 F9 F1 ".as_slice(),
-            [
-                Broken::Unknown(f9),
-                Broken::Twice(f1),
-                Broken::Uncovered(1),
-            ]
-            .as_slice(),
+            [Broken::Unknown(f9), Broken::Twice(f1), Broken::Uncovered(1)].as_slice(),
         ),
         (
             b"".as_slice(),
@@ -373,12 +369,7 @@ fn names_of_two_flights(rt: HostRuntime) -> Result<(), Fail> {
         ),
         (
             b"B7:F9 A1:F1 A1:F2 ".as_slice(),
-            [
-                Broken::Unknown(b7),
-                Broken::Twice(a1),
-                Broken::Uncovered(1),
-            ]
-            .as_slice(),
+            [Broken::Unknown(b7), Broken::Twice(a1), Broken::Uncovered(1)].as_slice(),
         ),
         (
             b"A1:F9 F1 F9 F2 ".as_slice(),
@@ -480,7 +471,11 @@ fn plans_by_number(rt: HostRuntime) -> Result<(), Fail> {
         ([[0].as_slice(), [7].as_slice()].as_slice(), None),
     ] {
         let plan = routes(alloc, listed)?;
-        assert_eq!(rt; audit_plan(alloc, &book, &table, &plan)?, want, "{listed:?}");
+        assert_eq!(rt;
+            audit_plan(alloc, &book, &table, &plan)?,
+            want,
+            "{listed:?}"
+        );
     }
     Ok(())
 }

@@ -1,4 +1,4 @@
-use Rattle.std.proofs.Common.{◌≡◌, ◌∙◌, ◌+◌, ◌++◌, ap, rules, take, length, get_or}
+use Rattle.std.proofs.Common.{◌∙◌, ◌+◌, ◌++◌, ap, take}
 use Rattle.std.proofs.lemmas.List.{take_all}
 use Rattle.plan_audit.proofs.Deciding.{times-all, taken}
 use Rattle.plan_audit.proofs.legal_plan.count_route.Goals as goal

@@ -1,4 +1,4 @@
-use Rattle.std.proofs.Common.{◌≡◌, true, ◌∙◌, sym, refl, rules, get_or}
+use Rattle.std.proofs.Common.{◌≡◌, true, ◌∙◌, sym, rules, get_or}
 use Rattle.std.proofs.lemmas.List.{get_or_default}
 use Rattle.plan_audit.proofs.Deciding.{route-refused, route-goes_on}
 use Rattle.plan_audit.proofs.legal_plan.is_legal_route.Goals as goal
