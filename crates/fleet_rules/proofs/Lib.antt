@@ -1,3 +1,4 @@
+mod RulesExamples
 pub mod EntryLemmas
 pub mod TomlLemmas
 mod CarryExamples
