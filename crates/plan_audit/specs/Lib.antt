@@ -1,0 +1,10 @@
+pub mod Met
+pub mod Names
+pub mod Marks
+pub mod Reading
+pub mod Kept
+pub mod LegCost
+pub mod Rules
+pub mod Counted
+pub mod Broken
+pub mod Laws

@@ -9,3 +9,4 @@ pub mod CountLemmas
 pub mod TextLemmas
 pub mod NamedLines
 pub mod ReadBack
+pub mod BrokenOfBook

@@ -1,11 +1,9 @@
 -- Names and numbers have no space, no newline and no colon.
 use Rattle.std.proofs.Common.{◌≡◌, ◌∙◌, ℕ, Bool, true, false, List, [], ◌∷◌, length, sym, refl, arith, ◌≤◌, ◌==◌, ◌&&◌, ◌||◌, nat_le, get_or}
-use Rattle.std.proofs.lemmas.Bool.{and_parts, both_ways, eqb-true, leb-true, cases_Bool}
-use Rattle.std.proofs.lemmas.List.Elements.{All-cons}
+use Rattle.std.proofs.lemmas.Bool.{and_parts, eqb-true, leb-true}
 use Rattle.std.proofs.lemmas.List.Sums.{AllPass-from_list_all}
-use Rattle.std.specs.Char.{is_ascii_alphanumeric, is_ascii_digit}
+use Rattle.std.specs.Char.{is_ascii_alphanumeric}
 use Rattle.std.specs.List.{list_all, All}
-use Rattle.std.specs.Prelude.{IsTrue}
 use Rattle.tail_book.specs.Name.{is_name, is_name_byte}
 
 -- no byte of the text is this one

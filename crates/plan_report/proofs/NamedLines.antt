@@ -1,21 +1,20 @@
 -- The line of an aircraft is read as its name and the ids of its route.
-use Rattle.std.proofs.Common.{◌≡◌, ◌∙◌, ℕ, zero, suc, ◌+◌, ◌-◌, ◌*◌, ◌<◌, ◌≤◌, Bool, true, false, List, [], ◌∷◌, ◌++◌, Ok, length, length-append, take, refl, sym, ap, map, arith, append_assoc, nat_lt, nat_le, slice_index, ◌==◌}
+use Rattle.std.proofs.Common.{◌≡◌, ◌∙◌, ℕ, ◌+◌, ◌-◌, ◌*◌, ◌<◌, ◌≤◌, true, false, List, [], ◌∷◌, ◌++◌, Ok, length, length-append, refl, ap, map, arith, nat_lt, nat_le, slice_index, ◌==◌}
 use Rattle.std.proofs.lemmas.Bool.Decides.{nat_tests}
 use Rattle.std.proofs.lemmas.List.{append-nil, length-map}
 use Rattle.std.proofs.lemmas.List.Elements.{All-append, All-cons, All-head, All-tail}
-use Rattle.std.proofs.lemmas.List.Folds.{list_all-map}
 use Rattle.std.proofs.lemmas.List.Splits.{slice_split_at, slice_split_none}
 use Rattle.std.proofs.Math.Seq.{take-append_seam, get_or-append_seam}
 use Rattle.std.specs.List.{All, AllByRecursion, list_all}
 use Rattle.std.specs.Prelude.{codes}
 use Rattle.tail_book.specs.Lookup.{activities, activity_of, aircraft, no_activity, no_tail, tail_of}
 use Rattle.tail_book.specs.Name.{is_name, is_name_byte}
-use Rattle.tail_book.specs.Seen.{BookSeen, RawLineSeen}
+use Rattle.tail_book.specs.Seen.{BookSeen}
 use Rattle.tail_book.specs.Sound.{IsBook}
 use Rattle.plan_report.specs.Laws.{names_from}
-use Rattle.plan_report.specs.Lines.{newline, text_of}
-use Rattle.plan_report.specs.Parts.{LineSeen, parts_of, whole_line}
-use Rattle.plan_report.specs.PlanText.{ids_in, line_in, lines_from, tail_in}
+use Rattle.plan_report.specs.Lines.{newline}
+use Rattle.plan_report.specs.Parts.{parts_of, whole_line}
+use Rattle.plan_report.specs.PlanText.{line_in, lines_from, tail_in}
 use Rattle.plan_report.specs.Report.{aircraft_line, aircraft_lines, ids_of}
 use Rattle.plan_report.specs.declared.plan_text.TheConstants.{ID_LIMIT}
 use Rattle.plan_report.proofs.NameBytes.{Lacks, is_name-lacks, is_name-short}

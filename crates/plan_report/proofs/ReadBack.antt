@@ -1,6 +1,6 @@
 -- The report of a plan is read as the names of the plan: it is small enough, it begins with no byte order mark, its first
 -- line says what was found, and each later line is read as the names of one route.
-use Rattle.std.proofs.Common.{◌≡◌, ◌∙◌, ℕ, suc, ◌+◌, ◌*◌, ◌-◌, ◌^◌, ◌<◌, ◌≤◌, true, List, [], ◌∷◌, ◌++◌, Ok, false, length, length-append, refl, sym, ap, map, arith, nat_le, not, append_assoc}
+use Rattle.std.proofs.Common.{◌≡◌, ◌∙◌, ℕ, ◌+◌, ◌*◌, ◌^◌, ◌<◌, ◌≤◌, true, List, [], ◌∷◌, ◌++◌, Ok, false, length, length-append, refl, ap, map, arith, nat_le, not, append_assoc}
 use Rattle.std.proofs.lemmas.Bool.Decides.{nat_tests}
 use Rattle.std.proofs.lemmas.Fmt.{length-decimal-le}
 use Rattle.std.proofs.lemmas.List.Elements.{All-append, All-head, All-tail}
@@ -17,7 +17,7 @@ use Rattle.plan_report.specs.Laws.{HasNoRepeats, ReportIsReadBack, names_from, n
 use Rattle.plan_report.specs.Lines.{newline, text_of}
 use Rattle.plan_report.specs.Parts.{lines_of, parts_of, whole_line}
 use Rattle.plan_report.specs.PlanText.{is_cost, is_heading, lines_from, plan_in, without_mark}
-use Rattle.plan_report.specs.Report.{IsPlanFor, aircraft_line, aircraft_lines, first_line, report}
+use Rattle.plan_report.specs.Report.{IsPlanFor, aircraft_line, aircraft_lines}
 use Rattle.plan_report.specs.declared.plan_text.TheConstants.{ID_LIMIT, LINE_LIMIT, SIZE_LIMIT}
 use Rattle.plan_report.proofs.CountLemmas.{at_most}
 use Rattle.plan_report.proofs.DecimalLemmas.{decimal-digits, number_of-decimal}
@@ -48,9 +48,13 @@ module _ (book : BookSeen) (sound : IsBook book) where
       → length (text_of (aircraft_lines book k routes)) ≤ 18 * length routes + 17 * length (flown routes)
   lines_length k [] fits known = omega arith
   lines_length k (route ∷ routes) fits known =
-      omega (arith, length-append (aircraft_line book k route) (text_of (aircraft_lines book (k + 1) routes)), length-append route (flown routes),
+      omega (
+        arith,
+        length-append (aircraft_line book k route) (text_of (aircraft_lines book (k + 1) routes)),
+        length-append route (flown routes),
         length-line book sound k route (omega (arith, fits)) (All-head (All (λ a. a < activities book)) route routes known),
-        lines_length (k + 1) routes (omega (arith, fits)) (All-tail (All (λ a. a < activities book)) route routes known))
+        lines_length (k + 1) routes (omega (arith, fits)) (All-tail (All (λ a. a < activities book)) route routes known),
+      )
 
   -- what is written under a first line that says what was found
   read_under : (first : List ℕ) (plan : List (List ℕ)) → length first ≤ 60 → Lacks 10 first → is_heading (parts_of 32 first) ≡ true
@@ -60,11 +64,11 @@ module _ (book : BookSeen) (sound : IsBook book) where
       let few : length (flown plan) ≤ activities book = at_most (activities book) (flown plan) (flown-below (activities book) plan known.activities) once in
       let all : 0 + length plan ≤ aircraft book = omega (arith, known.one_each) in
       let size : nat_le (length (ended first ++ text_of (aircraft_lines book 0 plan))) SIZE_LIMIT ≡ true =
-          fits_in _ _ (omega (arith, length-append (ended first) (text_of (aircraft_lines book 0 plan)), length-append first newline, short, lines_length 0 plan all known.activities, few, known.one_each, sound.few_activities, sound.few_tails)) in
+      fits_in _ _ (omega (arith, length-append (ended first) (text_of (aircraft_lines book 0 plan)), length-append first newline, short, lines_length 0 plan all known.activities, few, known.one_each, sound.few_activities, sound.few_tails)) in
       let texts : lines_of (ended first ++ text_of (aircraft_lines book 0 plan)) ≡ map whole_line (first ∷ line_texts book sound 0 plan) =
-          rw (aircraft_lines-ended book sound 0 plan) (lines_of-text (first ∷ line_texts book sound 0 plan) (clean, lines_lack book sound 0 plan all known.activities)) in
+      rw (aircraft_lines-ended book sound 0 plan) (lines_of-text (first ∷ line_texts book sound 0 plan) (clean, lines_lack book sound 0 plan all known.activities)) in
       let lines : lines_from 2 LINE_LIMIT (map whole_line (line_texts book sound 0 plan)) ≡ Ok (names_from book 0 plan) =
-          lines_read book sound 2 LINE_LIMIT 0 plan (omega (arith, known.one_each, sound.few_tails)) all known.activities (routes_short ID_LIMIT plan (omega (arith, few, sound.few_activities))) in
+      lines_read book sound 2 LINE_LIMIT 0 plan (omega (arith, known.one_each, sound.few_tails)) all known.activities (routes_short ID_LIMIT plan (omega (arith, few, sound.few_activities))) in
       rw (size, unmarked, texts, heading, lines) refl
 
 -- a number has no space and no newline

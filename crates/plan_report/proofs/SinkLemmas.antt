@@ -13,7 +13,7 @@ adds-more None b c x y h k = tt
 adds-more (Some old) b c x y h k = rw h at k ∙ rw append_assoc refl
 
 regrouped : (x y z taken rest : List ℕ) → y ≡ taken ++ rest → x ++ (y ++ z) ≡ (x ++ taken) ++ (rest ++ z)
-regrouped x y z taken rest same = rw (same, append_assoc, append_assoc) refl
+regrouped x y z taken rest same = rw same (ap (λ (t : List ℕ). x ++ t) (append_assoc taken rest z) ∙ sym (append_assoc x taken (rest ++ z)))
 
 pub adds-front : (a b c : Option (List ℕ)) (x y z : List ℕ) → Adds a b x → AddsFront b c y → AddsFront a c (x ++ (y ++ z))
 adds-front None b c x y z h k = tt

@@ -7,12 +7,19 @@ use Rattle.tail_book.specs.declared.outcome.Outcome.{Outcome}
 use Rattle.tail_book.specs.declared.outcome.Outcome.TheVariants.{Optimal, Infeasible, Between, Above}
 use Rattle.tail_book.specs.Sound.{IsBook}
 use Rattle.tail_book.specs.Truth.{IsTrueOutcome}
+use Rattle.plan_audit.specs.Broken.{IsAuditOf}
+use Rattle.plan_audit.specs.declared.broken.Audit.{Audit}
+use Rattle.plan_report.specs.AuditText.{AreOfBook}
 use Rattle.plan_report.specs.PlanText.{plan_in}
 use Rattle.plan_report.specs.Report.{HasPlanFor, report}
 
 -- the law of true outcomes: their plan has one route for each aircraft, of activities of the book
 abbrev pub TrueOutcomesCanBeWritten : Type 0
 TrueOutcomesCanBeWritten = (book : BookSeen) → IsBook book → (outcome : Outcome) → IsTrueOutcome book outcome → HasPlanFor book outcome
+
+-- the law of audits: the numbers in what an audit finds are of the book
+abbrev pub AuditsCanBeWritten : Type 0
+AuditsCanBeWritten = (book : BookSeen) (raw : RawPlanSeen) (found : Audit) → IsAuditOf book raw found → AreOfBook book found
 
 -- the names of the aircraft from k on and of what they fly
 abbrev pub names_from : BookSeen → ℕ → List (List ℕ) → List RawLineSeen

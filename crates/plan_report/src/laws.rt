@@ -1,14 +1,22 @@
 //! Laws over the definitions alone: the contract of each function is the law.
 
-ghost use Rattle.plan_report.specs.Laws.{ReportIsReadBack, TrueOutcomesCanBeWritten};
+ghost use Rattle.plan_report.specs.Laws.{AuditsCanBeWritten, ReportIsReadBack, TrueOutcomesCanBeWritten};
 
-use tail_book::laws;
+use plan_audit::laws::legs_are_of_book;
+use tail_book::laws::legal_routes_rise;
 
 /// The plan of a true outcome has one route for each aircraft, of activities of the book.
 pub fn true_outcomes_can_be_written()
     ensures { TrueOutcomesCanBeWritten }
 {
-    laws::legal_routes_rise();
+    legal_routes_rise();
+}
+
+/// The numbers in the broken rules of an audit are of the book.
+pub fn audits_can_be_written()
+    ensures { AuditsCanBeWritten }
+{
+    legs_are_of_book();
 }
 
 /// What is written of an outcome with a plan is read as the names of that plan.

@@ -17,3 +17,6 @@ pub use plan_text::read_plan;
 pub use refused::refusal_line;
 pub use report::{report_lines, write_report};
 pub use writing::ReportFail;
+
+#[cfg(test)]
+mod tests;

@@ -1,4 +1,4 @@
-use Rattle.std.proofs.Common.{◌≡◌, ◌≤◌, ◌<◌, ◌∷◌, ◌++◌, [], false, true, length, rules}
+use Rattle.std.proofs.Common.{◌≡◌, ◌≤◌, ◌<◌, ◌∷◌, ◌++◌, [], false, length, rules}
 use Rattle.plan_report.specs.declared.plan_text.TheConstants.{ID_LIMIT}
 use Rattle.plan_report.proofs.IdLemmas.{AreKept, AreKept-few, end-few, end-good, ids_in-good, turn-kept, turn-over}
 use Rattle.plan_report.proofs.plan_text.ids_in.Goals as goal

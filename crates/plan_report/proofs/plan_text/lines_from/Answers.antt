@@ -1,4 +1,4 @@
-use Rattle.std.proofs.Common.{◌≡◌, ◌≤◌, ◌<◌, ◌+◌, ◌∷◌, ◌++◌, [], ◌∙◌, length, rules, arith, ap, sym}
+use Rattle.std.proofs.Common.{◌≡◌, ◌≤◌, ◌<◌, ◌+◌, ◌∷◌, ◌++◌, [], length, rules, arith, ap}
 use Rattle.std.proofs.lemmas.List.Elements.{All-push}
 use Rattle.tail_book.specs.declared.raw_plan.RawPlan.{RawPlan}
 use Rattle.plan_report.specs.declared.plan_text.TheConstants.{ID_LIMIT, LINE_LIMIT}

@@ -1,0 +1,8 @@
+mod NameLemmas
+mod MarkLemmas
+mod MetLemmas
+mod CountLemmas
+mod WellMet
+mod Along
+mod Legality
+mod Unbroken

@@ -1,0 +1,7 @@
+use Rattle.std.proofs.Common.{◌≡◌, ◌++◌, drop}
+use Rattle.plan_audit.specs.Rules.{not_allowed}
+use Rattle.plan_audit.proofs.not_allowed.add_not_allowed.Given as goal
+
+-- what is left is added to what was
+abbrev pub invariant-loop-leg : goal.invariant-loop-leg
+invariant-loop-leg l = l.fn.list.items ++ not_allowed l.book l.legs ≡ l.list.items ++ not_allowed l.book (drop l.leg-index l.legs)

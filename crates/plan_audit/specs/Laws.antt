@@ -1,0 +1,18 @@
+-- Laws of the audit.
+use Rattle.std.specs.Prelude.{◌≡◌, [], All}
+use Rattle.tail_book.specs.Seen.{BookSeen, RawPlanSeen}
+use Rattle.tail_book.specs.Sound.{IsBook}
+use Rattle.tail_book.specs.Truth.{IsPlanOf}
+use Rattle.plan_audit.specs.Met.{names_met}
+use Rattle.plan_audit.specs.Kept.{kept, legs_met, IsLegOf}
+use Rattle.plan_audit.specs.LegCost.{legs_cost}
+use Rattle.plan_audit.specs.Broken.{broken}
+
+-- the legs of a kept plan are of the book
+abbrev pub LegsAreOfBook : Type 0
+LegsAreOfBook = (book : BookSeen) (raw : RawPlanSeen) → All (IsLegOf book) (legs_met (names_met book raw))
+
+-- where no rule is broken, the kept plan is legal, and costs what its legs cost
+abbrev pub UnbrokenPlansAreLegal : Type 0
+UnbrokenPlansAreLegal = (book : BookSeen) → IsBook book → (raw : RawPlanSeen) → broken book raw ≡ []
+    → IsPlanOf book (legs_cost book (legs_met (names_met book raw))) (kept book raw)

@@ -1,0 +1,62 @@
+//! The audit of a plan.
+//!
+//! The names are read once, and then each rule is looked at along the legs, so the work grows with the plan's length.
+
+ghost use Rattle.std.specs.Prelude.{◌≡◌, IfOk, All};
+ghost use Rattle.plan_audit.specs.Reading.{IsReadingOf};
+ghost use Rattle.plan_audit.specs.Kept.{legs_met, IsLegOf};
+ghost use Rattle.plan_audit.specs.Broken.{broken_by, IsAuditOf};
+
+use crate::broken::{Audit, Broken};
+use crate::costs::legs_cost;
+use crate::laws::{legs_are_of_book, unbroken_plans_are_legal};
+use crate::leg::{Leg, legs_in};
+use crate::no_links::add_no_links;
+use crate::not_allowed::{add_curfews, add_not_allowed};
+use crate::past_limits::add_past_limits;
+use crate::reading::{Reading, read_plan};
+use crate::uncovered::{add_twice, add_uncovered, add_unknown};
+use std::alloc::Global;
+use tail_book::laws::{every_book_is_sound, legal_plans_cost_at_most};
+use tail_book::{Book, Memory, RawPlan};
+
+/// The rules that a plan breaks.
+fn broken_rules(
+    alloc: Global,
+    book: &Book,
+    reading: &Reading,
+    legs: &[Leg],
+) -> Result<Vec<Broken>, Memory>
+    requires reading { IsReadingOf book.now reading.now }
+    requires legs { legs.now ≡ legs_met reading.now.met.items }
+    requires of_book { All (IsLegOf book.now) legs.now }
+    ensures { IfOk result (λ list. list.items ≡ broken_by book.now reading.now.met.items) }
+{
+    let mut list = Vec::new(alloc);
+    add_unknown(&reading.met, &mut list)?;
+    add_twice(&reading.met, &mut list)?;
+    add_uncovered(book, reading, &mut list)?;
+    add_not_allowed(book, legs, &mut list)?;
+    add_curfews(book, legs, &mut list)?;
+    add_no_links(book, legs, &mut list)?;
+    add_past_limits(alloc, book, legs, &mut list)?;
+    Ok(list)
+}
+
+/// Which rules of the book a plan breaks, and what it costs where it breaks none. The plan that is judged is the kept
+/// one, without the names that are unknown or repeated.
+pub fn audit(alloc: Global, book: &Book, raw: &RawPlan) -> Result<Audit, Memory>
+    ensures { IfOk result (IsAuditOf book.now raw.now) }
+{
+    every_book_is_sound(book);
+    legs_are_of_book();
+    unbroken_plans_are_legal();
+    legal_plans_cost_at_most();
+    let reading = read_plan(alloc, book, raw)?;
+    let legs = legs_in(alloc, &reading.met)?;
+    let list = broken_rules(alloc, book, &reading, &legs)?;
+    if list.is_empty() {
+        return Ok(Audit::Legal(legs_cost(book, &legs)));
+    }
+    Ok(Audit::Broken(list))
+}
