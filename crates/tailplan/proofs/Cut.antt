@@ -3,7 +3,7 @@ use Rattle.std.proofs.Common.{◌≡◌, ◌∙◌, ℕ, ◌+◌, ◌<◌, ◌�
 use Rattle.std.proofs.lemmas.Bool.Decides.{nat_tests}
 use Rattle.std.proofs.lemmas.List.{take_all}
 use Rattle.std.specs.Prelude.{nat_le, Option, None, Some, IfSome, Result, Err}
-use Rattle.fleet_rules.specs.Fleet.{fleet as fleet_layout, fleet_of}
+use Rattle.fleet_rules.specs.Fleet.{fleet as fleet_layout}
 use Rattle.fleet_rules.specs.RawRules.{RawRulesSeen}
 use Rattle.fleet_rules.specs.Entries.{refused}
 use Rattle.fleet_rules.specs.RulesTable.{rules_of}
@@ -14,7 +14,7 @@ use Rattle.tail_text.specs.Reading.{refusal_at}
 use Rattle.table_records.specs.Layout.{Layout, table_of}
 use Rattle.table_records.specs.declared.table.TheConstants.{SIZE_LIMIT}
 use Rattle.timetable_reader.specs.Activity.{RawActivitySeen}
-use Rattle.timetable_reader.specs.Timetable.{timetable as timetable_layout, timetable_of}
+use Rattle.timetable_reader.specs.Timetable.{timetable as timetable_layout}
 use Rattle.tailplan.specs.Answers.{IsAnswerTo, IsTrueAnswer}
 use Rattle.tailplan.specs.SmallBook.{small_book_of, small_made_of}
 use Rattle.tailplan.specs.Words.{RunNames, run_of}

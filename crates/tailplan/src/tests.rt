@@ -60,7 +60,7 @@ fn words_of(alloc: Global, words: &[&str]) -> Result<Vec<String>, Fail> {
     Ok(all)
 }
 
-// A file for each name and its bytes.
+// A file of this name.
 fn file_of(alloc: Global, name: &str, bytes: Vec<u8>) -> Result<MemFile, Fail> {
     let name = String::from_str(alloc, name)?;
     Ok(MemFile { name, bytes })

@@ -104,8 +104,7 @@ fn a_curfew_may_name_types(rt: HostRuntime) -> Result<(), Fail> {
         ("\"Q\"", 0, "optimal 60\nA1: F1\nA2:\n"),
         ("\"P\", \"Q\"", 1, "infeasible\n"),
     ] {
-        let curfew = format!(
-            in alloc;
+        let curfew = format!(in alloc;
             "{DEAR_TYPE}[[curfew]]\nairport = \"ARN\"\nfrom = \"06:00\"\nto = \"08:00\"\ntypes = [{types}]\nstart = true\nlanding = false\n"
         )?;
         let ends = ends_so(
