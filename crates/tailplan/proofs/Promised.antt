@@ -5,9 +5,10 @@ use Rattle.tail_book.specs.Seen.{BookSeen}
 use Rattle.tail_book.specs.declared.outcome.Outcome.TheVariants.{Optimal, Infeasible, Between, Above}
 use Rattle.tail_outside.specs.Outside.{HasRisen}
 use Rattle.tail_text.specs.declared.refusal.Refusal.{Refusal}
-use Rattle.tailplan.specs.Answers.{IsAnswerTo, IsPrinted, IsTrueAnswer, OfTables, Shown, lines_of, status_of}
+use Rattle.tailplan.specs.Answers.{IsAnswerTo, IsTrueAnswer, OfTables, lines_of, status_of}
 use Rattle.plan_report.specs.Lines.{text_of}
-use Rattle.tailplan.specs.Promises.{AreNamed, IsUnlessStopped, Prints, PrintsInfeasible, PrintsLeastPlan, PrintsRefusal}
+use Rattle.plan_report.specs.Printed.{IsPrinted, IsUnlessStopped, Prints, Shown}
+use Rattle.tailplan.specs.Promises.{AreNamed, PrintsInfeasible, PrintsLeastPlan, PrintsRefusal}
 use Rattle.plan_report.specs.Refused.{refusal_line}
 use Rattle.tailplan.specs.Usage.{usage_line}
 use Rattle.tailplan.specs.SmallBook.{small_book_of}

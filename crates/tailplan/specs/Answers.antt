@@ -1,9 +1,9 @@
 -- What a run answers, when that is true, and what is printed for it.
-use Rattle.std.specs.Prelude.{ℕ, Bool, false, ◌≡◌, ◌⊎◌, ⊤, List, [], ◌∷◌, Option, Some, None, IfSome, Ok, Err}
+use Rattle.std.specs.Prelude.{ℕ, ◌≡◌, ⊤, List, [], ◌∷◌, Option, Some, None, IfSome, Ok, Err}
 use Rattle.tail_book.specs.Truth.{IsTrueOutcome}
 use Rattle.tail_book.specs.declared.outcome.Outcome.{Outcome}
 use Rattle.tail_book.specs.declared.outcome.Outcome.TheVariants.{Optimal, Infeasible, Between, Above}
-use Rattle.tail_outside.specs.Outside.{Adds, AddsFront, HasRisen}
+use Rattle.tail_outside.specs.Outside.{HasRisen}
 use Rattle.plan_enumeration.specs.Decided.{IsDecided}
 use Rattle.plan_report.specs.Refused.{refusal_line}
 use Rattle.plan_report.specs.Report.{HasPlanFor, report_lines}
@@ -64,23 +64,3 @@ status_of (Refused refusal) = 3
 status_of (Solved book outcome) = outcome_status outcome
 status_of ReadFailed = 5
 status_of Memory = 7
-
--- what a sink shows before and after a call: the bytes that it tells, where it does, the count of its faults, and
--- whether it has ceased
-pub record Shown : Type 0 where
-  pub told_before : Option (List ℕ)
-  pub told : Option (List ℕ)
-  pub faults_before : ℕ
-  pub faults : ℕ
-  pub ceased : Bool
-
--- the same, from what a sink tells before and after, the counts before and after, and whether it has ceased
-abbrev pub shown_of : Option (List ℕ) → Option (List ℕ) → ℕ → ℕ → Bool → Shown
-shown_of told_before told faults_before faults ceased = record { told_before = told_before; told = told; faults_before = faults_before; faults = faults; ceased = ceased }
-
--- the text was printed, and the status says so; or a fault or want of memory came, and a front of it was printed
-abbrev pub IsPrinted : List ℕ → Shown → ℕ → ℕ → Type 0
-IsPrinted due shown code status =
-    ((status ≡ code) × (shown.ceased ≡ false → Adds shown.told_before shown.told due))
-    ⊎ ((status ≡ 6) × HasRisen shown.faults_before shown.faults × (shown.ceased ≡ false → AddsFront shown.told_before shown.told due))
-    ⊎ ((status ≡ 7) × (shown.ceased ≡ false → AddsFront shown.told_before shown.told due))

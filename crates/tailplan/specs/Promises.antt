@@ -1,20 +1,15 @@
 -- What a run promises, status by status.
-use Rattle.std.specs.Prelude.{ℕ, false, ◌≡◌, ◌⊎◌, List, Option, Some, Ok, Err}
+use Rattle.std.specs.Prelude.{ℕ, ◌≡◌, List, Option, Some, Ok, Err}
 use Rattle.tail_book.specs.Seen.{BookSeen}
 use Rattle.tail_book.specs.Truth.{HasNoPlan, IsTrueOutcome}
 use Rattle.tail_book.specs.declared.outcome.Outcome.TheVariants.{Optimal, Infeasible}
-use Rattle.tail_outside.specs.Outside.{Adds}
 use Rattle.tail_text.specs.declared.refusal.Refusal.{Refusal}
 use Rattle.book_maker.specs.Made.{book_of}
-use Rattle.tailplan.specs.Answers.{Shown}
+use Rattle.plan_report.specs.Printed.{Prints, Shown}
 use Rattle.plan_report.specs.Refused.{refusal_line}
 use Rattle.plan_report.specs.Report.{report}
 use Rattle.tailplan.specs.SmallBook.{small_book_of}
 use Rattle.tailplan.specs.Words.{RunNames, run_of}
-
--- the sink took exactly this text in the call, where it tells what it took
-abbrev pub Prints : Shown → List ℕ → Type 0
-Prints shown text = shown.ceased ≡ false → Adds shown.told_before shown.told text
 
 -- the tables are a book, and the report of a plan was printed that is legal, has the printed cost, and is undercut by no legal plan
 pub record PrintsLeastPlan (shown : Shown) (timetable fleet rules : List ℕ) : Type 0 where
@@ -45,7 +40,3 @@ pub record AreNamed (words : List (List ℕ)) (holds : List ℕ → Option (List
   pub timetable_held : holds names.timetable ≡ Some timetable
   pub fleet_held : holds names.fleet ≡ Some fleet
   pub rules_held : holds names.rules ≡ Some rules
-
--- the status is this one, unless a write failed or memory was wanting
-abbrev pub IsUnlessStopped : ℕ → ℕ → Type 0
-IsUnlessStopped code status = (status ≡ code) ⊎ ((status ≡ 6) ⊎ (status ≡ 7))

@@ -3,11 +3,12 @@
 ghost use Rattle.std.specs.Prelude.{◌≡◌, ◌⊎◌, ℕ, List, map, string_bytes, IfSome, IsTrue, None, Ok, Err, []};
 ghost use Rattle.tail_book.specs.Seen.{BookSeen};
 ghost use Rattle.tail_outside.specs.Outside.{HasRisen};
-ghost use Rattle.tailplan.specs.Answers.{IsAnswerTo, IsPrintable, IsPrinted, IsTrueAnswer, OfTables, lines_of, shown_of, status_of};
-ghost use Rattle.tailplan.specs.Promises.{AreNamed, IsUnlessStopped, Prints, PrintsInfeasible, PrintsLeastPlan, PrintsRefusal};
+ghost use Rattle.tailplan.specs.Answers.{IsAnswerTo, IsPrintable, IsTrueAnswer, OfTables, lines_of, status_of};
+ghost use Rattle.tailplan.specs.Promises.{AreNamed, PrintsInfeasible, PrintsLeastPlan, PrintsRefusal};
 ghost use Rattle.tailplan.specs.Usage.{usage_line};
 ghost use Rattle.tail_text.specs.declared.refusal.Refusal.{Refusal};
 ghost use Rattle.plan_report.specs.Lines.{text_of};
+ghost use Rattle.plan_report.specs.Printed.{IsPrinted, IsUnlessStopped, Prints, shown_of};
 ghost use Rattle.tailplan.specs.SmallBook.{small_book_of};
 ghost use Rattle.tailplan.specs.Words.{run_of};
 ghost use Rattle.tailplan.specs.declared.answer.Answer.{Answer};
