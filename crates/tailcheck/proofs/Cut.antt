@@ -35,14 +35,14 @@ split n limit = grind arith
 limited-take : {A : Type 0} (read : List ℕ → Result A Refusal) (refusal : Refusal) → ((bytes : List ℕ) → nat_le (length bytes) 16_777_216 ≡ false → read bytes ≡ Err refusal)
     → (bytes : List ℕ) → read (take READ_LIMIT bytes) ≡ read bytes
 limited-take read refusal refuses bytes = elim (split (length bytes) READ_LIMIT) [
-    | inl short ↦ ap read (take_all READ_LIMIT bytes short)
-    | inr long ↦
-        let fits : READ_LIMIT ≤ length bytes = omega arith in
-        let cut : length (take READ_LIMIT bytes) ≡ READ_LIMIT = length-take-le READ_LIMIT bytes fits in
-        let first : nat_le (length (take READ_LIMIT bytes)) 16_777_216 ≡ false = too_big (length (take READ_LIMIT bytes)) 16_777_216 (omega (arith, cut)) in
-        let second : nat_le (length bytes) 16_777_216 ≡ false = too_big (length bytes) 16_777_216 (omega (arith, long)) in
-        refuses (take READ_LIMIT bytes) first ∙ sym (refuses bytes second)
-  ]
+  | inl short ↦ ap read (take_all READ_LIMIT bytes short)
+  | inr long ↦
+      let fits : READ_LIMIT ≤ length bytes = omega arith in
+      let cut : length (take READ_LIMIT bytes) ≡ READ_LIMIT = length-take-le READ_LIMIT bytes fits in
+      let first : nat_le (length (take READ_LIMIT bytes)) 16_777_216 ≡ false = too_big (length (take READ_LIMIT bytes)) 16_777_216 (omega (arith, cut)) in
+      let second : nat_le (length bytes) 16_777_216 ≡ false = too_big (length bytes) 16_777_216 (omega (arith, long)) in
+      refuses (take READ_LIMIT bytes) first ∙ sym (refuses bytes second)
+]
 
 table_of-take : {A : Type 0} (layout : Layout A) (bytes : List ℕ) → table_of layout (take READ_LIMIT bytes) ≡ table_of layout bytes
 table_of-take layout bytes = limited-take (table_of layout) (refusal_at 1 layout.table 0) (λ b big. rw big refl) bytes
