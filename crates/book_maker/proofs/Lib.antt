@@ -5,3 +5,6 @@ pub mod EntryLemmas
 pub mod FoundLemmas
 pub mod JudgeLemmas
 pub mod CarryLemmas
+pub mod EntryFacts
+pub mod TagLemmas
+pub mod MadeLemmas

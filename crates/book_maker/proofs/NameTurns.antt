@@ -1,10 +1,10 @@
 -- The turns of the loops over names: what is left decides.
-use Rattle.std.proofs.Common.{◌≡◌, ◌∙◌, ℕ, ◌+◌, ◌<◌, ◌≤◌, true, false, List, [], ◌∷◌, ◌++◌, Some, None, length, take, drop, get_or, refl, ap, arith, Bool, not, sym}
+use Rattle.std.proofs.Common.{◌≡◌, ◌∙◌, ℕ, ◌+◌, ◌<◌, ◌≤◌, true, false, List, [], ◌∷◌, ◌++◌, Some, None, length, take, drop, get_or, refl, ap, arith, Bool, not, sym, length-append, if◌then◌else◌}
 use Rattle.std.proofs.lemmas.List.{drop_all, drop_more, length-take-le, take_more}
 use Rattle.std.specs.List.{list_any}
 use Rattle.std.specs.Str.{bytes_eq}
 use Rattle.indexmap.specs.IndexSet.{insert_key}
-use Rattle.book_maker.specs.Names.{distinct_from, with_name}
+use Rattle.book_maker.specs.Names.{distinct_from, distinct_names, is_among, with_name}
 
 module _ (names : List (List ℕ)) (i : ℕ) (x : List ℕ) (within : i < length names) (here : x ≡ get_or names i x) where
   next : drop i names ≡ x ∷ drop (i + 1) names
@@ -39,3 +39,16 @@ is_new seen x added e here = flipped (list_any (bytes_eq x) seen) (sym e ∙ her
 
 pub keys-new : (seen : List (List ℕ)) (x : List ℕ) → list_any (bytes_eq x) seen ≡ false → insert_key bytes_eq seen x ≡ seen ++ x ∷ []
 keys-new seen x e = rw e refl
+
+few : (names xs : List (List ℕ)) → length (distinct_from names xs) ≤ length names + length xs
+unfolding distinct_from
+few names [] = omega arith
+few names (x ∷ xs) = omega (arith, few (with_name names x) xs, one (is_among names x))
+  where
+    one : (t : Bool) → length (if t then names else names ++ x ∷ []) ≤ length names + 1
+    one true = omega arith
+    one false = omega (arith, length-append names (x ∷ []))
+
+-- there are no more distinct names than names
+pub distinct_names-few : (xs : List (List ℕ)) → length (distinct_names xs) ≤ length xs
+distinct_names-few xs = omega (arith, few [] xs)

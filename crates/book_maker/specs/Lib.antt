@@ -5,6 +5,5 @@ pub mod Entries
 pub mod RulesFound
 pub mod TailFound
 pub mod ActivityFound
-pub mod FoundSound
 pub mod Order
 pub mod Made

@@ -5,7 +5,10 @@ use Rattle.tail_text.specs.Checks.{look}
 use Rattle.tail_text.specs.declared.refusal.Refusal.{Refusal}
 use Rattle.tail_text.specs.declared.refusal.Table.TheVariants.{Fleet, Timetable}
 use Rattle.timetable_reader.specs.Activity.{RawActivitySeen}
+use Rattle.timetable_reader.specs.Timetable.{timetable_of}
+use Rattle.fleet_rules.specs.Fleet.{fleet_of}
 use Rattle.fleet_rules.specs.RawRules.{RawRulesSeen}
+use Rattle.fleet_rules.specs.RulesTable.{rules_of}
 use Rattle.fleet_rules.specs.Tail.{RawTailSeen}
 use Rattle.book_maker.specs.Names.{distinct_names}
 use Rattle.book_maker.specs.Entries.{entries_in}
@@ -46,3 +49,12 @@ made_of activities tails rules =
       tails = numbered_tails;
       rules = numbered_rules;
     }))))
+
+-- the book of the three tables, or the first refusal: of the timetable, of the fleet and of the rules, each by itself, and
+-- then of the names in all three
+unfoldable pub book_of : List ℕ → List ℕ → List ℕ → Result BookSeen Refusal
+book_of timetable fleet rules =
+    look (timetable_of timetable) (λ raw_activities.
+    look (fleet_of fleet) (λ raw_tails.
+    look (rules_of rules) (λ raw_rules.
+    made_of raw_activities raw_tails raw_rules)))

@@ -3,9 +3,16 @@
 
 mod activities;
 mod carry;
+mod declare;
 mod entries;
 mod known;
+mod make;
 mod names;
 mod order;
+mod read;
 mod rules;
+mod tags;
 mod tails;
+
+pub use make::make_book;
+pub use read::read_book;

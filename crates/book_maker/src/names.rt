@@ -1,7 +1,7 @@
 //! The numbers that names get.
 //! A set that keeps the order of insertion finds a name at once, so each list of names is passed over once.
 
-ghost use Rattle.std.specs.Prelude.{◌≡◌, ◌<◌, ◌^◌, length, map, IfOk};
+ghost use Rattle.std.specs.Prelude.{◌≡◌, ◌<◌, ◌≤◌, ◌^◌, length, map, IfOk};
 ghost use Rattle.table_records.specs.NoRow.{Judges};
 ghost use Rattle.book_maker.specs.Names.{distinct_names, number_in, numbers_in, optional_number_in, place_in};
 
@@ -12,7 +12,8 @@ use tail_book::{Memory, Name};
 
 /// The distinct names, in order of first appearance.
 pub fn distinct_names(alloc: Global, names: &[Name]) -> Result<IndexSet<Name>, Memory>
-    ensures { IfOk result (λ set. set.keys ≡ distinct_names names.now) }
+    ensures distinct { IfOk result (λ set. set.keys ≡ distinct_names names.now) }
+    ensures few { IfOk result (λ set. length set.keys ≤ length names.now) }
 {
     let mut set = IndexSet::new(alloc);
     for name in names {

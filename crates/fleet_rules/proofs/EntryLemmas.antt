@@ -40,7 +40,7 @@ module _ {A : Type 0} (section : Section A) (first : ℕ) (all : Result (List A)
   pub turn-good : (table : Members) (more : List Members) (entry : A) → left ≡ table ∷ more
       → entry_in section (section.limit - length entries) table ≡ Ok entry
       → all ≡ joined (entries ++ entry ∷ [])
-        (entries_from section (first + length (entries ++ entry ∷ [])) (section.limit - length (entries ++ entry ∷ [])) more)
+      (entries_from section (first + length (entries ++ entry ∷ [])) (section.limit - length (entries ++ entry ∷ [])) more)
   unfolding entries_from
   turn-good table more entry e good =
       let longer : length (entries ++ entry ∷ []) ≡ length entries + 1 = omega (arith, length-append entries (entry ∷ [])) in

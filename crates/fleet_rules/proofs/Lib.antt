@@ -1,2 +1,4 @@
+mod CarryExamples
+mod RulesExamples
 pub mod EntryLemmas
 pub mod TomlLemmas

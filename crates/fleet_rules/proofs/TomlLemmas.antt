@@ -1,5 +1,5 @@
 -- What a map's entries and an array's values say of the members and the items that they stand for.
-use Rattle.std.proofs.Common.{◌≡◌, ◌∙◌, ◌<◌, ℕ, ◌+◌, Bool, true, ◌&&◌, List, [], ◌∷◌, ◌++◌, map, drop, get_or, length, Result, Ok, Err, string_bytes, refl, ap, append_assoc}
+use Rattle.std.proofs.Common.{◌≡◌, ◌∙◌, ◌<◌, ℕ, ◌+◌, Bool, ◌&&◌, List, [], ◌∷◌, ◌++◌, map, drop, get_or, length, Result, Ok, Err, string_bytes, refl, ap, append_assoc}
 use Rattle.std.proofs.lemmas.List.{append-nil, drop_more}
 use Rattle.std.specs.List.{list_all}
 use Rattle.std.specs.Map.{keys_of}

@@ -41,16 +41,16 @@ entries_from section place room (table ∷ more) =
     look (entries_from section (place + 1) (room - 1) more) (λ entries.
     Ok (entry ∷ entries)))
 
--- a value that is a table, or else code 4 for the rules as a whole
-abbrev pub table_of : Data → Result Members Refusal
-table_of value = ok_or (as_table value) (refused 4 0)
+-- an element of the array as the table of an entry, or else code 4 for the rules as a whole
+abbrev pub entry_table : Data → Result Members Refusal
+entry_table value = ok_or (as_table value) (refused 4 0)
 
 -- the tables of an array of tables, and none where the key is absent; any other value is code 4
 abbrev pub tables_in : Option Data → Result (List Members) Refusal
 tables_in None = Ok []
 tables_in (Some value) =
     look (ok_or (values_of value) (refused 4 0)) (λ values.
-    look_each table_of values)
+    look_each entry_table values)
 
 -- the entries of a key, where so many entries of other keys stand before them
 abbrev pub entries_at : {A : Type 0} → Section A → ℕ → Members → Result (List A) Refusal

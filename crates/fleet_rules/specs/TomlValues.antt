@@ -1,6 +1,6 @@
 -- What a table of the rules holds at one of its keys: a number, a name, a text, a time of day, a truth value, or names.
 -- An absent key is code 15. A value of another kind has the code of one that is not good.
-use Rattle.std.specs.Prelude.{ℕ, ℤ, pos, List, [], ◌∷◌, length, Bool, true, ◌&&◌, nat_le, int_le, if◌then◌else◌, Option, Some, None, option_map, Result, Ok, Err}
+use Rattle.std.specs.Prelude.{ℕ, ℤ, pos, List, [], ◌∷◌, length, Bool, true, ◌&&◌, nat_le, int_le, Option, Some, None, option_map, Result, Ok, Err}
 use Rattle.std.specs.List.{list_any}
 use Rattle.std.specs.Option.{ok_or}
 use Rattle.std.specs.Str.{bytes_eq}
@@ -32,27 +32,27 @@ abbrev pub value_at : List ℕ → Members → Result Data ℕ
 value_at key table = ok_or (get_member key table) 15
 
 -- an integer from the least to the most, or else code 9
-abbrev pub number_of : ℤ → ℤ → Option ℤ → Result ℤ ℕ
-number_of least most (Some number) = must (int_le least number && int_le number most) 9 (Ok number)
-number_of least most None = Err 9
+abbrev pub number_within : ℤ → ℤ → Option ℤ → Result ℤ ℕ
+number_within least most (Some number) = must (int_le least number && int_le number most) 9 (Ok number)
+number_within least most None = Err 9
 
 -- a key's number from the least to the most
 abbrev pub number_at : List ℕ → ℤ → ℤ → Members → Result ℤ ℕ
 number_at key least most table =
     look (value_at key table) (λ value.
-    number_of least most (as_integer value))
+    number_within least most (as_integer value))
 
 -- an integer from 0 to the most, as a count, or else code 9
-abbrev pub count_of : ℕ → Option ℤ → Result ℕ ℕ
-count_of most (Some (pos count)) = must (nat_le count most) 9 (Ok count)
-count_of most (Some _) = Err 9
-count_of most None = Err 9
+abbrev pub count_within : ℕ → Option ℤ → Result ℕ ℕ
+count_within most (Some (pos count)) = must (nat_le count most) 9 (Ok count)
+count_within most (Some _) = Err 9
+count_within most None = Err 9
 
 -- a key's count up to the most
 abbrev pub count_at : List ℕ → ℕ → Members → Result ℕ ℕ
 count_at key most table =
     look (value_at key table) (λ value.
-    count_of most (as_integer value))
+    count_within most (as_integer value))
 
 -- a string that is a name, or else code 5
 abbrev pub name_of_value : Data → Result (List ℕ) ℕ

@@ -9,7 +9,7 @@ ghost use Rattle.tail_text.specs.Checks.{look_each};
 ghost use Rattle.tail_text.specs.Reading.{Answers, refusal_at};
 ghost use Rattle.tail_text.specs.declared.refusal.Stopped.TheVariants.{Refused};
 ghost use Rattle.table_records.specs.NoRow.{Judges};
-ghost use Rattle.fleet_rules.specs.Entries.{Section, entries_at, entries_from, entry_in, refused, table_of, tables_in};
+ghost use Rattle.fleet_rules.specs.Entries.{Section, entries_at, entries_from, entry_in, refused, entry_table, tables_in};
 ghost use Rattle.fleet_rules.specs.TomlValues.{has_only};
 
 use crate::toml_values::{value_at, values_of};
@@ -84,7 +84,7 @@ fn tables_in<'a>(alloc: Global, value: Option<&'a Value>) -> Result<Vec<&'a Tabl
 
 // These values, which have to be tables.
 fn tables_among<'a>(alloc: Global, values: &'a [Value]) -> Result<Vec<&'a Table>, Stopped>
-    ensures { Answers (λ tables. map (λ t. table_view t.now) tables.items) (look_each table_of (map view values.now)) result }
+    ensures { Answers (λ tables. map (λ t. table_view t.now) tables.items) (look_each entry_table (map view values.now)) result }
 {
     let mut tables = Vec::new(alloc);
     for value in values {
@@ -99,11 +99,7 @@ fn tables_among<'a>(alloc: Global, values: &'a [Value]) -> Result<Vec<&'a Table>
 }
 
 // The entries that these tables give, each refused at its number.
-fn entries_from<E: Entry>(
-    alloc: Global,
-    tables: &[&Table],
-    before: u64,
-) -> Result<Vec<E>, Stopped>
+fn entries_from<E: Entry>(alloc: Global, tables: &[&Table], before: u64) -> Result<Vec<E>, Stopped>
     requires few { before ≤ 1_000 }
     ensures value { Answers (λ entries. entries.items) (entries_from E.section (before + 1) E.section.limit (map (λ t. table_view t.now) tables.now)) result }
     ensures few { IfOk result (λ entries. length entries.items ≤ E.section.limit) }

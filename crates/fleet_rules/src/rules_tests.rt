@@ -1,9 +1,9 @@
 //! Tables of rules read whole: every key of every entry, the order of refusals, the limits, and a good table.
 
-use crate::{RawRules, read_rules};
+use crate::{RawCounter, RawCurfew, RawRules, read_rules};
 use std::alloc::{AllocError, Global};
 use std::test::Fail;
-use tail_book::CounterKind;
+use tail_book::{AircraftType, Airport, Band, CounterKind, Name};
 use tail_text::{Refusal, Stopped, Table};
 
 // How many entries each key has, or the code and the place of the refusal.
@@ -106,35 +106,45 @@ fn changed(
 // Each key absent, of each other kind, and beside its range or its grammar.
 #[test]
 fn each_key_is_there_and_has_its_kind(rt: HostRuntime) -> Result<(), Fail> {
-    let number = ["\"1\"", "1.0", "true", "2025-03-03", "[1]", "{ a = 1 }"];
-    let text = ["1", "1.0", "true", "2025-03-03", "[\"P\"]", "{ a = 1 }"];
-    let array = ["\"P\"", "1", "1.0", "true", "2025-03-03", "{ a = 1 }"];
-    let truth = ["\"true\"", "1", "1.0", "2025-03-03", "[true]", "{ a = 1 }"];
-    for (key, name, code, others) in [
-        ("type", "name", 5, &text),
-        ("type", "rate", 9, &number),
-        ("type", "turn", 9, &number),
-        ("airport", "name", 5, &text),
-        ("airport", "offset", 9, &number),
-        ("airport", "turn", 9, &number),
-        ("curfew", "airport", 5, &text),
-        ("curfew", "from", 6, &text),
-        ("curfew", "to", 6, &text),
-        ("curfew", "types", 4, &array),
-        ("curfew", "start", 4, &truth),
-        ("curfew", "landing", 4, &truth),
-        ("counter", "name", 5, &text),
-        ("counter", "kind", 8, &text),
-        ("counter", "limit", 9, &number),
-        ("counter", "bases", 4, &array),
-        ("counter", "stop", 9, &number),
-        ("band", "upto", 9, &number),
-        ("band", "cost", 9, &number),
+    for (key, name, kind, code) in [
+        ("type", "name", "string", 5),
+        ("type", "rate", "integer", 9),
+        ("type", "turn", "integer", 9),
+        ("airport", "name", "string", 5),
+        ("airport", "offset", "integer", 9),
+        ("airport", "turn", "integer", 9),
+        ("curfew", "airport", "string", 5),
+        ("curfew", "from", "string", 6),
+        ("curfew", "to", "string", 6),
+        ("curfew", "types", "array", 4),
+        ("curfew", "start", "boolean", 4),
+        ("curfew", "landing", "boolean", 4),
+        ("counter", "name", "string", 5),
+        ("counter", "kind", "string", 8),
+        ("counter", "limit", "integer", 9),
+        ("counter", "bases", "array", 4),
+        ("counter", "stop", "integer", 9),
+        ("band", "upto", "integer", 9),
+        ("band", "cost", "integer", 9),
     ] {
-        assert_eq!(rt; changed(rt.alloc(), key, name, "")?, Err((15, 1)), "{key} without {name}");
-        for value in others {
-            let got = changed(rt.alloc(), key, name, value)?;
-            assert_eq!(rt; got, Err((code, 1)), "{key} with {name} = {value}");
+        assert_eq!(rt;
+            changed(rt.alloc(), key, name, "")?,
+            Err((15, 1)),
+            "{key} without {name}"
+        );
+        for (other, value) in [
+            ("string", "\"P\""),
+            ("integer", "1"),
+            ("float", "1.0"),
+            ("boolean", "true"),
+            ("date", "2025-03-03"),
+            ("array", "[\"P\"]"),
+            ("table", "{ a = 1 }"),
+        ] {
+            if other != kind {
+                let got = changed(rt.alloc(), key, name, value)?;
+                assert_eq!(rt; got, Err((code, 1)), "{key} with {name} = {value}");
+            }
         }
     }
     Ok(())
@@ -214,7 +224,11 @@ fn ranges_end_where_they_say(rt: HostRuntime) -> Result<(), Fail> {
         ("band", "cost", "1000001", 9),
     ] {
         let got = changed(rt.alloc(), key, name, value)?;
-        let want = if code == 0 { Ok(one(key)) } else { Err((code, 1)) };
+        let want = if code == 0 {
+            Ok(one(key))
+        } else {
+            Err((code, 1))
+        };
         assert_eq!(rt; got, want, "{key} with {name} = {value}");
     }
     Ok(())
@@ -294,7 +308,11 @@ fn lists_of_names_have_a_limit(rt: HostRuntime) -> Result<(), Fail> {
     ] {
         let array = names_and(rt.alloc(), count, last)?;
         let got = changed(rt.alloc(), key, name, array.as_str())?;
-        let want = if code == 0 { Ok(one(key)) } else { Err((code, 1)) };
+        let want = if code == 0 {
+            Ok(one(key))
+        } else {
+            Err((code, 1))
+        };
         assert_eq!(rt; got, want, "{count} {name} and {last}");
     }
     Ok(())
@@ -340,9 +358,15 @@ fn rules_are_read_up_to_their_first_refusal(rt: HostRuntime) -> Result<(), Fail>
         ("type = []\nband = []\n", Ok([0, 0, 0, 0, 0])),
         ("[[band]]\nupto = 1\ncost = 2\n", Ok([0, 0, 0, 0, 1])),
         ("[[band]]\r\nupto = 1\r\ncost = 2\r\n", Ok([0, 0, 0, 0, 1])),
-        ("[[\"band\"]]\n\"upto\" = 1\n'cost' = 2", Ok([0, 0, 0, 0, 1])),
+        (
+            "[[\"band\"]]\n\"upto\" = 1\n'cost' = 2",
+            Ok([0, 0, 0, 0, 1]),
+        ),
         ("band = [{ upto = 1, cost = 2 }]", Ok([0, 0, 0, 0, 1])),
-        ("\u{feff}[[band]]\ncost = 2\nupto = 1\n", Ok([0, 0, 0, 0, 1])),
+        (
+            "\u{feff}[[band]]\ncost = 2\nupto = 1\n",
+            Ok([0, 0, 0, 0, 1]),
+        ),
         ("\u{feff}", Ok([0, 0, 0, 0, 0])),
         ("\u{feff}\u{feff}", Err((13, 0))),
         ("[[type", Err((13, 0))),
@@ -351,7 +375,10 @@ fn rules_are_read_up_to_their_first_refusal(rt: HostRuntime) -> Result<(), Fail>
         ("type = []\n[[type]]\n", Err((13, 0))),
         ("band = 1\n[[band]]\n", Err((13, 0))),
         ("[[band]]\nupto = 01\ncost = 2\n", Err((13, 0))),
-        ("[[band]]\nupto = 9223372036854775808\ncost = 2\n", Err((13, 0))),
+        (
+            "[[band]]\nupto = 9223372036854775808\ncost = 2\n",
+            Err((13, 0)),
+        ),
         ("speed = 1\n[[type", Err((13, 0))),
         ("speed = 1\n", Err((14, 0))),
         ("\"\" = []\n", Err((14, 0))),
@@ -369,20 +396,68 @@ fn rules_are_read_up_to_their_first_refusal(rt: HostRuntime) -> Result<(), Fail>
         ("band = [[{}]]\n", Err((4, 0))),
         ("band = [{}, {}]\n", Err((15, 1))),
         ("band = 1\nairport = [{}]\n", Err((15, 1))),
-        ("band = 1\n[[airport]]\nname = \"A\"\noffset = 0\nturn = 0\n", Err((4, 0))),
-        ("[[band]]\nupto = 1\n[[type]]\nname = \"P\"\nrate = 1\nturn = 0\n", Err((15, 2))),
-        ("[[band]]\n[[type]]\nname = \"P\"\nrate = 1\nturn = -1\n", Err((9, 1))),
-        ("[[band]]\nupto = 1\ncost = 2\n[[band]]\nupto = 1\ncost = -2\n", Err((9, 2))),
+        (
+            "band = 1\n[[airport]]\nname = \"A\"\noffset = 0\nturn = 0\n",
+            Err((4, 0)),
+        ),
+        (
+            "[[band]]\nupto = 1\n[[type]]\nname = \"P\"\nrate = 1\nturn = 0\n",
+            Err((15, 2)),
+        ),
+        (
+            "[[band]]\n[[type]]\nname = \"P\"\nrate = 1\nturn = -1\n",
+            Err((9, 1)),
+        ),
+        (
+            "[[band]]\nupto = 1\ncost = 2\n[[band]]\nupto = 1\ncost = -2\n",
+            Err((9, 2)),
+        ),
         ("[[band]]\nupto.minutes = 1\ncost = 2\n", Err((9, 1))),
         ("[[band]]\nupto = 1\n[band.cost]\n", Err((9, 1))),
-        ("[[type]]\nname = \"P\"\nrate = 1\nturn = 30\nspeed = 1\n", Err((14, 1))),
-        ("[[type]]\nname = \"P\"\nturn = 30\nspeed = 1\n", Err((14, 1))),
+        (
+            "[[type]]\nname = \"P\"\nrate = 1\nturn = 30\nspeed = 1\n",
+            Err((14, 1)),
+        ),
+        (
+            "[[type]]\nname = \"P\"\nturn = 30\nspeed = 1\n",
+            Err((14, 1)),
+        ),
         ("[[type]]\nname = \"P\"\nturn = 30\n", Err((15, 1))),
         ("[[type]]\nturn = -1\nname = \"-\"\n", Err((5, 1))),
         ("[[type]]\nturn = -1\nname = \"P\"\n", Err((15, 1))),
-        ("[[type]]\nname = \"P\"\nrate = 1\noffset = 0\n", Err((14, 1))),
+        (
+            "[[type]]\nname = \"P\"\nrate = 1\noffset = 0\n",
+            Err((14, 1)),
+        ),
     ] {
         assert_eq!(rt; read(rt.alloc(), text), want, "{text}");
+    }
+    Ok(())
+}
+
+// A key `band` with so many arrays in one another.
+fn nested(alloc: Global, deep: usize) -> Result<String, AllocError> {
+    let mut text = String::new(alloc);
+    text.push_str("band = ")?;
+    for _ in 0..deep {
+        text.push_str("[")?;
+    }
+    for _ in 0..deep {
+        text.push_str("]")?;
+    }
+    Ok(text)
+}
+
+// A text that nests deeper than TOML is read here is refused as a whole.
+#[test]
+fn texts_nest_at_most_80_deep(rt: HostRuntime) -> Result<(), Fail> {
+    for (deep, want) in [
+        (1, Ok([0, 0, 0, 0, 0])),
+        (80, Err((4, 0))),
+        (81, Err((13, 0))),
+    ] {
+        let text = nested(rt.alloc(), deep)?;
+        assert_eq!(rt; read(rt.alloc(), text.as_str()), want, "{deep}");
     }
     Ok(())
 }
@@ -457,43 +532,82 @@ fn entries_have_the_values_of_their_keys(rt: HostRuntime) -> Result<(), Fail> {
         assert!(rt; false, "refused");
         return Ok(());
     };
-    assert_eq!(rt; sizes(&rules), [1, 2, 1, 3, 2]);
-    let kind = &rules.kinds[0];
-    assert_eq!(rt; kind.name.as_bytes(), b"P".as_slice());
-    assert_eq!(rt; (kind.rate, kind.turn), (7, 30));
-    let [arn, jfk] = [&rules.airports[0], &rules.airports[1]];
-    assert_eq!(rt; arn.name.as_bytes(), b"ARN".as_slice());
-    assert_eq!(rt; jfk.name.as_bytes(), b"JFK".as_slice());
-    assert_eq!(rt; (arn.offset, arn.turn, jfk.offset, jfk.turn), (60, 20, -300, 45));
-    let curfew = &rules.curfews[0];
-    assert_eq!(rt; curfew.airport.as_bytes(), b"ARN".as_slice());
-    assert_eq!(rt; (curfew.from, curfew.to), (1380, 390));
-    assert_eq!(rt; curfew.types.len(), 1);
-    assert_eq!(rt; curfew.types[0].as_bytes(), b"P".as_slice());
-    assert_eq!(rt; (curfew.starts, curfew.landings), (false, true));
-    let [low, high] = [&rules.bands[0], &rules.bands[1]];
-    assert_eq!(rt; (low.upto, low.cost, high.upto, high.cost), (59, 0, 10_000_000, 500));
+    assert!(rt; are_types(&rules.kinds), "types");
+    assert!(rt; are_airports(&rules.airports), "airports");
+    assert!(rt; are_curfews(&rules.curfews), "curfews");
+    assert!(rt; are_counters(&rules.counters), "counters");
+    assert!(rt; are_bands(&rules.bands), "bands");
     Ok(())
 }
 
-#[test]
-fn counters_have_the_values_of_their_keys(rt: HostRuntime) -> Result<(), Fail> {
-    let Ok(rules) = read_rules(rt.alloc(), EACH_KEY.as_bytes()) else {
-        assert!(rt; false, "refused");
-        return Ok(());
-    };
-    for (i, name, kind, limit, bases, stop) in [
-        (0, b"chk".as_slice(), CounterKind::Days, 2880, 2, 480),
-        (1, b"ldg".as_slice(), CounterKind::Landings, 300, 0, 60),
-        (2, b"fh".as_slice(), CounterKind::Minutes, 6000, 1, 90),
-    ] {
-        let counter = &rules.counters[i];
-        assert_eq!(rt; counter.name.as_bytes(), name);
-        assert_eq!(rt; counter.kind, kind);
-        assert_eq!(rt; (counter.limit, counter.bases.len(), counter.stop), (limit, bases, stop));
+fn are_types(kinds: &[AircraftType]) -> bool {
+    match kinds {
+        [p] => p.name.as_bytes() == b"P".as_slice() && p.rate == 7 && p.turn == 30,
+        _ => false,
     }
-    let bases = &rules.counters[0].bases;
-    assert_eq!(rt; bases[0].as_bytes(), b"ARN".as_slice());
-    assert_eq!(rt; bases[1].as_bytes(), b"OSL".as_slice());
-    Ok(())
+}
+
+fn are_airports(airports: &[Airport]) -> bool {
+    match airports {
+        [arn, jfk] => is_airport(arn, "ARN", 60, 20) && is_airport(jfk, "JFK", -300, 45),
+        _ => false,
+    }
+}
+
+fn is_airport(airport: &Airport, name: &str, offset: i64, turn: i64) -> bool {
+    airport.name.as_bytes() == name.as_bytes() && airport.offset == offset && airport.turn == turn
+}
+
+fn are_curfews(curfews: &[RawCurfew]) -> bool {
+    match curfews {
+        [night] => {
+            night.airport.as_bytes() == b"ARN".as_slice()
+                && (night.from, night.to) == (1380, 390)
+                && are_names(&night.types, &["P"])
+                && (night.starts, night.landings) == (false, true)
+        }
+        _ => false,
+    }
+}
+
+fn are_counters(counters: &[RawCounter]) -> bool {
+    match counters {
+        [chk, ldg, fh] => {
+            is_counter(chk, "chk", CounterKind::Days, 2880, 480)
+                && are_names(&chk.bases, &["ARN", "OSL"])
+                && is_counter(ldg, "ldg", CounterKind::Landings, 300, 60)
+                && are_names(&ldg.bases, &[])
+                && is_counter(fh, "fh", CounterKind::Minutes, 6000, 90)
+                && are_names(&fh.bases, &["OSL"])
+        }
+        _ => false,
+    }
+}
+
+fn is_counter(counter: &RawCounter, name: &str, kind: CounterKind, limit: i64, stop: i64) -> bool {
+    counter.name.as_bytes() == name.as_bytes()
+        && counter.kind == kind
+        && counter.limit == limit
+        && counter.stop == stop
+}
+
+fn are_bands(bands: &[Band]) -> bool {
+    match bands {
+        [low, high] => {
+            (low.upto, low.cost) == (59, 0) && (high.upto, high.cost) == (10_000_000, 500)
+        }
+        _ => false,
+    }
+}
+
+fn are_names(names: &[Name], texts: &[&str]) -> bool {
+    if names.len() != texts.len() {
+        return false;
+    }
+    for i in 0..names.len() {
+        if names[i].as_bytes() != texts[i].as_bytes() {
+            return false;
+        }
+    }
+    true
 }

@@ -14,7 +14,7 @@ ghost use Rattle.table_records.specs.NameLists.{AreNames};
 ghost use Rattle.table_records.specs.NoRow.{Judges};
 ghost use Rattle.toml.specs.Data.{get_member};
 ghost use Rattle.std.specs.Option.{ok_or};
-ghost use Rattle.fleet_rules.specs.TomlValues.{count_at, count_of, has_only, name_at, name_of_value, names_at, number_at, number_of, time_at, truth_at, value_at, values_of};
+ghost use Rattle.fleet_rules.specs.TomlValues.{count_at, count_within, has_only, name_at, name_of_value, names_at, number_at, number_within, time_at, truth_at, value_at, values_of};
 
 use std::alloc::Global;
 use table_records::{NoRow, name_in};
@@ -70,11 +70,11 @@ pub(crate) fn number_at(table: &Table, key: &str, least: i64, most: i64) -> Resu
     let Some(value) = value_at(table, key) else {
         return Err(15);
     };
-    number_of(value.as_integer(), least, most)
+    number_within(value.as_integer(), least, most)
 }
 
-fn number_of(number: Option<i64>, least: i64, most: i64) -> Result<i64, u8>
-    ensures value { result ≡ number_of least most number }
+fn number_within(number: Option<i64>, least: i64, most: i64) -> Result<i64, u8>
+    ensures value { result ≡ number_within least most number }
     ensures range { IfOk result (IsWithin least most) }
 {
     match number {
@@ -91,11 +91,11 @@ pub(crate) fn count_at(table: &Table, key: &str, most: u64) -> Result<u64, u8>
     let Some(value) = value_at(table, key) else {
         return Err(15);
     };
-    count_of(value.as_integer(), most)
+    count_within(value.as_integer(), most)
 }
 
-fn count_of(number: Option<i64>, most: u64) -> Result<u64, u8>
-    ensures value { result ≡ count_of most number }
+fn count_within(number: Option<i64>, most: u64) -> Result<u64, u8>
+    ensures value { result ≡ count_within most number }
     ensures range { IfOk result (λ count. count ≤ most) }
 {
     match number {

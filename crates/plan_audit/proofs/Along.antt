@@ -20,7 +20,7 @@ use Rattle.plan_audit.specs.declared.met.Met.{Met}
 use Rattle.plan_audit.specs.declared.met.Met.TheVariants.{Unknown, Twice, Tail, Activity}
 use Rattle.plan_audit.specs.Met.{IsMetOf, tails_met, activities_met, names_met}
 use Rattle.plan_audit.specs.Kept.{next_route, route_met, kept, legs_from, legs_met, IsLegOf}
-use Rattle.plan_audit.specs.LegCost.{leg_cost, legs_cost}
+use Rattle.plan_audit.specs.LegCost.{legs_cost}
 use Rattle.plan_audit.proofs.WellMet.{IsWellMet, names_well_met}
 
 legs-of_book : (book : BookSeen) (k : ℕ) (x : Place) (met : List Met) → All (IsMetOf book) met → k < aircraft book → IsPlaceOf book x → All (IsLegOf book) (legs_from k x met)
@@ -73,16 +73,16 @@ put f g j v none here others s (suc n) =
           omega (arith, gs, fs, same, head)),
       (λ least most. elim (cases_Bool (nat_eq s j)) [
         | inl t ↦ (
-          let e : s ≡ j = grind (arith, nat_tests) in
-          let same = rest.0 (omega (arith, e)) in
-          let head : g s ≡ v = ap g e ∙ here in
-          let zero_there : f s ≡ 0 = ap f e ∙ none in
-          omega (arith, gs, fs, same, head, zero_there))
+            let e : s ≡ j = grind (arith, nat_tests) in
+            let same = rest.0 (omega (arith, e)) in
+            let head : g s ≡ v = ap g e ∙ here in
+            let zero_there : f s ≡ 0 = ap f e ∙ none in
+            omega (arith, gs, fs, same, head, zero_there))
         | inr t ↦ (
-          let e : s ≢ j = grind (arith, nat_tests) in
-          let more = rest.1 (omega (arith, e, least)) (omega (arith, most)) in
-          let head = others s e in
-          omega (arith, gs, fs, more, head))
+            let e : s ≢ j = grind (arith, nat_tests) in
+            let more = rest.1 (omega (arith, e, least)) (omega (arith, most)) in
+            let head = others s e in
+            omega (arith, gs, fs, more, head))
       ]),
     )
 
@@ -97,7 +97,7 @@ no_route (Tail j ∷ met) k h = by (nat_eq k j) (contains (tails_met met) k) h (
     by false b e rest = rest e
 no_route (Activity a ∷ met) k h = no_route met k h
 
-differs : (k : ℕ) (ks : List ℕ) → IsDistinct nat_eq (k ∷ ks) → contains ks k ≡ false
+pub differs : (k : ℕ) (ks : List ℕ) → IsDistinct nat_eq (k ∷ ks) → contains ks k ≡ false
 differs k ks h = none ks (IsDistinct-head nat_eq k ks h)
   where
     none : (ks : List ℕ) → AllByRecursion (λ y. nat_eq k y ≡ false) ks → contains ks k ≡ false
@@ -131,7 +131,7 @@ module _ (h : ℕ → Place → ℕ → ℕ) (m : ℕ) where
       omega (arith, rest, first)
 
 -- the aircraft met are of the book
-tails_within : (book : BookSeen) (met : List Met) → All (IsMetOf book) met → AllByRecursion (λ j. j < aircraft book) (tails_met met)
+pub tails_within : (book : BookSeen) (met : List Met) → All (IsMetOf book) met → AllByRecursion (λ j. j < aircraft book) (tails_met met)
 tails_within book [] all = tt
 tails_within book (Unknown name ∷ met) all = tails_within book met (All-tail (IsMetOf book) (Unknown name) met all)
 tails_within book (Twice name ∷ met) all = tails_within book met (All-tail (IsMetOf book) (Twice name) met all)
@@ -196,7 +196,7 @@ kept_times book raw a =
     ∙ along-kept (λ k x b. cond (nat_eq a b) 1 0) book (names_met book raw) (names_well_met book raw)
     ∙ met-along a 0 Carry (names_met book raw)
 
-count_none : (a : ℕ) (xs : List ℕ) → contains xs a ≡ false → count_by (nat_eq a) xs ≡ 0
+pub count_none : (a : ℕ) (xs : List ℕ) → contains xs a ≡ false → count_by (nat_eq a) xs ≡ 0
 count_none a [] h = refl
 count_none a (x ∷ xs) h = by (nat_eq a x) (contains xs a) h (count_none a xs) (sum_by-cons (λ y. cond (nat_eq a y) 1 0) x xs)
   where

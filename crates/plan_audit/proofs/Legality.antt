@@ -1,18 +1,18 @@
 -- Where no leg breaks a rule, each kept route is legal, and where each kept route is legal, no leg breaks a rule. Both go
 -- along the names that are met, with the place and the counters before each leg.
-use Rattle.std.proofs.Common.{◌≡◌, ◌∙◌, sym, refl, ap, ap₂, arith, subst, true≢false, ℕ, zero, suc, ◌+◌, ◌<◌, ℤ, pos, Bool, true, false, ◌&&◌, ◌+ℤ◌, cond, if◌then◌else◌, nat_eq, nat_lt, List, [], ◌∷◌, ◌++◌, map, length, All}
+use Rattle.std.proofs.Common.{◌≡◌, sym, refl, arith, subst, ℕ, ◌+◌, ◌<◌, ℤ, Bool, true, false, ◌&&◌, ◌+ℤ◌, cond, if◌then◌else◌, nat_eq, nat_lt, List, [], ◌∷◌, ◌++◌, map, length, All}
 use Rattle.std.specs.Prelude.{not}
 use Rattle.std.specs.List.{filter, list_all}
 use Rattle.std.proofs.lemmas.Bool.Decides.{nat_tests, Decides-ltb}
 use Rattle.std.proofs.lemmas.List.Elements.{All-head, All-tail}
-use Rattle.tail_book.specs.Seen.{BookSeen, RawPlanSeen, CounterSeen}
+use Rattle.tail_book.specs.Seen.{BookSeen, CounterSeen}
 use Rattle.tail_book.specs.Numbers.{contains, int_le, is_none_or}
-use Rattle.tail_book.specs.Lookup.{activities, aircraft, carry_of, from_port, to_port, start_of, types_of, tags_needed, preassigned, kind_of, tags_had, avoided}
+use Rattle.tail_book.specs.Lookup.{activities, aircraft, from_port, to_port, start_of, types_of, tags_needed, preassigned, kind_of, tags_had, avoided}
 use Rattle.tail_book.specs.declared.place.Place.{Place}
 use Rattle.tail_book.specs.declared.place.Place.TheVariants.{Carry, After}
 use Rattle.tail_book.specs.Curfew.{covers_type, is_curfewed}
 use Rattle.tail_book.specs.Link.{port, free_from, turn_time}
-use Rattle.tail_book.specs.Counters.{step_one, step_from, step}
+use Rattle.tail_book.specs.Counters.{step_from}
 use Rattle.tail_book.specs.Sound.{IsBook}
 use Rattle.tail_book.specs.Tests.{is_allowed, is_allowed_at, is_link, within_limits, is_legal_from, is_legal_route}
 use Rattle.plan_audit.specs.declared.leg.Leg.{Leg}
@@ -143,7 +143,7 @@ module _ (book : BookSeen) (sound : IsBook book) where
       (first_empty (past_limits_at leg 0 book.rules.counters after) (past_limits book after legs) h.limits) in
       let rest = routes_legal k (After b) after met (All-tail (IsMetOf book) (Activity b) met all) allowed wide (later values leg legs h) in (
         both (nat_lt b (activities book)) _ ((Decides-ltb b (activities book)).1 within)
-        (both (is_link book k x b) _ linked (both (within_limits book.rules.counters after) _ limits rest.0)),
+            (both (is_link book k x b) _ linked (both (within_limits book.rules.counters after) _ limits rest.0)),
         rest.1,
       )
 

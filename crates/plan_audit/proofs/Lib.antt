@@ -6,3 +6,6 @@ mod WellMet
 mod Along
 mod Legality
 mod Unbroken
+mod Deciding
+mod Converse
+mod Listed

@@ -1,6 +1,5 @@
 -- Marks of the numbers met.
-use Rattle.std.proofs.Common.{◌≡◌, ◌≢◌, ◌∙◌, sym, refl, ap, arith, ℕ, ◌+◌, ◌<◌, inl, inr, Bool, true, false, ◌||◌, nat_eq, List, [], ◌∷◌, ◌++◌, length, map, set, get_or, append_assoc}
-use Rattle.std.specs.List.{list_any}
+use Rattle.std.proofs.Common.{◌≡◌, ◌≢◌, ◌∙◌, sym, ap, arith, ℕ, ◌+◌, ◌<◌, inl, inr, Bool, true, false, ◌||◌, nat_eq, List, [], ◌∷◌, ◌++◌, length, map, set, append_assoc}
 use Rattle.std.proofs.lemmas.Bool.{cases_Bool}
 use Rattle.std.proofs.lemmas.Bool.Decides.{nat_tests}
 use Rattle.std.proofs.lemmas.List.{get_or-set_same, get_or-set_other, length-set, map-id, map-append}
@@ -42,4 +41,4 @@ uncovered-next p old list now a flown here so_far e =
     e ∙ ap (λ xs. xs ++ map rule.Uncovered (filter (λ b. not flown) (a ∷ []))) so_far
     ∙ append_assoc old (map rule.Uncovered (filter p (range_with_len 0 a))) (map rule.Uncovered (filter (λ b. not flown) (a ∷ [])))
     ∙ ap (λ xs. old ++ xs) (sym (ap (map rule.Uncovered) (all ∙ ap (λ ys. filter p (range_with_len 0 a) ++ ys) last)
-        ∙ map-append rule.Uncovered (filter p (range_with_len 0 a)) (filter (λ b. not flown) (a ∷ []))))
+    ∙ map-append rule.Uncovered (filter p (range_with_len 0 a)) (filter (λ b. not flown) (a ∷ []))))

@@ -1,8 +1,7 @@
 -- The marks behind one name more, and the turns of the loops over names.
-use Rattle.std.proofs.Common.{◌≡◌, ◌∙◌, sym, refl, ap, arith, ℕ, ◌+◌, ◌<◌, ◌≤◌, Bool, true, List, [], ◌∷◌, ◌++◌, length, set, get_or, drop, subst}
-use Rattle.std.proofs.lemmas.List.{drop_all, drop_more, length-set, append-nil}
+use Rattle.std.proofs.Common.{◌≡◌, ◌∙◌, refl, ap, ℕ, ◌+◌, ◌<◌, ◌≤◌, Bool, true, List, [], ◌∷◌, ◌++◌, length, set, get_or, drop}
+use Rattle.std.proofs.lemmas.List.{drop_all, drop_more, append-nil}
 use Rattle.tail_book.specs.Seen.{BookSeen, RawLineSeen}
-use Rattle.tail_book.specs.Lookup.{activities, aircraft}
 use Rattle.plan_audit.specs.declared.met.Met.{Met}
 use Rattle.plan_audit.specs.declared.met.Met.TheVariants.{Unknown, Twice, Tail, Activity}
 use Rattle.plan_audit.specs.Met.{IsDropped, tails_met, activities_met, with_ids, with_line, with_lines, as_activity, activity_named}

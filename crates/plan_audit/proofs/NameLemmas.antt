@@ -1,10 +1,9 @@
 -- An index of names that differ: each name is new when it comes, so the index is the list itself.
-use Rattle.std.proofs.Common.{◌≡◌, ◌≢◌, ◌∙◌, sym, refl, ap, ap₂, arith, ℕ, ◌+◌, ◌<◌, ◌≤◌, Bool, true, false, ◌||◌, List, [], ◌∷◌, ◌++◌, map, length, get_or, take, All, AllPairs}
+use Rattle.std.proofs.Common.{◌≡◌, ◌≢◌, ◌∙◌, sym, refl, ap, ap₂, arith, ℕ, ◌+◌, ◌<◌, Bool, true, false, ◌||◌, List, [], ◌∷◌, ◌++◌, map, length, get_or, take, All, AllPairs}
 use Rattle.std.specs.List.{list_any}
 use Rattle.std.specs.Str.{bytes_eq}
 use Rattle.std.specs.Bool.{Decides}
-use Rattle.std.proofs.lemmas.Bool.{both_ways}
-use Rattle.std.proofs.lemmas.List.{take_more, get_or-take, get_or_default, length-take-le, map-append}
+use Rattle.std.proofs.lemmas.List.{take_more, get_or-take, length-take-le, map-append}
 use Rattle.std.proofs.lemmas.List.Elements.{All-head, All-tail, All-from_get_or}
 use Rattle.std.proofs.lemmas.Slice.Eq.{bytes_eq-Decides}
 use Rattle.indexmap.specs.IndexSet.{insert_key}
@@ -29,8 +28,8 @@ pub key-new : {A : Type 0} (f : A → List ℕ) (xs : List A) (i : ℕ) (x : A) 
 key-new {A} f xs i x name keys now within here differ named so_far e =
     let before : All (λ y. f y ≢ f x) (take i xs) =
     All-from_get_or (λ y. f y ≢ f x) (take i xs) x (λ k lt same.
-        let below : k < i = omega (arith, length-take-le i xs (omega arith), lt) in
-        differ k i x below within (ap f (sym (get_or-take i xs k x below)) ∙ same ∙ ap f here)) in
+    let below : k < i = omega (arith, length-take-le i xs (omega arith), lt) in
+    differ k i x below within (ap f (sym (get_or-take i xs k x below)) ∙ same ∙ ap f here)) in
     let new = not_among f (f x) (take i xs) before in
     let last : take (i + 1) xs ≡ take i xs ++ x ∷ [] = take_more xs i x within ∙ ap (λ y. take i xs ++ y ∷ []) (sym here) in
     let added : insert_key bytes_eq (map f (take i xs)) (f x) ≡ map f (take i xs) ++ f x ∷ [] = rw new refl in

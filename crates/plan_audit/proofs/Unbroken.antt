@@ -1,5 +1,5 @@
 -- Where no rule is broken, the kept plan is legal: each route is, and each activity is met, and so flown, exactly once.
-use Rattle.std.proofs.Common.{◌≡◌, ◌≢◌, ◌∙◌, sym, refl, ap, arith, ℕ, zero, suc, ◌+◌, ◌<◌, ◌≤◌, inl, inr, Bool, true, false, ◌&&◌, cond, List, [], ◌∷◌, ◌++◌, map, length, get_or, replicate, pos}
+use Rattle.std.proofs.Common.{◌≡◌, ◌≢◌, ◌∙◌, sym, refl, ap, arith, ℕ, zero, suc, ◌+◌, ◌<◌, ◌≤◌, inl, inr, Bool, true, false, List, [], ◌++◌, map, length, replicate, pos}
 use Rattle.std.specs.Prelude.{not, ◌==◌}
 use Rattle.std.specs.List.{filter, range_with_len}
 use Rattle.std.proofs.lemmas.Bool.{cases_Bool, eq-eqb}
@@ -9,7 +9,7 @@ use Rattle.tail_book.specs.Seen.{BookSeen, RawPlanSeen}
 use Rattle.tail_book.specs.Numbers.{contains}
 use Rattle.tail_book.specs.Lookup.{activities, aircraft}
 use Rattle.tail_book.specs.declared.place.Place.TheVariants.{Carry}
-use Rattle.tail_book.specs.Plan.{times_flown, route_of, IsLegalPlan}
+use Rattle.tail_book.specs.Plan.{times_flown, route_of}
 use Rattle.tail_book.specs.Sound.{IsBook}
 use Rattle.tail_book.specs.Tests.{is_legal_route, are_legal_below, are_flown_once_below, is_legal_plan, LegalPlanDecides}
 use Rattle.tail_book.specs.Truth.{IsPlanOf}
@@ -21,7 +21,7 @@ use Rattle.plan_audit.specs.Kept.{route_met, kept, legs_met}
 use Rattle.plan_audit.specs.LegCost.{legs_cost}
 use Rattle.plan_audit.specs.Rules.{unknown, twice, uncovered, not_allowed, curfews, no_links, past_limits}
 use Rattle.plan_audit.specs.Broken.{broken, broken_by}
-use Rattle.plan_audit.proofs.WellMet.{IsWellMet, names_well_met}
+use Rattle.plan_audit.proofs.WellMet.{names_well_met}
 use Rattle.plan_audit.proofs.Along.{kept_cost, kept_times, count_one}
 use Rattle.plan_audit.proofs.Legality.{both, negated, none_first, none_later, first_empty, second_empty, IsUnbroken, routes_legal_first}
 
@@ -64,8 +64,8 @@ none_passes f p s zero e a least most = absurd (omega (arith, least, most))
 none_passes f p s (suc n) e a least most = elim (cases_Bool (s == a)) [
   | inl t ↦ (let same : s ≡ a = grind (arith, nat_tests) in ap p (sym same) ∙ none_first f p s (range_with_len (s + 1) n) e)
   | inr t ↦ (
-    let other : s ≢ a = grind (arith, nat_tests) in
-    none_passes f p (s + 1) n (none_later f p s (range_with_len (s + 1) n) e) a (omega (arith, other, least)) (omega (arith, most)))
+      let other : s ≢ a = grind (arith, nat_tests) in
+      none_passes f p (s + 1) n (none_later f p s (range_with_len (s + 1) n) e) a (omega (arith, other, least)) (omega (arith, most)))
 ]
 
 all_below : (book : BookSeen) (plan : List (List ℕ)) (m : ℕ) → ((k : ℕ) → k < m → is_legal_route book k (route_of plan k) ≡ true) → are_legal_below book plan m ≡ true

@@ -1,7 +1,7 @@
 -- What holds of the names of a plan as they are met: their numbers are of the book, no aircraft and no activity is met
 -- twice, and no activity is met before the first aircraft. Each name keeps these, the first by how numbers are found and
 -- the second by how a name is met.
-use Rattle.std.proofs.Common.{◌≡◌, ◌∙◌, sym, refl, ap, arith, true≢false, ℕ, ◌+◌, ◌<◌, Bool, true, false, cond, if◌then◌else◌, nat_lt, List, [], ◌∷◌, ◌++◌, map, length, length-append, Option, Some, None, position, All}
+use Rattle.std.proofs.Common.{◌≡◌, ◌∙◌, refl, ap, arith, ℕ, ◌<◌, Bool, true, false, cond, if◌then◌else◌, nat_lt, List, [], ◌∷◌, ◌++◌, length, Option, Some, None, position, All}
 use Rattle.std.specs.Prelude.{⊤, nat_eq}
 use Rattle.std.specs.List.{IsDistinct, position_or_len}
 use Rattle.std.specs.Str.{bytes_eq}

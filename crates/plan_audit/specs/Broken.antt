@@ -1,5 +1,5 @@
 -- The rules that a plan breaks, in their order, and what an audit tells of them.
-use Rattle.std.specs.Prelude.{◌≡◌, ◌≢◌, ℕ, List, [], ◌++◌, replicate, length, pos}
+use Rattle.std.specs.Prelude.{◌≡◌, ◌≢◌, List, [], ◌++◌, replicate, length, pos}
 use Rattle.tail_book.specs.Seen.{BookSeen, RawPlanSeen}
 use Rattle.tail_book.specs.Truth.{IsPlanOf}
 use Rattle.plan_audit.specs.declared.broken.Broken.{Broken}

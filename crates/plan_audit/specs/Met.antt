@@ -50,7 +50,7 @@ unfoldable pub with_ids : BookSeen → List Met → List (List ℕ) → List Met
 with_ids book met [] = met
 with_ids book met (id ∷ ids) = with_ids book (met ++ as_activity met id (activity_named book id) ∷ []) ids
 
--- the names that were met, and behind them an aircraft, with its ids only where it is met for the first time
+-- the names that were met, and behind them an aircraft, with its ids only where it is met for the first time (as an activity no aircraft is met)
 abbrev pub with_tail : BookSeen → List Met → Met → List (List ℕ) → List Met
 with_tail book met (Unknown name) ids = met ++ Unknown name ∷ []
 with_tail book met (Twice name) ids = met ++ Twice name ∷ []

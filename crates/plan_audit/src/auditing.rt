@@ -3,22 +3,29 @@
 //! The names are read once, and then each rule is looked at along the legs, so the work grows with the plan's length.
 
 ghost use Rattle.std.specs.Prelude.{◌≡◌, IfOk, All};
+ghost use Rattle.tail_book.specs.Plan.{IsLegalPlan};
+ghost use Rattle.tail_book.specs.CostTable.{IsCostTable, IsTableFor, plan_cost_in};
+ghost use Rattle.plan_audit.specs.PlanCost.{IsPlanCost};
 ghost use Rattle.plan_audit.specs.Reading.{IsReadingOf};
 ghost use Rattle.plan_audit.specs.Kept.{legs_met, IsLegOf};
 ghost use Rattle.plan_audit.specs.Broken.{broken_by, IsAuditOf};
 
 use crate::broken::{Audit, Broken};
 use crate::costs::legs_cost;
-use crate::laws::{legs_are_of_book, unbroken_plans_are_legal};
+use crate::laws::{legal_plans_fly_the_book, legs_are_of_book, unbroken_plans_are_legal};
 use crate::leg::{Leg, legs_in};
+use crate::legal_plan::is_legal;
 use crate::no_links::add_no_links;
 use crate::not_allowed::{add_curfews, add_not_allowed};
 use crate::past_limits::add_past_limits;
 use crate::reading::{Reading, read_plan};
+use crate::table_costs::plan_cost;
 use crate::uncovered::{add_twice, add_uncovered, add_unknown};
 use std::alloc::Global;
-use tail_book::laws::{every_book_is_sound, legal_plans_cost_at_most};
-use tail_book::{Book, Memory, RawPlan};
+use tail_book::laws::{
+    every_book_is_sound, legal_plan_decides, legal_plans_cost_at_most, legal_plans_cost_at_most_in,
+};
+use tail_book::{Book, CostTable, Memory, Plan, RawPlan};
 
 /// The rules that a plan breaks.
 fn broken_rules(
@@ -59,4 +66,42 @@ pub fn audit(alloc: Global, book: &Book, raw: &RawPlan) -> Result<Audit, Memory>
         return Ok(Audit::Legal(legs_cost(book, &legs)));
     }
     Ok(Audit::Broken(list))
+}
+
+/// Every table keeps its maxima.
+fn table_is_sound(table: &CostTable)
+    ensures { IsCostTable table.now }
+{
+    // A look at a field brings out what every table keeps.
+    let _ = &table.n;
+}
+
+/// What a legal plan costs in a table.
+fn legal_cost(book: &Book, table: &CostTable, plan: &Plan) -> u64
+    requires table { IsTableFor book.now table.now }
+    requires legal { IsLegalPlan book.now plan.now }
+    ensures { result ≡ plan_cost_in table.now book.now plan.now }
+{
+    every_book_is_sound(book);
+    table_is_sound(table);
+    legal_plans_fly_the_book();
+    legal_plans_cost_at_most_in();
+    plan_cost(book, table, &plan.0)
+}
+
+/// What a plan costs in a table, and nothing exactly where it isn't legal.
+pub fn audit_plan(
+    alloc: Global,
+    book: &Book,
+    table: &CostTable,
+    plan: &Plan,
+) -> Result<Option<u64>, Memory>
+    requires { IsTableFor book.now table.now }
+    ensures { IfOk result (IsPlanCost book.now table.now plan.now) }
+{
+    legal_plan_decides();
+    if is_legal(alloc, book, plan)? {
+        return Ok(Some(legal_cost(book, table, plan)));
+    }
+    Ok(None)
 }

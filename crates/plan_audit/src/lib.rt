@@ -6,13 +6,18 @@ mod broken;
 mod costs;
 pub mod laws;
 mod leg;
+mod legal_plan;
 mod met;
 mod names;
 mod no_links;
 mod not_allowed;
-mod reading;
 mod past_limits;
+mod reading;
+mod table_costs;
 mod uncovered;
 
-pub use auditing::audit;
+pub use auditing::{audit, audit_plan};
 pub use broken::{Audit, Broken};
+
+#[cfg(test)]
+mod tests;

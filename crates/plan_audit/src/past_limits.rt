@@ -57,14 +57,7 @@ fn value_after(book: &Book, leg: Leg, c: u32, counter: &Counter, value: i128) ->
     ensures far { (legs : ℕ) → IsWithinLegs legs value → IsWithinLegs (legs + 1) result }
 {
     let clears = cleared(book, leg.tail, leg.from, leg.activity, counter);
-    let added = amount(
-        book,
-        leg.tail,
-        leg.from,
-        leg.activity,
-        clears,
-        counter.kind,
-    );
+    let added = amount(book, leg.tail, leg.from, leg.activity, clears, counter.kind);
     if resets(book, leg.activity, c) {
         return 0;
     }
@@ -130,12 +123,7 @@ fn add_past_limits_at(
 }
 
 /// Counts a leg, and adds the counters that are past their limits after it.
-fn add_leg(
-    book: &Book,
-    leg: Leg,
-    values: &mut [i128],
-    list: &mut Vec<Broken>,
-) -> Result<(), Memory>
+fn add_leg(book: &Book, leg: Leg, values: &mut [i128], list: &mut Vec<Broken>) -> Result<(), Memory>
     requires leg { IsLegOf book.now leg }
     requires width { length values.old ≡ length book.now.rules.counters }
     requires range { All (IsWithinLegs (2 ^ 64)) values.old }

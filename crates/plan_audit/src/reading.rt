@@ -154,7 +154,7 @@ fn read_line(names: &Names, line: &RawLine, reading: &mut Reading) -> Result<(),
             add_tail(names.book, k, reading)?;
             read_ids(names, &line.ids, reading)
         }
-        met => add_dropped(names.book, met, reading),
+        dropped => add_dropped(names.book, dropped, reading),
     }
 }
 

@@ -220,14 +220,7 @@ fn assign_to(
 
 // Tries all assignments of the activities from number `a` on.
 #[cycle(assign)]
-fn assign_from(
-    book: &Book,
-    tables: &Tables,
-    trial: &mut Trial,
-    best: &mut Best,
-    a: u32,
-    cost: u64,
-)
+fn assign_from(book: &Book, tables: &Tables, trial: &mut Trial, best: &mut Best, a: u32, cost: u64)
     requires tables { AreTablesOf book.now tables.now }
     requires activity { a ≤ activities book.now }
     requires trial { IsTrial book.now a trial.old }

@@ -7,3 +7,6 @@ mod permissions;
 mod tables;
 
 pub use enumerate::least_plan;
+
+#[cfg(test)]
+mod tests;

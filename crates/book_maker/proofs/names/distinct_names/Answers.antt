@@ -1,6 +1,6 @@
-use Rattle.std.proofs.Common.{◌∙◌, ap, drop, ◌+◌, sym}
+use Rattle.std.proofs.Common.{◌∙◌, ap, arith, drop, length, ◌+◌, sym}
 use Rattle.book_maker.specs.Names.{distinct_from}
-use Rattle.book_maker.proofs.NameTurns.{distinct-end, distinct-next}
+use Rattle.book_maker.proofs.NameTurns.{distinct-end, distinct-next, distinct_names-few}
 use Rattle.book_maker.proofs.names.distinct_names.Goals as goal
 
 -- the name goes into the set, unless it is there
@@ -10,5 +10,10 @@ loop-name-preserved c =
     ∙ ap (λ keys. distinct_from keys (drop (c.loop-name.name-index + 1) c.args.names.now)) (sym c.in_ok-insert_full.ensures.keys)
 
 -- behind the last name the set is whole
-pub returns : goal.returns
-returns c = sym (c.loop-name.invariant ∙ distinct-end _ _ _ c.loop-name-test.false)
+pub returns-clause-distinct : goal.returns-clause-distinct
+returns-clause-distinct c = sym (c.loop-name.invariant ∙ distinct-end _ _ _ c.loop-name-test.false)
+
+pub returns-clause-few : goal.returns-clause-few
+returns-clause-few c =
+    let all = c.loop-name.invariant ∙ distinct-end _ _ _ c.loop-name-test.false in
+    omega (arith, ap length (sym all), distinct_names-few c.args.names.now)

@@ -11,4 +11,4 @@ invariant-loop-table g l = (length l.entries.items ≤ g.E.Entry.section.limit)
     × All g.E.Entry.sound l.entries.items
     × (entries_from g.E.Entry.section (l.before + 1) g.E.Entry.section.limit (map (λ t. table_view t.now) l.tables)
     ≡ joined l.entries.items (entries_from g.E.Entry.section (l.before + 1 + length l.entries.items)
-      (g.E.Entry.section.limit - length l.entries.items) (map (λ t. table_view t.now) (drop l.table-index l.tables))))
+    (g.E.Entry.section.limit - length l.entries.items) (map (λ t. table_view t.now) (drop l.table-index l.tables))))

@@ -1,4 +1,4 @@
-use Rattle.std.proofs.Common.{◌≡◌, ◌∙◌, sym, ap, arith, rules, [], length}
+use Rattle.std.proofs.Common.{◌≡◌, ◌∙◌, sym, ap, arith, rules, []}
 use Rattle.std.proofs.lemmas.Grind.{common_steps}
 use Rattle.plan_audit.specs.Met.{names_met}
 use Rattle.plan_audit.specs.Kept.{legs_met}

@@ -1,8 +1,7 @@
-use Rattle.std.proofs.Common.{rules, subst, ◌+◌, ◌^◌, ◌≡◌, ◌≢◌, ◌<◌, ◌≤◌, pos, ◌∙◌, sym, ap, arith, to_z, of_z, length, get_or, take, get_or-set_other, All}
-use Rattle.std.proofs.lemmas.Int.{ints, to_z-of_z}
-use Rattle.std.proofs.lemmas.List.{take_all, take_more_set, length-set}
+use Rattle.std.proofs.Common.{rules, subst, ◌+◌, ◌^◌, ◌≡◌, ◌≢◌, ◌<◌, ◌≤◌, pos, ◌∙◌, sym, ap, arith, to_z, of_z, length, get_or, take, get_or-set_other}
+use Rattle.std.proofs.lemmas.Int.{to_z-of_z}
+use Rattle.std.proofs.lemmas.List.{take_all, take_more_set}
 use Rattle.std.proofs.lemmas.List.Elements.{All-same, All-push}
-use Rattle.std.specs.Prelude.{FitsSigned}
 use mir.Syntax.{w128}
 use Rattle.tail_book.specs.Lookup.{carry_of}
 use Rattle.tail_book.specs.Counters.{step_one}

@@ -1,4 +1,4 @@
-use Rattle.std.proofs.Common.{◌≡◌, ◌∷◌, [], arith, refl, rules, length, length-set}
+use Rattle.std.proofs.Common.{◌≡◌, ◌∷◌, [], arith, refl, rules}
 use Rattle.plan_audit.specs.declared.met.Met.TheVariants.{Activity}
 use Rattle.plan_audit.specs.Met.{tails_met}
 use Rattle.plan_audit.proofs.MetLemmas.{activities-more, tails-same}

@@ -1,4 +1,4 @@
-use Rattle.std.proofs.Common.{◌∙◌, ℕ, ◌+◌, ap, ap₂, arith, length, refl}
+use Rattle.std.proofs.Common.{◌∙◌, ap, arith, length, refl}
 use Rattle.plan_enumeration.proofs.Trials.{advances, place_is_before, place_of_book, returned}
 use Rattle.plan_enumeration.proofs.enumerate.go_on.Goals as goal
 

@@ -1,0 +1,10 @@
+use Rattle.std.proofs.Common.{◌≡◌, ◌+◌, ◌*◌, ◌≤◌, ◌++◌, length, map, take}
+use Rattle.book_maker.specs.Made.{joined}
+use Rattle.book_maker.proofs.tags.add_activity_tags.Given as goal
+
+-- the tags of the rows so far stand behind those that were there
+abbrev pub invariant-loop-i : goal.invariant-loop-i
+invariant-loop-i l = record {
+  tags : l.names.items ≡ l.fn.names.items ++ joined (map (λ row. row.tags) (take l.i l.activities));
+  few : length l.names.items ≤ length l.fn.names.items + 20 * l.i;
+}

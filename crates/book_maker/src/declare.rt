@@ -1,0 +1,120 @@
+//! The entries of each table in their order, whose names become known one kind after the other.
+
+ghost use Rattle.std.specs.Prelude.{◌≡◌, ◌+◌, ◌≤◌, ◌<◌, ◌^◌, length, map, All, None, Ok, Some, OnOk};
+ghost use Rattle.tail_text.specs.Reading.{Answers};
+ghost use Rattle.tail_text.specs.declared.refusal.Table.TheVariants.{Fleet, Rules as RulesTable, Timetable};
+ghost use Rattle.timetable_reader.specs.Activity.{IsRawActivity};
+ghost use Rattle.timetable_reader.specs.declared.timetable.TheConstants.{ACTIVITY_LIMIT};
+ghost use Rattle.fleet_rules.specs.Tail.{IsRawTail};
+ghost use Rattle.fleet_rules.specs.declared.fleet.TheConstants.{TAIL_LIMIT};
+ghost use Rattle.book_maker.specs.Known.{with_airports, with_counters, with_kinds, with_tails};
+ghost use Rattle.book_maker.specs.Entries.{entries_in};
+ghost use Rattle.book_maker.specs.RulesFound.{counter_in, curfew_in};
+ghost use Rattle.book_maker.specs.TailFound.{tail_in};
+ghost use Rattle.book_maker.specs.ActivityFound.{activity_in};
+
+use crate::entries::look_up;
+use crate::known::Known;
+use fleet_rules::{RawCounter, RawCurfew, RawTail};
+use std::alloc::Global;
+use tail_book::{Activity, AircraftType, Airport, Counter, Curfew, Tail};
+use tail_text::{Stopped, Table};
+use timetable_reader::RawActivity;
+
+/// The types, whose names are known from here on. They are the first entries of the rules.
+#[tactic(auto, using(crate::proofs::EntryFacts::mapped_names))]
+pub fn declare_kinds(
+    alloc: Global,
+    kinds: &[AircraftType],
+    known: &mut Known,
+) -> Result<Vec<AircraftType>, Stopped>
+    requires few { length kinds.now ≤ 20 }
+    ensures found { Answers (λ v. v.items) (entries_in RulesTable 1 (λ t. Some t.name) (λ t. Ok t) kinds.now) result }
+    ensures known { OnOk result (known.new ≡ with_kinds known.old (map (λ t. t.name) kinds.now)) }
+{
+    let found = look_up(alloc, Table::Rules, 1, known, kinds)?;
+    known.kinds = found.names;
+    Ok(found.entries)
+}
+
+/// The airports, whose names are known from here on.
+#[tactic(auto, using(crate::proofs::EntryFacts::mapped_names))]
+pub fn declare_airports(
+    alloc: Global,
+    first: u64,
+    airports: &[Airport],
+    known: &mut Known,
+) -> Result<Vec<Airport>, Stopped>
+    requires first { first ≤ 1000 }
+    requires few { length airports.now ≤ 200 }
+    ensures found { Answers (λ v. v.items) (entries_in RulesTable first (λ p. Some p.name) (λ p. Ok p) airports.now) result }
+    ensures known { OnOk result (known.new ≡ with_airports known.old (map (λ p. p.name) airports.now)) }
+{
+    let found = look_up(alloc, Table::Rules, first, known, airports)?;
+    known.airports = found.names;
+    Ok(found.entries)
+}
+
+/// The curfews.
+pub fn find_curfews(
+    alloc: Global,
+    first: u64,
+    curfews: &[RawCurfew],
+    known: &Known,
+) -> Result<Vec<Curfew>, Stopped>
+    requires first { first ≤ 1000 }
+    requires few { length curfews.now ≤ 400 }
+    ensures { Answers (λ v. v.items) (entries_in RulesTable first (λ _. None) (curfew_in known.now.airports known.now.kinds) curfews.now) result }
+{
+    let found = look_up(alloc, Table::Rules, first, known, curfews)?;
+    Ok(found.entries)
+}
+
+/// The counters, whose names are known from here on.
+#[tactic(auto, using(crate::proofs::EntryFacts::mapped_names))]
+pub fn declare_counters(
+    alloc: Global,
+    first: u64,
+    counters: &[RawCounter],
+    known: &mut Known,
+) -> Result<Vec<Counter>, Stopped>
+    requires first { first ≤ 1000 }
+    requires few { length counters.now ≤ 6 }
+    ensures found { Answers (λ v. v.items) (entries_in RulesTable first (λ c. Some c.name) (counter_in known.old.airports) counters.now) result }
+    ensures known { OnOk result (known.new ≡ with_counters known.old (map (λ c. c.name) counters.now)) }
+{
+    let found = look_up(alloc, Table::Rules, first, known, counters)?;
+    known.counters = found.names;
+    Ok(found.entries)
+}
+
+/// The aircraft, whose names are known from here on. The header is record 1, so they begin at record 2.
+#[tactic(auto, using(crate::proofs::EntryFacts::mapped_names))]
+pub fn declare_tails(
+    alloc: Global,
+    tails: &[RawTail],
+    known: &mut Known,
+) -> Result<Vec<Tail>, Stopped>
+    requires few { length tails.now ≤ TAIL_LIMIT }
+    ensures found { Answers (λ v. v.items) (entries_in Fleet 2 (λ t. Some t.name) (tail_in known.old.kinds known.old.airports known.old.counters known.old.tags) tails.now) result }
+    ensures known { OnOk result (known.new ≡ with_tails known.old (map (λ t. t.name) tails.now)) }
+    ensures sound { OnOk result (All IsRawTail tails.now) }
+{
+    let found = look_up(alloc, Table::Fleet, 2, known, tails)?;
+    known.tails = found.names;
+    Ok(found.entries)
+}
+
+/// The activities, in the order of their table.
+pub fn find_activities(
+    alloc: Global,
+    activities: &[RawActivity],
+    known: &Known,
+) -> Result<Vec<Activity>, Stopped>
+    requires few { length activities.now ≤ ACTIVITY_LIMIT }
+    ensures found { Answers (λ v. v.items) (entries_in Timetable 2 (λ a. Some a.id) (activity_in known.now.kinds known.now.airports known.now.counters known.now.tails known.now.tags) activities.now) result }
+    ensures sound { OnOk result (All IsRawActivity activities.now) }
+{
+    let found = look_up(alloc, Table::Timetable, 2, known, activities)?;
+    Ok(found.entries)
+}

@@ -1,0 +1,52 @@
+//! The tags that the tables name. They are not declared, so they are numbered as they come.
+
+ghost use Rattle.std.specs.Prelude.{◌≡◌, ◌+◌, ◌*◌, ◌<◌, ◌≤◌, ◌^◌, ◌++◌, length, map, IfOk, OnOk};
+ghost use Rattle.timetable_reader.specs.declared.timetable.TheConstants.{ACTIVITY_LIMIT};
+ghost use Rattle.fleet_rules.specs.declared.fleet.TheConstants.{TAIL_LIMIT};
+ghost use Rattle.book_maker.specs.Made.{joined, tags_of};
+
+use crate::names::distinct_names;
+use fleet_rules::RawTail;
+use indexmap::IndexSet;
+use std::alloc::Global;
+use tail_book::{Memory, Name};
+use timetable_reader::RawActivity;
+
+/// The tags in order of first appearance, the fleet before the timetable.
+pub fn tags_of(
+    alloc: Global,
+    tails: &[RawTail],
+    activities: &[RawActivity],
+) -> Result<IndexSet<Name>, Memory>
+    requires few_tails { length tails.now ≤ TAIL_LIMIT }
+    requires few_activities { length activities.now ≤ ACTIVITY_LIMIT }
+    ensures tags { IfOk result (λ set. set.keys ≡ tags_of tails.now activities.now) }
+    ensures few { IfOk result (λ set. length set.keys < 2 ^ 32) }
+{
+    let mut names = Vec::new(alloc);
+    add_tail_tags(&mut names, tails)?;
+    add_activity_tags(&mut names, activities)?;
+    distinct_names(alloc, &names)
+}
+
+fn add_tail_tags(names: &mut Vec<Name>, tails: &[RawTail]) -> Result<(), Memory>
+    ensures tags { OnOk result (names.new.items ≡ names.old.items ++ joined (map (λ t. t.tags) tails.now)) }
+    ensures few { OnOk result (length names.new.items ≤ length names.old.items + 20 * length tails.now) }
+{
+    for i in 0..tails.len() {
+        let tail = &tails[i];
+        names.extend_from_slice(tail.tags.as_slice())?;
+    }
+    Ok(())
+}
+
+fn add_activity_tags(names: &mut Vec<Name>, activities: &[RawActivity]) -> Result<(), Memory>
+    ensures tags { OnOk result (names.new.items ≡ names.old.items ++ joined (map (λ a. a.tags) activities.now)) }
+    ensures few { OnOk result (length names.new.items ≤ length names.old.items + 20 * length activities.now) }
+{
+    for i in 0..activities.len() {
+        let activity = &activities[i];
+        names.extend_from_slice(activity.tags.as_slice())?;
+    }
+    Ok(())
+}

@@ -1,0 +1,135 @@
+//! Whether a plan is legal: each route is, and each activity is flown exactly once.
+
+ghost use Rattle.std.specs.Prelude.{◌≡◌, ◌<◌, ◌++◌, ◌∷◌, [], ◌&&◌, ◌==◌, List, ℕ, length, nat_lt, IfOk, IsTrue, All};
+ghost use Rattle.std.specs.List.{flat_map, list_all};
+ghost use Rattle.tail_book.specs.Lookup.{activities, aircraft};
+ghost use Rattle.tail_book.specs.Counters.{step};
+ghost use Rattle.tail_book.specs.Tests.{is_link, within_limits, is_legal_route, are_legal_below, are_flown_once_below, is_legal_plan};
+ghost use Rattle.turn_rules.specs.InRange.{IsPlaceOf};
+ghost use Rattle.maint_counters.specs.Counts.{AreCounts};
+ghost use Rattle.plan_audit.specs.Times.{AreTimes};
+
+use maint_counters::{start, step};
+use std::alloc::Global;
+use tail_book::laws::every_book_is_sound;
+use tail_book::{Book, Memory, Place, Plan, Route};
+use turn_rules::link;
+
+/// Whether an activity may come next in a legal route; its counters are then stepped.
+fn is_legal_next(book: &Book, k: u32, from: Place, b: u32, values: &mut [i64]) -> bool
+    requires aircraft { k < aircraft book.now }
+    requires place { IsPlaceOf book.now from }
+    requires width { length values.old ≡ length book.now.rules.counters }
+    requires range { AreCounts values.old }
+    ensures legal { result ≡ (nat_lt b (activities book.now) && (is_link book.now k from b && within_limits book.now.rules.counters (step book.now k from b values.old))) }
+    ensures steps { IsTrue result → values.new ≡ step book.now k from b values.old }
+    ensures width { length values.new ≡ length book.now.rules.counters }
+    ensures range { IsTrue result → AreCounts values.new }
+{
+    (b as usize) < book.activities.len() && link(book, k, from, b) && step(book, k, from, b, values)
+}
+
+/// Whether a route is legal for an aircraft.
+fn is_legal_route(book: &Book, k: u32, route: &[u32], values: &mut [i64]) -> bool
+    requires aircraft { k < aircraft book.now }
+    requires width { length values.old ≡ length book.now.rules.counters }
+    ensures legal { result ≡ is_legal_route book.now k route.now }
+    ensures width { length values.new ≡ length book.now.rules.counters }
+{
+    start(book, k, values);
+    let mut from = Place::Carry;
+    for b in route {
+        let b = *b;
+        if !is_legal_next(book, k, from, b, values) {
+            return false;
+        }
+        from = Place::After(b);
+    }
+    true
+}
+
+/// Whether each route of a plan is legal for the aircraft of its number.
+fn are_legal_routes(book: &Book, routes: &[Route], values: &mut [i64]) -> bool
+    requires one_each { length routes.now ≡ aircraft book.now }
+    requires width { length values.old ≡ length book.now.rules.counters }
+    ensures { result ≡ are_legal_below book.now routes.now (aircraft book.now) }
+{
+    every_book_is_sound(book);
+    for k in 0..routes.len() {
+        let route = &routes[k];
+        if !is_legal_route(book, k as u32, &route.0, values) {
+            return false;
+        }
+    }
+    true
+}
+
+/// Counts an activity.
+fn count_activity(a: u32, times: &mut [u8])
+    ensures counts { (flown : List ℕ) → AreTimes times.old flown → AreTimes times.new (flown ++ a ∷ []) }
+    ensures long { length times.new ≡ length times.old }
+{
+    if (a as usize) < times.len() {
+        times[a as usize] = times[a as usize].min(1) + 1;
+    }
+}
+
+/// Counts the activities of a route.
+fn count_route(route: &[u32], times: &mut [u8])
+    ensures counts { (flown : List ℕ) → AreTimes times.old flown → AreTimes times.new (flown ++ route.now) }
+    ensures long { length times.new ≡ length times.old }
+{
+    for a in route {
+        count_activity(*a, times);
+    }
+}
+
+/// Counts the activities of routes.
+fn count_routes(routes: &[Route], times: &mut [u8])
+    ensures counts { (flown : List ℕ) → AreTimes times.old flown → AreTimes times.new (flown ++ flat_map (λ route. route) routes.now) }
+    ensures long { length times.new ≡ length times.old }
+{
+    for route in routes {
+        count_route(&route.0, times);
+    }
+}
+
+/// Whether each number is 1.
+fn are_ones(times: &[u8]) -> bool
+    ensures { result ≡ list_all (λ time. time == 1) times.now }
+{
+    times.iter().all(|time| *time == 1)
+}
+
+/// Whether each activity is flown exactly once, where none is counted yet.
+fn are_counted_once(book: &Book, routes: &[Route], times: &mut [u8]) -> bool
+    requires long { length times.old ≡ activities book.now }
+    requires none { All (λ time. time ≡ 0) times.old }
+    ensures { result ≡ are_flown_once_below routes.now (activities book.now) }
+{
+    count_routes(routes, times);
+    are_ones(times)
+}
+
+/// Whether each activity is flown exactly once.
+fn are_flown_once(alloc: Global, book: &Book, routes: &[Route]) -> Result<bool, Memory>
+    ensures { IfOk result (λ once. once ≡ are_flown_once_below routes.now (activities book.now)) }
+{
+    let mut times = vec![in alloc; 0; book.activities.len()]?;
+    Ok(are_counted_once(book, routes, &mut times))
+}
+
+/// Whether a plan is legal.
+pub fn is_legal(alloc: Global, book: &Book, plan: &Plan) -> Result<bool, Memory>
+    ensures { IfOk result (λ legal. legal ≡ is_legal_plan book.now plan.now) }
+{
+    let routes = plan.0.as_slice();
+    if routes.len() != book.tails.len() {
+        return Ok(false);
+    }
+    let mut values = vec![in alloc; 0; book.rules.counters.len()]?;
+    if !are_legal_routes(book, routes, &mut values) {
+        return Ok(false);
+    }
+    are_flown_once(alloc, book, routes)
+}

@@ -1,0 +1,68 @@
+//! What a plan costs in a table, in cost units, where it is legal.
+
+ghost use Rattle.std.specs.Prelude.{◌≡◌, ◌<◌, ◌^◌, length, All};
+ghost use Rattle.tail_book.specs.Lookup.{activities, aircraft};
+ghost use Rattle.tail_book.specs.CostTable.{IsTableFor, activity_cost_in, connection_cost_in, route_cost_in, plan_cost_in};
+ghost use Rattle.turn_rules.specs.InRange.{IsPlaceOf};
+
+use crate::costs::band_cost;
+use tail_book::laws::every_book_is_sound;
+use tail_book::{Book, CostTable, Place, Route};
+use turn_rules::gap;
+
+/// What an activity costs an aircraft.
+fn activity_cost(book: &Book, table: &CostTable, k: u32, a: u32) -> u64
+    requires table { IsTableFor book.now table.now }
+    requires aircraft { k < aircraft book.now }
+    requires activity { a < activities book.now }
+    ensures value { result ≡ activity_cost_in table.now k a }
+{
+    table.fly[k as usize * table.n + a as usize]
+}
+
+/// What a connection costs.
+fn connection_cost(book: &Book, table: &CostTable, k: u32, from: Place, b: u32) -> u64
+    requires aircraft { k < aircraft book.now }
+    requires place { IsPlaceOf book.now from }
+    requires activity { b < activities book.now }
+    ensures { result ≡ connection_cost_in table.now book.now k from b }
+{
+    match from {
+        Place::Carry => 0,
+        Place::After(_) => band_cost(&table.bands, gap(book, k, from, b)),
+    }
+}
+
+/// What a route costs an aircraft.
+fn route_cost(book: &Book, table: &CostTable, k: u32, route: &[u32]) -> u64
+    requires table { IsTableFor book.now table.now }
+    requires aircraft { k < aircraft book.now }
+    requires activities { All (λ a. a < activities book.now) route.now }
+    requires range { route_cost_in table.now book.now k route.now < 2 ^ 64 }
+    ensures { result ≡ route_cost_in table.now book.now k route.now }
+{
+    let (mut cost, mut from) = (0, Place::Carry);
+    for b in route {
+        let b = *b;
+        cost += activity_cost(book, table, k, b) + connection_cost(book, table, k, from, b);
+        from = Place::After(b);
+    }
+    cost
+}
+
+/// What the routes of a plan cost, each flown by the aircraft of its number.
+pub fn plan_cost(book: &Book, table: &CostTable, routes: &[Route]) -> u64
+    requires table { IsTableFor book.now table.now }
+    requires one_each { length routes.now ≡ aircraft book.now }
+    requires activities { All (All (λ a. a < activities book.now)) routes.now }
+    requires range { plan_cost_in table.now book.now routes.now < 2 ^ 64 }
+    ensures { result ≡ plan_cost_in table.now book.now routes.now }
+{
+    every_book_is_sound(book);
+    let mut cost = 0;
+    for k in 0..routes.len() {
+        let route = &routes[k];
+        cost += route_cost(book, table, k as u32, &route.0);
+    }
+    cost
+}
