@@ -59,6 +59,7 @@ made-same same_a same_t same_r = rw (same_a, same_t, same_r) refl
 
 -- the book of the fronts is that of the whole tables
 book_of-take : (timetable fleet rules : List ℕ) → book_of (take READ_LIMIT timetable) (take READ_LIMIT fleet) (take READ_LIMIT rules) ≡ book_of timetable fleet rules
+unfolding book_of
 book_of-take timetable fleet rules = made-same (table_of-take timetable_layout timetable) (table_of-take fleet_layout fleet) (rules_of-take rules)
 
 -- what is judged of the fronts is what is judged of the whole files
