@@ -1,5 +1,5 @@
 -- A file that is read only up to one byte more than it may have reads as the whole of it: both are too big.
-use Rattle.std.proofs.Common.{◌≡◌, ◌∙◌, ℕ, ◌+◌, ◌<◌, ◌≤◌, ◌⊎◌, inl, inr, false, arith, List, length, take, refl, ap, ap₂, subst, sym, length-take-le}
+use Rattle.std.proofs.Common.{◌≡◌, ◌∙◌, ℕ, ◌<◌, ◌≤◌, ◌⊎◌, inl, inr, false, arith, List, length, take, refl, ap, ap₂, subst, sym, length-take-le}
 use Rattle.std.proofs.lemmas.Bool.Decides.{nat_tests}
 use Rattle.std.proofs.lemmas.List.{take_all}
 use Rattle.std.specs.Prelude.{nat_le, Option, option_map, None, Some, IfSome, Result, Ok, Err}

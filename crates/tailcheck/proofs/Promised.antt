@@ -4,15 +4,12 @@ use Rattle.std.proofs.lemmas.List.{append-nil}
 use Rattle.tail_outside.specs.Outside.{HasRisen}
 use Rattle.tail_text.specs.declared.refusal.Refusal.{Refusal}
 use Rattle.plan_audit.specs.Broken.{broken}
-use Rattle.plan_audit.specs.Kept.{kept}
-use Rattle.tail_book.specs.Truth.{IsPlanOf}
 use Rattle.plan_audit.specs.declared.broken.Audit.TheVariants.{Legal, Broken}
 use Rattle.plan_audit.specs.declared.broken.Broken.{Broken as BrokenRule}
 use Rattle.plan_report.specs.AuditText.{broken_lines, legal_line}
 use Rattle.plan_report.specs.Lines.{text_of}
 use Rattle.plan_report.specs.Printed.{IsPrinted, IsUnlessStopped, Prints, Shown}
 use Rattle.plan_report.specs.Refused.{refusal_line}
-use Rattle.tail_book.specs.Seen.{BookSeen}
 use Rattle.tailcheck.specs.Answers.{IsAnswerTo, IsTrueAnswer, OfTexts, lines_of, status_of}
 use Rattle.tailcheck.specs.Cases.{Case, Texts, case_of}
 use Rattle.tailcheck.specs.Promises.{AreNamed, IsVerdict, PrintsBroken, PrintsLegal, PrintsRefusal}
