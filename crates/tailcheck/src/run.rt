@@ -117,7 +117,13 @@ fn answer_of<F: Files>(alloc: Global, words: &[String], files: &mut F) -> Answer
         Err(_) => return Answer::Memory,
     };
     match read_texts(alloc, files, &names) {
-        Ok(texts) => judged(alloc, &texts.timetable, &texts.fleet, &texts.rules, &texts.plan),
+        Ok(texts) => judged(
+            alloc,
+            &texts.timetable,
+            &texts.fleet,
+            &texts.rules,
+            &texts.plan,
+        ),
         Err(ReadFail::Failed) => Answer::ReadFailed,
         Err(ReadFail::Memory) => Answer::Memory,
     }
