@@ -1,5 +1,5 @@
 -- What an entry keeps by itself it keeps with numbers in place of names, and its numbers are of the book.
-use Rattle.std.proofs.Common.{◌≡◌, ◌∙◌, ◌<◌, ◌≤◌, ℕ, ℤ, pos, Bool, true, false, not, cond, nat_lt, [], ◌∷◌, ◌++◌, List, length, map, replicate, slice_set, All, Option, Some, None, IfSome, IsTrue, Result, Ok, Err, ap, arith, refl, sym, subst}
+use Rattle.std.proofs.Common.{◌≡◌, ◌∙◌, ◌<◌, ℕ, ℤ, pos, Bool, true, false, not, cond, nat_lt, [], ◌∷◌, ◌++◌, List, length, map, replicate, slice_set, All, Option, Some, None, IsTrue, Result, Ok, Err, ap, arith, refl, sym}
 use Rattle.std.specs.List.{position_or_len}
 use Rattle.std.specs.Option.{ok_or}
 use Rattle.std.specs.Str.{bytes_eq}
@@ -7,7 +7,7 @@ use Rattle.std.proofs.lemmas.Bool.Decides.{nat_tests}
 use Rattle.std.proofs.lemmas.Int.{ints}
 use Rattle.std.proofs.lemmas.List.{length-map, length-set, length-replicate}
 use Rattle.std.proofs.lemmas.List.Elements.{All-cons, All-head, All-nil, All-replicate, All-set, All-tail}
-use Rattle.tail_text.specs.Checks.{look, look_each, must}
+use Rattle.tail_text.specs.Checks.{look, must}
 use Rattle.tail_book.specs.Seen.{ActivitySeen, CounterSeen, CurfewSeen, RulesSeen, TailSeen}
 use Rattle.tail_book.specs.Sound.{IsActivity, IsCounter, IsCurfew, IsTail, IsWithin, is_none_or_below}
 use Rattle.timetable_reader.specs.Activity.{IsRawActivity, RawActivitySeen}

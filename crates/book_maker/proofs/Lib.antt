@@ -8,3 +8,4 @@ pub mod CarryLemmas
 pub mod EntryFacts
 pub mod TagLemmas
 pub mod MadeLemmas
+mod Examples

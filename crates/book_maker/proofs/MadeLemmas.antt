@@ -2,12 +2,9 @@
 --
 -- What a record keeps by itself comes from the readers. That its numbers are of the book holds since every name that is
 -- used was found; that names differ, since no entry repeats one; and the order is that of `OrderLemmas`.
-use Rattle.std.proofs.Common.{◌≡◌, ◌≢◌, ◌∙◌, refl, ap, arith, ℕ, ◌+◌, ◌≤◌, List, [], ◌∷◌, length, map, Some, None, Result, Ok, Err, All, AllPairs, sym, subst}
+use Rattle.std.proofs.Common.{◌≡◌, ◌≢◌, ◌∙◌, refl, ap, arith, ℕ, ◌+◌, ◌≤◌, List, [], ◌∷◌, length, map, Some, None, Result, Ok, All, AllPairs, sym, subst}
 use Rattle.std.proofs.lemmas.List.{length-map}
 use Rattle.std.proofs.lemmas.List.Sorted.{All-permutation, length_permutation}
-use Rattle.std.specs.Prelude.{⊤}
-use Rattle.tail_text.specs.Checks.{look}
-use Rattle.tail_text.specs.declared.refusal.Refusal.{Refusal}
 use Rattle.tail_text.specs.declared.refusal.Table.TheVariants.{Fleet, Rules, Timetable}
 use Rattle.tail_book.specs.Seen.{ActivitySeen, BookSeen, CounterSeen, CurfewSeen, RulesSeen, TailSeen}
 use Rattle.tail_book.specs.Sound.{IsActivity, IsBook, IsCounter, IsCurfew, IsRules, IsTail}
@@ -23,7 +20,7 @@ use Rattle.book_maker.specs.Entries.{entries_in}
 use Rattle.book_maker.specs.RulesFound.{airport_names, counter_in, counter_names, curfew_in, kind_names, rules_in}
 use Rattle.book_maker.specs.TailFound.{tail_in}
 use Rattle.book_maker.specs.ActivityFound.{activity_in}
-use Rattle.book_maker.specs.Made.{activities_in, made_of, tags_of, tails_in}
+use Rattle.book_maker.specs.Made.{activities_in, tags_of, tails_in}
 use Rattle.book_maker.specs.Order.{in_order}
 use Rattle.book_maker.proofs.EntryFacts.{found-all, found-differ, found-many, found-texts}
 use Rattle.book_maker.proofs.FoundLemmas.{activity_named, activity_sound, counter_named, counter_sound, curfew_sound, looked, tail_named, tail_sound}

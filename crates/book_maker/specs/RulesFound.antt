@@ -1,8 +1,6 @@
 -- The entries of the rules, with numbers in place of the names that they use.
-use Rattle.std.specs.Prelude.{ℕ, ◌+◌, List, length, map, Option, None, Some, Result, Ok}
+use Rattle.std.specs.Prelude.{ℕ, ◌+◌, List, length, map, None, Some, Result, Ok}
 use Rattle.tail_book.specs.Seen.{CounterSeen, CurfewSeen, RulesSeen}
-use Rattle.tail_book.specs.declared.rules.AircraftType.{AircraftType}
-use Rattle.tail_book.specs.declared.rules.Airport.{Airport}
 use Rattle.tail_text.specs.Checks.{look}
 use Rattle.tail_text.specs.declared.refusal.Refusal.{Refusal}
 use Rattle.tail_text.specs.declared.refusal.Table.TheVariants.{Rules}

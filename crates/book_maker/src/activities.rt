@@ -16,7 +16,9 @@ impl Entry for RawActivity {
     type Found = Activity;
 
     ghost own_name = { λ a. Some a.id };
+
     ghost uses = { λ known a. activity_in known.kinds known.airports known.counters known.tails known.tags a };
+
     ghost is_sound = { IsRawActivity };
 
     fn own_name(&self) -> Option<Name> {

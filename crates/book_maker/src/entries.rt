@@ -20,7 +20,9 @@ pub trait Entry: Drop {
     type Found: Drop;
 
     ghost own_name: { Self → Option (List ℕ) };
+
     ghost uses: { KnownNames → Self → Result Self.Found ℕ };
+
     ghost is_sound: { Self → Type 0 };
 
     /// Its own name, if it has one.

@@ -16,3 +16,6 @@ mod tails;
 
 pub use make::make_book;
 pub use read::read_book;
+
+#[cfg(test)]
+mod tests;

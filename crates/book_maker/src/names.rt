@@ -45,11 +45,7 @@ pub fn optional_number_in(names: &IndexSet<Name>, name: Option<Name>) -> Result<
 }
 
 /// The numbers of several names, or code 12.
-pub fn numbers_in(
-    alloc: Global,
-    names: &IndexSet<Name>,
-    list: &[Name],
-) -> Result<Vec<u32>, NoRow>
+pub fn numbers_in(alloc: Global, names: &IndexSet<Name>, list: &[Name]) -> Result<Vec<u32>, NoRow>
     requires few { length names.now.keys < 2 ^ 32 }
     ensures { Judges (λ v. v.items) (numbers_in names.now.keys list.now) result }
 {
@@ -67,11 +63,7 @@ pub fn numbers_in(
 }
 
 /// The numbers of names that are not declared.
-pub fn places_in(
-    alloc: Global,
-    names: &IndexSet<Name>,
-    list: &[Name],
-) -> Result<Vec<u32>, Memory>
+pub fn places_in(alloc: Global, names: &IndexSet<Name>, list: &[Name]) -> Result<Vec<u32>, Memory>
     requires few { length names.now.keys < 2 ^ 32 }
     ensures { IfOk result (λ v. v.items ≡ map (place_in names.now.keys) list.now) }
 {

@@ -16,7 +16,9 @@ impl Entry for AircraftType {
     type Found = AircraftType;
 
     ghost own_name = { λ t. Some t.name };
+
     ghost uses = { λ _ t. Ok t };
+
     ghost is_sound = { λ _. ⊤ };
 
     fn own_name(&self) -> Option<Name> {
@@ -32,7 +34,9 @@ impl Entry for Airport {
     type Found = Airport;
 
     ghost own_name = { λ p. Some p.name };
+
     ghost uses = { λ _ p. Ok p };
+
     ghost is_sound = { λ _. ⊤ };
 
     fn own_name(&self) -> Option<Name> {
@@ -48,7 +52,9 @@ impl Entry for RawCurfew {
     type Found = Curfew;
 
     ghost own_name = { λ _. None };
+
     ghost uses = { λ known c. curfew_in known.airports known.kinds c };
+
     ghost is_sound = { IsRawCurfew };
 
     fn own_name(&self) -> Option<Name> {
@@ -73,7 +79,9 @@ impl Entry for RawCounter {
     type Found = Counter;
 
     ghost own_name = { λ c. Some c.name };
+
     ghost uses = { λ known c. counter_in known.airports c };
+
     ghost is_sound = { IsRawCounter };
 
     fn own_name(&self) -> Option<Name> {

@@ -17,7 +17,9 @@ impl Entry for RawTail {
     type Found = Tail;
 
     ghost own_name = { λ t. Some t.name };
+
     ghost uses = { λ known t. tail_in known.kinds known.airports known.counters known.tags t };
+
     ghost is_sound = { IsRawTail };
 
     fn own_name(&self) -> Option<Name> {

@@ -33,8 +33,8 @@ pub fn write_audit<S: Sink>(
     write_lines(&lines, out)
 }
 
-/// The lines of what an audit found.
-pub fn audit_lines(alloc: Global, book: &Book, audit: &Audit) -> Result<Vec<Line>, Memory>
+// The lines of what an audit found.
+fn audit_lines(alloc: Global, book: &Book, audit: &Audit) -> Result<Vec<Line>, Memory>
     requires { AreOfBook book.now audit.now }
     ensures { IfOk result (λ lines. lines.items ≡ audit_lines book.now audit.now) }
 {

@@ -11,12 +11,11 @@ mod report;
 mod text_lines;
 mod writing;
 
-pub use audit_text::{audit_lines, write_audit};
-pub use lines::put_lines;
+pub use audit_text::write_audit;
 pub use plan_text::read_plan;
 pub use refused::refusal_line;
-pub use report::{report_lines, write_report};
-pub use writing::ReportFail;
+pub use report::write_report;
+pub use writing::{ReportFail, write_lines};
 
 #[cfg(test)]
 mod tests;

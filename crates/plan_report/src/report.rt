@@ -32,8 +32,8 @@ pub fn write_report<S: Sink>(
     write_lines(&lines, out)
 }
 
-/// The lines of the report.
-pub fn report_lines(alloc: Global, book: &Book, outcome: &Outcome) -> Result<Vec<Line>, Memory>
+// The lines of the report.
+fn report_lines(alloc: Global, book: &Book, outcome: &Outcome) -> Result<Vec<Line>, Memory>
     requires { HasPlanFor book.now outcome.now }
     ensures { IfOk result (λ lines. lines.items ≡ report_lines book.now outcome.now) }
 {

@@ -1,10 +1,10 @@
-//! How the writing of a text can fail.
+//! Lines that are written, and how that can fail.
 
 ghost use Rattle.std.specs.Prelude.{◌≡◌, ◌≤◌, false, OnOk, OnErr, IsErrOf};
 ghost use Rattle.plan_report.specs.Lines.{text_of};
 ghost use Rattle.tail_outside.specs.Outside.{Adds, AddsFront, HasRisen};
 
-use crate::put_lines;
+use crate::lines::put_lines;
 use tail_outside::{Fault, Sink};
 use tail_text::Line;
 

@@ -1,5 +1,5 @@
 -- A file that is read only up to one byte more than it may have reads as the whole of it: both are too big.
-use Rattle.std.proofs.Common.{◌≡◌, ◌∙◌, ℕ, ◌+◌, ◌<◌, ◌≤◌, ◌⊎◌, inl, inr, false, arith, List, length, take, refl, ap, ap₂, subst, sym, length-take-le}
+use Rattle.std.proofs.Common.{◌≡◌, ◌∙◌, ℕ, ◌<◌, ◌≤◌, ◌⊎◌, inl, inr, false, arith, List, length, take, refl, ap, ap₂, subst, sym, length-take-le}
 use Rattle.std.proofs.lemmas.Bool.Decides.{nat_tests}
 use Rattle.std.proofs.lemmas.List.{take_all}
 use Rattle.std.specs.Prelude.{nat_le, Option, option_map, None, Some, IfSome, Result, Ok, Err}
@@ -35,14 +35,14 @@ split n limit = grind arith
 limited-take : {A : Type 0} (read : List ℕ → Result A Refusal) (refusal : Refusal) → ((bytes : List ℕ) → nat_le (length bytes) 16_777_216 ≡ false → read bytes ≡ Err refusal)
     → (bytes : List ℕ) → read (take READ_LIMIT bytes) ≡ read bytes
 limited-take read refusal refuses bytes = elim (split (length bytes) READ_LIMIT) [
-    | inl short ↦ ap read (take_all READ_LIMIT bytes short)
-    | inr long ↦
-        let fits : READ_LIMIT ≤ length bytes = omega arith in
-        let cut : length (take READ_LIMIT bytes) ≡ READ_LIMIT = length-take-le READ_LIMIT bytes fits in
-        let first : nat_le (length (take READ_LIMIT bytes)) 16_777_216 ≡ false = too_big (length (take READ_LIMIT bytes)) 16_777_216 (omega (arith, cut)) in
-        let second : nat_le (length bytes) 16_777_216 ≡ false = too_big (length bytes) 16_777_216 (omega (arith, long)) in
-        refuses (take READ_LIMIT bytes) first ∙ sym (refuses bytes second)
-  ]
+  | inl short ↦ ap read (take_all READ_LIMIT bytes short)
+  | inr long ↦
+      let fits : READ_LIMIT ≤ length bytes = omega arith in
+      let cut : length (take READ_LIMIT bytes) ≡ READ_LIMIT = length-take-le READ_LIMIT bytes fits in
+      let first : nat_le (length (take READ_LIMIT bytes)) 16_777_216 ≡ false = too_big (length (take READ_LIMIT bytes)) 16_777_216 (omega (arith, cut)) in
+      let second : nat_le (length bytes) 16_777_216 ≡ false = too_big (length bytes) 16_777_216 (omega (arith, long)) in
+      refuses (take READ_LIMIT bytes) first ∙ sym (refuses bytes second)
+]
 
 table_of-take : {A : Type 0} (layout : Layout A) (bytes : List ℕ) → table_of layout (take READ_LIMIT bytes) ≡ table_of layout bytes
 table_of-take layout bytes = limited-take (table_of layout) (refusal_at 1 layout.table 0) (λ b big. rw big refl) bytes
@@ -59,6 +59,7 @@ made-same same_a same_t same_r = rw (same_a, same_t, same_r) refl
 
 -- the book of the fronts is that of the whole tables
 book_of-take : (timetable fleet rules : List ℕ) → book_of (take READ_LIMIT timetable) (take READ_LIMIT fleet) (take READ_LIMIT rules) ≡ book_of timetable fleet rules
+unfolding book_of
 book_of-take timetable fleet rules = made-same (table_of-take timetable_layout timetable) (table_of-take fleet_layout fleet) (rules_of-take rules)
 
 -- what is judged of the fronts is what is judged of the whole files

@@ -4,15 +4,12 @@ use Rattle.std.proofs.lemmas.List.{append-nil}
 use Rattle.tail_outside.specs.Outside.{HasRisen}
 use Rattle.tail_text.specs.declared.refusal.Refusal.{Refusal}
 use Rattle.plan_audit.specs.Broken.{broken}
-use Rattle.plan_audit.specs.Kept.{kept}
-use Rattle.tail_book.specs.Truth.{IsPlanOf}
 use Rattle.plan_audit.specs.declared.broken.Audit.TheVariants.{Legal, Broken}
 use Rattle.plan_audit.specs.declared.broken.Broken.{Broken as BrokenRule}
 use Rattle.plan_report.specs.AuditText.{broken_lines, legal_line}
 use Rattle.plan_report.specs.Lines.{text_of}
 use Rattle.plan_report.specs.Printed.{IsPrinted, IsUnlessStopped, Prints, Shown}
 use Rattle.plan_report.specs.Refused.{refusal_line}
-use Rattle.tail_book.specs.Seen.{BookSeen}
 use Rattle.tailcheck.specs.Answers.{IsAnswerTo, IsTrueAnswer, OfTexts, lines_of, status_of}
 use Rattle.tailcheck.specs.Cases.{Case, Texts, case_of}
 use Rattle.tailcheck.specs.Promises.{AreNamed, IsVerdict, PrintsBroken, PrintsLegal, PrintsRefusal}
@@ -83,13 +80,13 @@ module _ (words : List (List ℕ)) (holds : List ℕ → Option (List ℕ)) (old
     where
       by : (a : Answer) → IsTrueAnswer words holds old new a → (status ≡ status_of a) × Prints shown (text_of (lines_of a)) → OfTexts words holds (PrintsLegal shown)
       by (Judged book (Legal cost)) k p = inside (λ texts. IsAnswerTo texts (Judged book (Legal cost))) (PrintsLegal shown) words holds (λ texts own. record {
-          case = record { book = book; plan = own.0 };
-          cost = cost;
-          is = own.1;
-          unbroken = own.2.0;
-          legal = own.2.1;
-          printed = one_line shown (legal_line cost) p.1;
-        }) k
+        case = record { book = book; plan = own.0 };
+        cost = cost;
+        is = own.1;
+        unbroken = own.2.0;
+        legal = own.2.1;
+        printed = one_line shown (legal_line cost) p.1;
+      }) k
       by (Judged book (Broken list)) k p = absurd (omega (arith, p.0, zero))
       by Usage k p = absurd (omega (arith, p.0, zero))
       by (Refused refusal) k p = absurd (omega (arith, p.0, zero))
@@ -102,11 +99,11 @@ module _ (words : List (List ℕ)) (holds : List ℕ → Option (List ℕ)) (old
     where
       by : (a : Answer) → IsTrueAnswer words holds old new a → (status ≡ status_of a) × Prints shown (text_of (lines_of a)) → OfTexts words holds (PrintsBroken shown)
       by (Judged book (Broken list)) k p = inside (λ texts. IsAnswerTo texts (Judged book (Broken list))) (PrintsBroken shown) words holds (λ texts own. record {
-          case = record { book = book; plan = own.0 };
-          is = own.1;
-          some = own.2.0;
-          printed = subst (λ (rules : List BrokenRule). Prints shown (text_of (broken_lines book rules))) own.2.1 p.1;
-        }) k
+        case = record { book = book; plan = own.0 };
+        is = own.1;
+        some = own.2.0;
+        printed = subst (λ (rules : List BrokenRule). Prints shown (text_of (broken_lines book rules))) own.2.1 p.1;
+      }) k
       by (Judged book (Legal cost)) k p = absurd (omega (arith, p.0, one))
       by Usage k p = absurd (omega (arith, p.0, one))
       by (Refused refusal) k p = absurd (omega (arith, p.0, one))
@@ -206,10 +203,10 @@ module _ (words : List (List ℕ)) (holds : List ℕ → Option (List ℕ)) (old
   judged answer h (inr (inl s)) texts case named is = inr (inr (inl s.0))
   judged answer h (inr (inr s)) texts case named is = inr (inr (inr s.0))
   judged answer h (inl s) texts case named is = elim (verdict_in answer h s.0 texts case named is) [
-      | inl failed ↦ inr (inl (s.0 ∙ ap status_of failed))
-      | inr (inl wanting) ↦ inr (inr (inr (s.0 ∙ ap status_of wanting)))
-      | inr (inr verdict) ↦ inl verdict
-    ]
+    | inl failed ↦ inr (inl (s.0 ∙ ap status_of failed))
+    | inr (inl wanting) ↦ inr (inr (inr (s.0 ∙ ap status_of wanting)))
+    | inr (inr verdict) ↦ inl verdict
+  ]
 
   -- where nothing failed, only want of memory keeps a plan from being judged
   pub answered : (answer : Answer) → IsTrueAnswer words holds old new answer → IsPrinted (text_of (lines_of answer)) shown (status_of answer) status
@@ -218,10 +215,10 @@ module _ (words : List (List ℕ)) (holds : List ℕ → Option (List ℕ)) (old
   answered answer h (inr (inl s)) texts case named is quiet calm = absurd (calm s.1)
   answered answer h (inr (inr s)) texts case named is quiet calm = inr s.0
   answered answer h (inl s) texts case named is quiet calm = elim (verdict_in answer h s.0 texts case named is) [
-      | inl failed ↦ absurd (quiet (risen answer h failed))
-      | inr (inl wanting) ↦ inr (s.0 ∙ ap status_of wanting)
-      | inr (inr verdict) ↦ inl verdict
-    ]
+    | inl failed ↦ absurd (quiet (risen answer h failed))
+    | inr (inl wanting) ↦ inr (s.0 ∙ ap status_of wanting)
+    | inr (inr verdict) ↦ inl verdict
+  ]
     where
       risen : (a : Answer) → IsTrueAnswer words holds old new a → a ≡ ReadFailed → HasRisen old new
       risen a k e = (subst (IsTrueAnswer words holds old new) e k).2

@@ -2,11 +2,11 @@
 #![tactic(auto)]
 
 mod answer;
-mod lines;
 mod reading;
 mod run;
 mod usage;
 mod words;
+mod writing;
 
 use run::{NO_MEMORY, Status, check_run};
 use std::io;

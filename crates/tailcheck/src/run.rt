@@ -13,15 +13,15 @@ ghost use Rattle.tailcheck.specs.Words.{check_of};
 ghost use Rattle.tailcheck.specs.declared.answer.Answer.{Answer};
 
 use crate::answer::Answer;
-use crate::lines::lines_of;
 use crate::reading::read_texts;
 use crate::words::check_of;
+use crate::writing::write_answer;
 use book_maker::read_book;
 use plan_audit::{Audit, audit};
 use plan_report::laws::audits_can_be_written;
-use plan_report::{put_lines, read_plan};
+use plan_report::{ReportFail, read_plan};
 use std::alloc::Global;
-use tail_outside::{Fault, Files, ReadFail, Sink};
+use tail_outside::{Files, ReadFail, Sink};
 use tail_text::Stopped;
 
 /// How a run ended: 0 with a legal plan, 1 with a plan that breaks rules, 2 with words that are refused, 3 with a table
@@ -117,7 +117,13 @@ fn answer_of<F: Files>(alloc: Global, words: &[String], files: &mut F) -> Answer
         Err(_) => return Answer::Memory,
     };
     match read_texts(alloc, files, &names) {
-        Ok(texts) => judged(alloc, &texts.timetable, &texts.fleet, &texts.rules, &texts.plan),
+        Ok(texts) => judged(
+            alloc,
+            &texts.timetable,
+            &texts.fleet,
+            &texts.rules,
+            &texts.plan,
+        ),
         Err(ReadFail::Failed) => Answer::ReadFailed,
         Err(ReadFail::Memory) => Answer::Memory,
     }
@@ -142,12 +148,9 @@ fn print<S: Sink>(alloc: Global, answer: &Answer, out: &mut S) -> Status
     ensures printed { IsPrinted (text_of (lines_of answer.now)) (shown_of (S.told out.old) (S.told out.new) (S.faults out.old) (S.faults out.new) (S.ceased out.new)) (status_of answer.now) result.0 }
     ensures beside { S.beside out.old out.new }
 {
-    let Ok(lines) = lines_of(alloc, answer) else {
-        return NO_MEMORY;
-    };
-    match put_lines(&lines, out) {
+    match write_answer(alloc, answer, out) {
         Ok(()) => status_of(answer),
-        Err(Fault::Failed) => Status(6),
-        Err(Fault::Memory) => NO_MEMORY,
+        Err(ReportFail::Write) => Status(6),
+        Err(ReportFail::Memory) => NO_MEMORY,
     }
 }

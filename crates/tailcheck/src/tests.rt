@@ -3,6 +3,6 @@
 mod faults;
 mod fixtures;
 mod plan_files;
-mod refusals;
 mod verdicts;
 mod week;
+mod words;

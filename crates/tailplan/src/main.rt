@@ -2,12 +2,12 @@
 #![tactic(auto)]
 
 mod answer;
-mod lines;
 mod run;
 mod small_book;
 mod tables;
 mod usage;
 mod words;
+mod writing;
 
 use run::{NO_MEMORY, Status, solve_run};
 use std::io;

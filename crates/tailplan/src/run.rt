@@ -14,16 +14,16 @@ ghost use Rattle.tailplan.specs.Words.{run_of};
 ghost use Rattle.tailplan.specs.declared.answer.Answer.{Answer};
 
 use crate::answer::Answer;
-use crate::lines::lines_of;
 use crate::small_book::small_book;
 use crate::tables::read_tables;
 use crate::words::run_of;
+use crate::writing::write_answer;
 use plan_enumeration::least_plan;
+use plan_report::ReportFail;
 use plan_report::laws::true_outcomes_can_be_written;
-use plan_report::put_lines;
 use std::alloc::Global;
 use tail_book::{Outcome, laws};
-use tail_outside::{Fault, Files, ReadFail, Sink};
+use tail_outside::{Files, ReadFail, Sink};
 use tail_text::Stopped;
 
 /// How a run ended: 0 with a least plan, 1 with no plan that is legal, 2 with words that are refused, 3 with a table
@@ -140,12 +140,9 @@ fn print<S: Sink>(alloc: Global, answer: &Answer, out: &mut S) -> Status
     ensures printed { IsPrinted (text_of (lines_of answer.now)) (shown_of (S.told out.old) (S.told out.new) (S.faults out.old) (S.faults out.new) (S.ceased out.new)) (status_of answer.now) result.0 }
     ensures beside { S.beside out.old out.new }
 {
-    let Ok(lines) = lines_of(alloc, answer) else {
-        return NO_MEMORY;
-    };
-    match put_lines(&lines, out) {
+    match write_answer(alloc, answer, out) {
         Ok(()) => status_of(answer),
-        Err(Fault::Failed) => Status(6),
-        Err(Fault::Memory) => NO_MEMORY,
+        Err(ReportFail::Write) => Status(6),
+        Err(ReportFail::Memory) => NO_MEMORY,
     }
 }

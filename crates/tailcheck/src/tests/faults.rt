@@ -72,18 +72,19 @@ fn a_failed_read_ends_a_run(rt: HostRuntime) -> Result<(), Fail> {
 // A file that isn't there can't be read, even where a table is bad: the plan's file is no timetable.
 #[test]
 fn a_missing_file_ends_a_run(rt: HostRuntime) -> Result<(), Fail> {
-    for words in [
-        ["tailcheck", "none", "f", "r", "--plan", "p"],
-        ["tailcheck", "t", "none", "r", "--plan", "p"],
-        ["tailcheck", "t", "f", "none", "--plan", "p"],
-        ["tailcheck", "t", "f", "r", "--plan", "none"],
-        ["tailcheck", "p", "f", "r", "--plan", "none"],
-        ["tailcheck", "t", "p", "r", "--plan", "none"],
-        ["tailcheck", "t", "f", "p", "--plan", "none"],
+    for (timetable, fleet, rules, plan) in [
+        ("none", "f", "r", "p"),
+        ("t", "none", "r", "p"),
+        ("t", "f", "none", "p"),
+        ("t", "f", "r", "none"),
+        ("p", "f", "r", "none"),
+        ("t", "p", "r", "none"),
+        ("t", "f", "p", "none"),
     ] {
+        let words = ["tailcheck", timetable, fleet, rules, "--plan", plan];
         let files = files_of(rt.alloc(), GOOD)?;
         let seen = run_failing(rt.alloc(), &words, files, &[], &[])?;
-        assert!(rt; seen.is(5, ""), "{words:?}");
+        assert!(rt; seen.is(5, ""), "{timetable} {fleet} {rules} {plan}");
     }
     Ok(())
 }

@@ -19,8 +19,7 @@ F2,flight,OSL,ARN,2025-03-03T07:30,2025-03-03T08:30,,,,\n";
 
 pub const ONE_AT_ARLANDA: &str = "A1,P,ARN,2025-03-03T05:00,0,,,\n";
 
-pub const TWO_AT_ARLANDA: &str =
-    "A1,P,ARN,2025-03-03T05:00,0,,,\nA2,P,ARN,2025-03-03T05:00,0,,,\n";
+pub const TWO_AT_ARLANDA: &str = "A1,P,ARN,2025-03-03T05:00,0,,,\nA2,P,ARN,2025-03-03T05:00,0,,,\n";
 
 /// The texts of the four files.
 #[derive(Clone, Copy)]

@@ -1,6 +1,8 @@
 //! Plans that are legal, and plans that break rules.
 
-use super::fixtures::{ONE_AT_ARLANDA, THERE_AND_BACK, TWO_AT_ARLANDA, run_there_and_back, run_with};
+use super::fixtures::{
+    ONE_AT_ARLANDA, THERE_AND_BACK, TWO_AT_ARLANDA, run_there_and_back, run_with,
+};
 use std::test::Fail;
 
 // The plans of two flights and one aircraft.
@@ -35,11 +37,7 @@ fn plans_of_two_flights_are_judged(rt: HostRuntime) -> Result<(), Fail> {
             "broken 2\ntwice A1\nuncovered F2\n",
         ),
         // no aircraft has a line
-        (
-            "optimal 0\n",
-            1,
-            "broken 2\nuncovered F1\nuncovered F2\n",
-        ),
+        ("optimal 0\n", 1, "broken 2\nuncovered F1\nuncovered F2\n"),
     ] {
         let seen = run_there_and_back(rt.alloc(), plan)?;
         assert!(rt; seen.is(status, printed), "{plan}");
@@ -179,7 +177,14 @@ fn aircraft_are_judged(rt: HostRuntime) -> Result<(), Fail> {
             "legal 120\n",
         ),
         // two aircraft with nothing to fly, and no aircraft at all
-        ("", TWO_AT_ARLANDA, "", "optimal 0\nA1:\nA2:\n", 0, "legal 0\n"),
+        (
+            "",
+            TWO_AT_ARLANDA,
+            "",
+            "optimal 0\nA1:\nA2:\n",
+            0,
+            "legal 0\n",
+        ),
         ("", "", "", "optimal 0\n", 0, "legal 0\n"),
         (
             THERE_AND_BACK,

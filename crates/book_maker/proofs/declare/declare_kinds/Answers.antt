@@ -1,4 +1,4 @@
-use Rattle.std.proofs.Common.{◌≡◌, ◌∙◌, List, ℕ, [], ap, arith, length, map, refl}
+use Rattle.std.proofs.Common.{◌∙◌, [], ap, arith, length, refl}
 use Rattle.std.proofs.lemmas.List.{length-map}
 use Rattle.book_maker.proofs.EntryFacts.{mapped_names}
 use Rattle.book_maker.proofs.declare.declare_kinds.Goals as goal

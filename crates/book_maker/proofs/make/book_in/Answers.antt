@@ -1,5 +1,4 @@
-use Rattle.std.proofs.Common.{◌≡◌, Ok, subst, sym}
-use Rattle.tail_book.specs.Sound.{IsBook}
+use Rattle.std.proofs.Common.{◌≡◌, Ok}
 use Rattle.book_maker.specs.Made.{activities_in, tags_of, tails_in}
 use Rattle.book_maker.proofs.MadeLemmas.{book_sound, ids_differ, rules_in-found}
 use Rattle.book_maker.proofs.make.book_in.Goals as goal

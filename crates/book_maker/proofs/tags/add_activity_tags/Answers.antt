@@ -1,6 +1,5 @@
-use Rattle.std.proofs.Common.{◌≡◌, ◌∙◌, ◌++◌, ap, append_assoc, arith, length, length-append, map, refl, sym, take}
+use Rattle.std.proofs.Common.{◌∙◌, ◌++◌, ap, append_assoc, arith, length, length-append, refl, sym}
 use Rattle.std.proofs.lemmas.List.{append-nil}
-use Rattle.book_maker.specs.Made.{joined}
 use Rattle.book_maker.proofs.TagLemmas.{joined-all, joined-more, joined-none}
 use Rattle.book_maker.proofs.tags.add_activity_tags.Goals as goal
 

@@ -1,4 +1,4 @@
-use Rattle.std.proofs.Common.{◌≡◌, ℕ, ℤ, Err, Global, Ok, Vec, refl, subst}
+use Rattle.std.proofs.Common.{◌≡◌, ℤ, Err, Global, Ok, Vec, refl, subst}
 use Rattle.table_records.specs.NoRow.{Judges}
 use Rattle.book_maker.specs.Names.{numbers_in}
 use Rattle.book_maker.specs.TailFound.{carry_in}
