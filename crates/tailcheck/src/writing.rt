@@ -7,16 +7,12 @@ ghost use Rattle.tailcheck.specs.Answers.{IsPrintable, lines_of};
 
 use crate::answer::Answer;
 use crate::usage::usage_line;
-use plan_report::{ReportFail, refusal_line, write_lines, write_audit};
+use plan_report::{ReportFail, refusal_line, write_audit, write_lines};
 use std::alloc::Global;
 use tail_outside::Sink;
 
 /// Writes the lines of an answer, one put a line.
-pub fn write_answer<S: Sink>(
-    alloc: Global,
-    answer: &Answer,
-    out: &mut S,
-) -> Result<(), ReportFail>
+pub fn write_answer<S: Sink>(alloc: Global, answer: &Answer, out: &mut S) -> Result<(), ReportFail>
     requires { IsPrintable answer.now }
     ensures taken { OnOk result (S.ceased out.new ≡ false → Adds (S.told out.old) (S.told out.new) (text_of (lines_of answer.now))) }
     ensures front { OnErr result (S.ceased out.new ≡ false → AddsFront (S.told out.old) (S.told out.new) (text_of (lines_of answer.now))) }

@@ -12,11 +12,7 @@ use std::alloc::Global;
 use tail_outside::Sink;
 
 /// Writes the lines of an answer, one put a line.
-pub fn write_answer<S: Sink>(
-    alloc: Global,
-    answer: &Answer,
-    out: &mut S,
-) -> Result<(), ReportFail>
+pub fn write_answer<S: Sink>(alloc: Global, answer: &Answer, out: &mut S) -> Result<(), ReportFail>
     requires { IsPrintable answer.now }
     ensures taken { OnOk result (S.ceased out.new ≡ false → Adds (S.told out.old) (S.told out.new) (text_of (lines_of answer.now))) }
     ensures front { OnErr result (S.ceased out.new ≡ false → AddsFront (S.told out.old) (S.told out.new) (text_of (lines_of answer.now))) }
