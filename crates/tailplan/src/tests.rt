@@ -5,6 +5,7 @@ mod counters;
 mod curfews;
 mod faults;
 mod links;
+mod name_faults;
 mod permissions;
 mod plans;
 mod refusals;

@@ -33,7 +33,10 @@ F4,flight,OSL,ARN,2025-03-03T11:00,2025-03-03T12:00,,,,\n",
         ),
         // two hours in the air are a minute too many
         (
-            THERE_AND_BACK,
+            "F1,flight,ARN,OSL,2025-03-03T06:00,2025-03-03T07:00,,,,\n\
+F2,flight,OSL,ARN,2025-03-03T07:30,2025-03-03T08:30,,,,\n\
+F3,flight,ARN,OSL,2025-03-03T09:30,2025-03-03T10:30,,,,\n\
+F4,flight,OSL,ARN,2025-03-03T11:00,2025-03-03T12:00,,,,\n",
             "[[counter]]\nname = \"fh\"\nkind = \"minutes\"\nlimit = 119\nbases = [\"ARN\"]\nstop = 60\n",
             1,
             "infeasible\n",
