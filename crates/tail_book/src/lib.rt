@@ -13,6 +13,7 @@ mod place;
 mod plan;
 mod raw_plan;
 mod rules;
+mod sound;
 
 pub use activity::Activity;
 pub use aircraft::Tail;
