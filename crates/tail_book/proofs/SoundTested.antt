@@ -8,15 +8,14 @@ use Rattle.std.proofs.lemmas.Slice.Eq.{bytes_eq-Decides}
 use Rattle.std.specs.Prelude.{All, AllPairs, nat_lt, nat_le, not, bytes_eq, unsigned_abs, ◌+ℤ◌, ◌*ℤ◌, ◌==◌, ◌≢◌}
 use Rattle.std.specs.List.{list_all}
 use Rattle.std.specs.Bool.{Decides}
-use Rattle.tail_book.specs.Seen.{ActivitySeen, TailSeen, CurfewSeen, CounterSeen, RulesSeen, BookSeen, CostTableSeen}
+use Rattle.tail_book.specs.Seen.{ActivitySeen, TailSeen, CurfewSeen, CounterSeen, AirportSeen, RulesSeen, BookSeen, CostTableSeen}
 use Rattle.tail_book.specs.declared.rules.AircraftType.{AircraftType}
-use Rattle.tail_book.specs.declared.rules.Airport.{Airport}
 use Rattle.tail_book.specs.declared.rules.Band.{Band}
 use Rattle.tail_book.specs.declared.rules.CounterKind.{CounterKind}
 use Rattle.tail_book.specs.declared.rules.CounterKind.TheVariants.{Minutes, Landings, Days}
 use Rattle.tail_book.specs.Name.{is_name}
 use Rattle.tail_book.specs.Sound.{IsWithin, IsMoment, IsLimit, IsActivity, IsTail, IsKind, IsAirport, IsCurfew, IsCounter, IsBand, IsRules, IsBook, is_none_or_below, comes_before}
-use Rattle.tail_book.specs.CostTable.{greatest_cost_in, IsCostTable}
+use Rattle.tail_book.specs.CostTable.{box_end, cost_unit, greatest_cost_in, IsCostTable}
 use Rattle.tail_book.specs.SoundTests.{is_within, is_moment, are_below, each_pair, is_timed, names_of_book, has_short_lists, is_activity, comes_in, has_short_marks, carries_each, is_tail, is_kind, is_airport, is_curfew, is_limit, is_counter, is_band, are_kinds, are_airports, are_counters, are_curfews, are_bands, are_rules, are_activities, are_tails, is_book, sums_fit, is_cost_table}
 use Rattle.tail_book.proofs.Deciding.{int_le_tested, same_test}
 
@@ -97,7 +96,7 @@ kind_tested t =
     Decides-like (is_kind t) (λ h. record { name = h.0; rate = h.1.0; turn = h.1.1 }) (λ r. (r.name, (r.rate, r.turn)))
     (Decides-and _ _ (same_test (is_name t.name)) (Decides-and _ _ (at_most_tested t.rate 300) (within_tested (pos 0) (pos 1440) t.turn)))
 
-airport_tested : (p : Airport) → Decides (is_airport p) (IsAirport p)
+airport_tested : (p : AirportSeen) → Decides (is_airport p) (IsAirport p)
 airport_tested p =
     Decides-like (is_airport p) (λ h. record { name = h.0; offset = h.1.0; turn = h.1.1 }) (λ r. (r.name, (r.offset, r.turn)))
     (Decides-and _ _ (same_test (is_name p.name)) (Decides-and _ _ (within_tested (negsuc 839) (pos 840) p.offset) (within_tested (pos 0) (pos 1440) p.turn)))
@@ -195,4 +194,4 @@ cost_table_tested table =
     let fly = all_tested (λ cost. nat_le cost table.fly_max) (λ cost. cost ≤ table.fly_max) (λ cost. at_most_tested cost table.fly_max) table.fly in
     let bands = all_tested (λ band. nat_le band.cost table.band_max) (λ band. band.cost ≤ table.band_max) (λ band. at_most_tested band.cost table.band_max) table.bands in
     Decides-like (is_cost_table table) (λ h. record { fly = h.0; bands = h.1.0; sums = h.1.1 }) (λ r. (r.fly, (r.bands, r.sums)))
-    (Decides-and _ _ fly (Decides-and _ _ bands (at_most_tested (table.n * 1000 * (greatest_cost_in table + 1) + 1000 * greatest_cost_in table) (2 ^ 61))))
+    (Decides-and _ _ fly (Decides-and _ _ bands (at_most_tested (table.n * box_end table + cost_unit * greatest_cost_in table) (2 ^ 61))))

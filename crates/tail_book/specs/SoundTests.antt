@@ -4,11 +4,10 @@ use Rattle.std.specs.Bool.{Decides}
 use Rattle.std.specs.List.{list_all}
 use Rattle.tail_book.specs.Name.{is_name}
 use Rattle.tail_book.specs.Numbers.{int_le}
-use Rattle.tail_book.specs.Seen.{ActivitySeen, TailSeen, CurfewSeen, CounterSeen, RulesSeen, BookSeen, CostTableSeen}
+use Rattle.tail_book.specs.Seen.{ActivitySeen, TailSeen, CurfewSeen, CounterSeen, AirportSeen, RulesSeen, BookSeen, CostTableSeen}
 use Rattle.tail_book.specs.Sound.{is_none_or_below, comes_before, IsBook}
-use Rattle.tail_book.specs.CostTable.{IsCostTable}
+use Rattle.tail_book.specs.CostTable.{cost_unit, IsCostTable}
 use Rattle.tail_book.specs.declared.rules.AircraftType.{AircraftType}
-use Rattle.tail_book.specs.declared.rules.Airport.{Airport}
 use Rattle.tail_book.specs.declared.rules.Band.{Band}
 use Rattle.tail_book.specs.declared.rules.CounterKind.{CounterKind}
 use Rattle.tail_book.specs.declared.rules.CounterKind.TheVariants.{Minutes, Landings, Days}
@@ -80,7 +79,7 @@ abbrev pub is_kind : AircraftType → Bool
 is_kind t = is_name t.name && (nat_le t.rate 300 && is_within (pos 0) (pos 1440) t.turn)
 
 -- an airport's local time is at most 14 hours from UTC
-abbrev pub is_airport : Airport → Bool
+abbrev pub is_airport : AirportSeen → Bool
 is_airport p = is_name p.name && (is_within (negsuc 839) (pos 840) p.offset && is_within (pos 0) (pos 1440) p.turn)
 
 -- a curfew of a book with these rules
@@ -114,7 +113,7 @@ abbrev pub are_kinds : List AircraftType → Bool
 are_kinds kinds = nat_le (length kinds) 20 && (list_all is_kind kinds && each_pair (λ a b. not (bytes_eq a.name b.name)) kinds)
 
 -- at most 200 airports, whose names differ
-abbrev pub are_airports : List Airport → Bool
+abbrev pub are_airports : List AirportSeen → Bool
 are_airports airports = nat_le (length airports) 200 && (list_all is_airport airports && each_pair (λ a b. not (bytes_eq a.name b.name)) airports)
 
 -- at most 6 counters, whose names differ
@@ -150,7 +149,7 @@ is_book book = are_rules book.rules && (are_tails book.rules book.tails && are_a
 
 -- no sum of thousandths of a table's costs and of duals passes 2^61
 abbrev pub sums_fit : ℕ → ℕ → Bool
-sums_fit n greatest = nat_le (n * 1000 * (greatest + 1) + 1000 * greatest) (2 ^ 61)
+sums_fit n greatest = nat_le (n * (cost_unit * (greatest + 1)) + cost_unit * greatest) (2 ^ 61)
 
 -- with costs for n activities each entry and each band is within its maximum, and so are the sums
 abbrev pub keeps_maxima : ℕ → List ℕ → List Band → ℕ → ℕ → Bool
