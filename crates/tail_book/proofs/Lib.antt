@@ -7,4 +7,5 @@ pub mod Costs
 pub mod TableCosts
 pub mod TableBounds
 pub mod Deciding
+pub mod Order
 pub mod Worked

@@ -17,3 +17,4 @@ pub mod Bounds
 pub mod Tests
 pub mod CostTable
 pub mod TableLaws
+pub mod Order

@@ -6,7 +6,13 @@ ghost use Rattle.tail_book.specs.Sound.{IsBook};
 ghost use Rattle.tail_book.specs.TableLaws.{OwnCostsAreForBook, OwnCostsOfActivities, OwnCostsOfConnections, OwnCostsOfRoutes, OwnCostsOfPlans, OwnCostsOfLegalPlans, LegalPlansCostAtMostIn};
 ghost use Rattle.tail_book.specs.Tests.{AllowedDecides, LinkDecides, LimitsDecide, LegalRouteDecides, LegalPlanDecides};
 
+mod order;
+
 use crate::Book;
+pub use order::{
+    each_at_most_chains, each_at_most_decides, each_at_most_itself, lower_stays_legal,
+    lower_stays_within, routes_keep_count, routes_keep_order, steps_keep_count, steps_keep_order,
+};
 
 /// What comes directly after an activity has a larger number.
 pub fn links_rise()
