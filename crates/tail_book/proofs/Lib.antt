@@ -8,4 +8,5 @@ pub mod TableCosts
 pub mod TableBounds
 pub mod Deciding
 pub mod Order
+pub mod OneMore
 pub mod Worked

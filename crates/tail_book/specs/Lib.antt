@@ -18,3 +18,4 @@ pub mod Tests
 pub mod CostTable
 pub mod TableLaws
 pub mod Order
+pub mod OneMore

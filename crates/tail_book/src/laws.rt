@@ -6,9 +6,14 @@ ghost use Rattle.tail_book.specs.Sound.{IsBook};
 ghost use Rattle.tail_book.specs.TableLaws.{OwnCostsAreForBook, OwnCostsOfActivities, OwnCostsOfConnections, OwnCostsOfRoutes, OwnCostsOfPlans, OwnCostsOfLegalPlans, LegalPlansCostAtMostIn};
 ghost use Rattle.tail_book.specs.Tests.{AllowedDecides, LinkDecides, LimitsDecide, LegalRouteDecides, LegalPlanDecides};
 
+mod one_more;
 mod order;
 
 use crate::Book;
+pub use one_more::{
+    cost_with_one_more, cost_with_one_more_in, counters_with_one_more, legal_with_one_more,
+    place_with_one_more, rising_with_one_more,
+};
 pub use order::{
     each_at_most_chains, each_at_most_decides, each_at_most_itself, lower_stays_legal,
     lower_stays_within, routes_keep_count, routes_keep_order, steps_keep_count, steps_keep_order,
