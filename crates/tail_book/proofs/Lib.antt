@@ -3,6 +3,7 @@ pub mod Timed
 pub mod Rise
 pub mod Flown
 pub mod Sums
+pub mod Partition
 pub mod Costs
 pub mod TableCosts
 pub mod TableBounds

@@ -19,3 +19,5 @@ pub mod CostTable
 pub mod TableLaws
 pub mod Order
 pub mod OneMore
+pub mod Sums
+pub mod Partition

@@ -8,6 +8,7 @@ ghost use Rattle.tail_book.specs.Tests.{AllowedDecides, LinkDecides, LimitsDecid
 
 mod one_more;
 mod order;
+mod sums;
 
 use crate::Book;
 pub use one_more::{
@@ -17,6 +18,10 @@ pub use one_more::{
 pub use order::{
     each_at_most_chains, each_at_most_decides, each_at_most_itself, lower_stays_legal,
     lower_stays_within, routes_keep_count, routes_keep_order, steps_keep_count, steps_keep_order,
+};
+pub use sums::{
+    legal_plans_fly_all, legal_plans_fly_the_book, legal_plans_partition, length_of_partition,
+    total_by_number, total_of_legal_plan, total_of_partition, total_of_routes, total_of_two_lists,
 };
 
 /// What comes directly after an activity has a larger number.
