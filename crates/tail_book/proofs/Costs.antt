@@ -62,7 +62,7 @@ connection_cost_most book sound k (After x) b =
     found IsBand (λ (n : ℕ). n ≤ 1_000_000) (λ band. band.cost) 0 (λ band h. h.cost) (omega arith)
     (λ band. int_le (gap book k (After x) b) band.upto) book.rules.bands sound.rules.bands
 
-route_most : (book : BookSeen) → IsBook book → (k : ℕ) (x : Place) (route : List ℕ) → All (λ a. a < activities book) route → cost_from book k x route ≤ 2000000 * length route
+pub route_most : (book : BookSeen) → IsBook book → (k : ℕ) (x : Place) (route : List ℕ) → All (λ a. a < activities book) route → cost_from book k x route ≤ 2000000 * length route
 route_most book sound k x [] below = omega arith
 route_most book sound k x (b ∷ rest) below =
     let a = activity_cost_most book sound k b (All-head (λ a. a < activities book) b rest below) in

@@ -10,4 +10,6 @@ pub mod TableBounds
 pub mod Deciding
 pub mod Order
 pub mod OneMore
+pub mod Along
+pub mod RouteBounds
 pub mod Worked

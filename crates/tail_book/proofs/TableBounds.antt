@@ -29,10 +29,10 @@ band_most table book sound k (After x) b =
     found (λ (band : Band). band.cost ≤ table.band_max) (λ (n : ℕ). n ≤ table.band_max) (λ band. band.cost) 0 (λ band h. h) (omega arith)
     (λ band. int_le (gap book k (After x) b) band.upto) table.bands sound.bands
 
-route_most : (table : CostTableSeen) (book : BookSeen) → IsCostTable table → (k : ℕ) (x : Place) (route : List ℕ) → cost_from_in table book k x route ≤ length route * most_each table
-route_most table book sound k x [] = omega arith
-route_most table book sound k x (b ∷ rest) =
-    added _ _ _ (length rest) table.fly_max table.band_max (entry_most table sound k b) (band_most table book sound k x b) (route_most table book sound k (After b) rest)
+pub route_most_in : (table : CostTableSeen) (book : BookSeen) → IsCostTable table → (k : ℕ) (x : Place) (route : List ℕ) → cost_from_in table book k x route ≤ length route * most_each table
+route_most_in table book sound k x [] = omega arith
+route_most_in table book sound k x (b ∷ rest) =
+    added _ _ _ (length rest) table.fly_max table.band_max (entry_most table sound k b) (band_most table book sound k x b) (route_most_in table book sound k (After b) rest)
   where
     added : (a c r n f m : ℕ) → a ≤ f → c ≤ m → r ≤ n * (f + m) → a + c + r ≤ suc n * (f + m)
     added a c r n f m h i j = omega (arith, h, i, j)
@@ -41,7 +41,7 @@ plan_most : (table : CostTableSeen) (book : BookSeen) → IsCostTable table → 
     → cost_of_routes_in table book k plan ≤ length (all_flown plan) * most_each table
 plan_most table book sound k [] = omega arith
 plan_most table book sound k (route ∷ plan) =
-    joined _ _ (length route) (length (all_flown plan)) _ (most_each table) (route_most table book sound k Carry route) (plan_most table book sound (k + 1) plan)
+    joined _ _ (length route) (length (all_flown plan)) _ (most_each table) (route_most_in table book sound k Carry route) (plan_most table book sound (k + 1) plan)
     (length-append route (flat_map (λ r. r) plan))
   where
     joined : (a b m n l c : ℕ) → a ≤ m * c → b ≤ n * c → l ≡ m + n → a + b ≤ l * c

@@ -19,5 +19,7 @@ pub mod CostTable
 pub mod TableLaws
 pub mod Order
 pub mod OneMore
+pub mod Along
 pub mod Sums
 pub mod Partition
+pub mod RouteBounds

@@ -6,11 +6,18 @@ ghost use Rattle.tail_book.specs.Sound.{IsBook};
 ghost use Rattle.tail_book.specs.TableLaws.{OwnCostsAreForBook, OwnCostsOfActivities, OwnCostsOfConnections, OwnCostsOfRoutes, OwnCostsOfPlans, OwnCostsOfLegalPlans, LegalPlansCostAtMostIn};
 ghost use Rattle.tail_book.specs.Tests.{AllowedDecides, LinkDecides, LimitsDecide, LegalRouteDecides, LegalPlanDecides};
 
+mod along;
+mod bounds;
 mod one_more;
 mod order;
 mod sums;
 
 use crate::Book;
+pub use along::{counters_along_step, legal_is_legal_along};
+pub use bounds::{
+    rising_routes_are_below, rising_routes_are_short, rising_routes_cost_at_most,
+    rising_routes_cost_at_most_in, routes_cost_at_most, routes_cost_at_most_in,
+};
 pub use one_more::{
     cost_with_one_more, cost_with_one_more_in, counters_with_one_more, legal_with_one_more,
     place_with_one_more, rising_with_one_more,
