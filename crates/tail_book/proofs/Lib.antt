@@ -1,7 +1,7 @@
 pub mod NameLemmas
 pub mod Timed
 pub mod Rise
-pub mod Flown
+pub mod FlownOnce
 pub mod Sums
 pub mod Partition
 pub mod Costs
@@ -12,4 +12,6 @@ pub mod Order
 pub mod OneMore
 pub mod Along
 pub mod RouteBounds
+pub mod RisingLists
+pub mod FlownTimes
 pub mod Worked

@@ -49,10 +49,10 @@ none_more : (b : Bool) (n : ℕ) → b ≡ false → cond b 1 0 + n ≡ n
 none_more true n e = absurd (both_ways true e refl)
 none_more false n e = omega arith
 
-count_same : (x : ℕ) (xs : List ℕ) → count_by (nat_eq x) (x ∷ xs) ≡ suc (count_by (nat_eq x) xs)
-count_same x xs = sum_by-cons (λ y. cond (nat_eq x y) 1 0) x xs ∙ one_more (nat_eq x x) _ (eq-eqb x x refl)
+pub count_here : (a x : ℕ) (xs : List ℕ) → a ≡ x → count_by (nat_eq a) (x ∷ xs) ≡ suc (count_by (nat_eq a) xs)
+count_here a x xs e = sum_by-cons (λ y. cond (nat_eq a y) 1 0) x xs ∙ one_more (nat_eq a x) _ (eq-eqb a x e)
 
-count_other : (a x : ℕ) (xs : List ℕ) → a ≢ x → count_by (nat_eq a) (x ∷ xs) ≡ count_by (nat_eq a) xs
+pub count_other : (a x : ℕ) (xs : List ℕ) → a ≢ x → count_by (nat_eq a) (x ∷ xs) ≡ count_by (nat_eq a) xs
 count_other a x xs ne = sum_by-cons (λ y. cond (nat_eq a y) 1 0) x xs ∙ none_more (nat_eq a x) _ (ne_eqb a x ne)
 
 turned : (v w : ℤ) → v +ℤ w ≡ w +ℤ v
@@ -63,7 +63,7 @@ counted n f [] below = sym (sum_below_zero n)
 counted n f (x ∷ xs) below =
     let rest = counted n f xs (All-tail (λ a. a < n) x xs below) in
     let more = sum_below_more n x (f x) (λ a. times (count_by (nat_eq a) xs) (f a)) (λ a. times (count_by (nat_eq a) (x ∷ xs)) (f a)) (All-head (λ a. a < n) x xs below)
-    (ap (λ c. times c (f x)) (count_same x xs) ∙ turned (f x) (times (count_by (nat_eq x) xs) (f x)))
+    (ap (λ c. times c (f x)) (count_here x x xs refl) ∙ turned (f x) (times (count_by (nat_eq x) xs) (f x)))
     (λ a ne. ap (λ c. times c (f a)) (count_other a x xs ne)) in
     omega (arith, ints, rest, more)
 

@@ -22,4 +22,5 @@ pub mod OneMore
 pub mod Along
 pub mod Sums
 pub mod Partition
+pub mod Flown
 pub mod RouteBounds

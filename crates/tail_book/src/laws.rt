@@ -8,6 +8,7 @@ ghost use Rattle.tail_book.specs.Tests.{AllowedDecides, LinkDecides, LimitsDecid
 
 mod along;
 mod bounds;
+mod flown;
 mod one_more;
 mod order;
 mod sums;
@@ -17,6 +18,10 @@ pub use along::{counters_along_step, legal_is_legal_along};
 pub use bounds::{
     rising_routes_are_below, rising_routes_are_short, rising_routes_cost_at_most,
     rising_routes_cost_at_most_in, routes_cost_at_most, routes_cost_at_most_in,
+};
+pub use flown::{
+    flown_is_count, flown_once_decides, flown_once_is_in_one_route, flown_with_one_more,
+    least_not_once_is_least, never_flown_is_nowhere, times_with_one_more_route,
 };
 pub use one_more::{
     cost_with_one_more, cost_with_one_more_in, counters_with_one_more, legal_with_one_more,
