@@ -14,4 +14,5 @@ pub mod Along
 pub mod RouteBounds
 pub mod RisingLists
 pub mod FlownTimes
+pub mod Fliers
 pub mod Worked

@@ -23,4 +23,5 @@ pub mod Along
 pub mod Sums
 pub mod Partition
 pub mod Flown
+pub mod Fliers
 pub mod RouteBounds

@@ -8,6 +8,7 @@ ghost use Rattle.tail_book.specs.Tests.{AllowedDecides, LinkDecides, LimitsDecid
 
 mod along;
 mod bounds;
+mod fliers;
 mod flown;
 mod one_more;
 mod order;
@@ -18,6 +19,10 @@ pub use along::{counters_along_step, legal_is_legal_along};
 pub use bounds::{
     rising_routes_are_below, rising_routes_are_short, rising_routes_cost_at_most,
     rising_routes_cost_at_most_in, routes_cost_at_most, routes_cost_at_most_in,
+};
+pub use fliers::{
+    fliers_fly, fliers_of_their_plan, plans_by_fliers_are_legal, plans_by_fliers_partition,
+    plans_of_their_fliers, routes_by_fliers_rise,
 };
 pub use flown::{
     flown_is_count, flown_once_decides, flown_once_is_in_one_route, flown_with_one_more,
