@@ -4,6 +4,7 @@
 mod carry;
 mod counting;
 mod reset;
+mod step_table;
 mod stepping;
 
 pub use carry::start;
