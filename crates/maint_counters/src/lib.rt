@@ -10,6 +10,7 @@ mod stepping;
 pub use carry::start;
 pub use counting::{amount, flown};
 pub use reset::cleared;
+pub use step_table::{ActivityRow, CounterRow, StepTable, step_by};
 pub use stepping::{step, step_one};
 
 #[cfg(test)]
