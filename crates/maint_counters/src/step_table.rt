@@ -12,7 +12,7 @@ ghost use Rattle.tail_book.specs.Numbers.{contains, int_le};
 ghost use Rattle.tail_book.specs.Counters.{step, WithinLimits};
 ghost use Rattle.tail_book.specs.Sound.{IsWithin, IsMoment};
 ghost use Rattle.tail_book.specs.Tests.{within_limits};
-ghost use Rattle.turn_rules.specs.InRange.{IsPlaceOf};
+ghost use Rattle.tail_book.specs.Place.{IsPlaceOf};
 ghost use Rattle.turn_rules.specs.FreeBefore.{IsFreeBefore};
 ghost use Rattle.turn_rules.specs.NumberSet.{has};
 ghost use Rattle.maint_counters.specs.Counts.{AreCounts, AreCountable, GrowByAStep};

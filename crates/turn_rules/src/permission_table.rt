@@ -8,7 +8,7 @@ ghost use Rattle.std.specs.List.{flat_map, range_with_len};
 ghost use Rattle.tail_book.specs.Lookup.{activities, aircraft};
 ghost use Rattle.tail_book.specs.Link.{IsLink};
 ghost use Rattle.tail_book.specs.Tests.{is_allowed, is_allowed_at, is_link};
-ghost use Rattle.turn_rules.specs.InRange.{IsPlaceOf};
+ghost use Rattle.tail_book.specs.Place.{IsPlaceOf};
 ghost use Rattle.turn_rules.specs.FreeBefore.{IsFreeBefore};
 ghost use Rattle.turn_rules.specs.CurfewTable.{AreCurfewsOf};
 ghost use Rattle.turn_rules.specs.PermissionTable.{ArePermissionsOf, allowed_to};
