@@ -1,7 +1,7 @@
 use Rattle.std.proofs.Common.{◌≡◌, rules}
 use Rattle.tail_book.specs.Lookup.{activities}
-use Rattle.plan_enumeration.proofs.Table.{permission_at, permissions_length}
-use Rattle.plan_enumeration.proofs.permissions.permissions_of.Goals as goal
+use Rattle.turn_rules.proofs.Permissions.{permission_at, permissions_length}
+use Rattle.turn_rules.proofs.permission_table.PermissionTable.of.Goals as goal
 
 pub returns : goal.returns
 returns c =

@@ -7,7 +7,7 @@ use Rattle.std.specs.List.{flat_map, range_with_len}
 use Rattle.tail_book.specs.Seen.{BookSeen}
 use Rattle.tail_book.specs.Lookup.{activities, aircraft}
 use Rattle.tail_book.specs.Tests.{is_allowed}
-use Rattle.plan_enumeration.specs.Permissions.{allowed_by}
+use Rattle.turn_rules.specs.PermissionTable.{allowed_to}
 
 -- one row more
 pub rows_more : {A : Type 0} (f : ℕ → List A) (s n j : ℕ) → s + n ≡ j → flat_map f (range_with_len s (suc n)) ≡ flat_map f (range_with_len s n) ++ f j
@@ -40,15 +40,15 @@ entry d f n each s (suc m) (suc k) a lt la =
     ap (λ i. get_or (f s ++ rest) i d) place ∙ get_or-append-add (f s) rest (k * n + a) d
     ∙ entry d f n each (s + 1) m k a (omega (arith, lt)) la ∙ ap (λ row. get_or row a d) same
 
-row_length : (book : BookSeen) (k : ℕ) → length (allowed_by book k) ≡ activities book
+row_length : (book : BookSeen) (k : ℕ) → length (allowed_to book k) ≡ activities book
 row_length book k = length-map-range_with_len (is_allowed book k) 0 (activities book)
 
-pub permissions_length : (book : BookSeen) → length (flat_map (allowed_by book) (range_with_len 0 (aircraft book))) ≡ activities book * aircraft book
-permissions_length book = rows_length (allowed_by book) (activities book) (row_length book) 0 (aircraft book)
+pub permissions_length : (book : BookSeen) → length (flat_map (allowed_to book) (range_with_len 0 (aircraft book))) ≡ activities book * aircraft book
+permissions_length book = rows_length (allowed_to book) (activities book) (row_length book) 0 (aircraft book)
 
 pub permission_at : (book : BookSeen) (k a : ℕ) → k < aircraft book → a < activities book
-    → get_or (flat_map (allowed_by book) (range_with_len 0 (aircraft book))) (k * activities book + a) false ≡ is_allowed book k a
+    → get_or (flat_map (allowed_to book) (range_with_len 0 (aircraft book))) (k * activities book + a) false ≡ is_allowed book k a
 permission_at book k a lk la =
-    let same : allowed_by book (0 + k) ≡ allowed_by book k = ap (allowed_by book) (omega arith) in
-    entry false (allowed_by book) (activities book) (row_length book) 0 (aircraft book) k a lk la ∙ ap (λ row. get_or row a false) same
+    let same : allowed_to book (0 + k) ≡ allowed_to book k = ap (allowed_to book) (omega arith) in
+    entry false (allowed_to book) (activities book) (row_length book) 0 (aircraft book) k a lk la ∙ ap (λ row. get_or row a false) same
     ∙ get_or-map-range_with_len (is_allowed book k) 0 (activities book) a a false la (omega arith)
