@@ -125,7 +125,7 @@ is_among a xs e = elim (cases_Bool (contains xs a)) [
   | inr f ↦ absurd (omega (arith, count_none a xs f, e))
 ]
 
-among_within : (m i : ℕ) (ks : List ℕ) → AllByRecursion (λ j. j < m) ks → contains ks i ≡ true → i < m
+pub among_within : (m i : ℕ) (ks : List ℕ) → AllByRecursion (λ j. j < m) ks → contains ks i ≡ true → i < m
 among_within m i [] all h = absurd (true≢false (sym h))
 among_within m i (k ∷ ks) all h = by (nat_eq i k) refl h (among_within m i ks all.1)
   where

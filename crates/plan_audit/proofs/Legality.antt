@@ -76,7 +76,7 @@ within-by leg c (counter ∷ counters) (value ∷ values) same e =
     first true e = refl
     first false e = cc
 
-step_width : (book : BookSeen) (k : ℕ) (x : Place) (b c : ℕ) (counters : List CounterSeen) (values : List ℤ) → length values ≡ length counters
+pub step_width : (book : BookSeen) (k : ℕ) (x : Place) (b c : ℕ) (counters : List CounterSeen) (values : List ℤ) → length values ≡ length counters
     → length (step_from book k x b c counters values) ≡ length counters
 step_width book k x b c [] values same = refl
 step_width book k x b c (counter ∷ counters) [] same = absurd (omega (arith, same))

@@ -9,3 +9,7 @@ mod Unbroken
 mod Deciding
 mod Converse
 mod Listed
+mod ToldLemmas
+mod KeptLegs
+mod ToldCounters
+mod Told
