@@ -11,5 +11,6 @@ mod Converse
 mod Listed
 mod ToldLemmas
 mod KeptLegs
+mod KeptRoutes
 mod ToldCounters
 mod Told
