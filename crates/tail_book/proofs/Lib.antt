@@ -8,3 +8,4 @@ pub mod TableCosts
 pub mod TableBounds
 pub mod Deciding
 pub mod Worked
+mod TruthLemmas

@@ -3,7 +3,7 @@
 ghost use Rattle.tail_book.specs.Rising.{LinksRise, LegalRoutesRise, EachIsFlownOnce};
 ghost use Rattle.tail_book.specs.Bounds.{ActivitiesCostAtMost, ConnectionsCostAtMost, LegalPlansCostAtMost};
 ghost use Rattle.tail_book.specs.Sound.{IsBook};
-ghost use Rattle.tail_book.specs.TableLaws.{OwnCostsAreForBook, OwnCostsOfActivities, OwnCostsOfConnections, OwnCostsOfRoutes, OwnCostsOfPlans, OwnCostsOfLegalPlans, LegalPlansCostAtMostIn};
+ghost use Rattle.tail_book.specs.TableLaws.{OwnCostsAreForBook, OwnCostsOfActivities, OwnCostsOfConnections, OwnCostsOfRoutes, OwnCostsOfPlans, OwnCostsOfLegalPlans, OwnCostsKeepClaims, OwnCostsKeepOutcomes, LegalPlansCostAtMostIn};
 ghost use Rattle.tail_book.specs.Tests.{AllowedDecides, LinkDecides, LimitsDecide, LegalRouteDecides, LegalPlanDecides};
 
 use crate::Book;
@@ -66,6 +66,16 @@ pub fn own_costs_of_plans()
 /// By the book's own costs a legal plan costs what the book says.
 pub fn own_costs_of_legal_plans()
     ensures { OwnCostsOfLegalPlans }
+{}
+
+/// A claim is true by the book's own costs exactly where it is true of the book.
+pub fn own_costs_keep_claims()
+    ensures { OwnCostsKeepClaims }
+{}
+
+/// An answer is true by the book's own costs exactly where it is true of the book.
+pub fn own_costs_keep_outcomes()
+    ensures { OwnCostsKeepOutcomes }
 {}
 
 /// By a table a legal plan costs at most what its maxima say of each activity.
