@@ -9,10 +9,10 @@ use Rattle.tail_book.specs.Curfew.{is_curfewed}
 use Rattle.tail_book.specs.Plan.{route_of}
 use Rattle.tail_book.specs.Route.{counters_after, place_after}
 use Rattle.tail_book.specs.Sound.{IsBook}
+use Rattle.tail_book.specs.Tests.{is_permitted, is_connected}
 use Rattle.plan_audit.specs.declared.broken.Broken.{Broken}
 use Rattle.plan_audit.specs.declared.broken.Broken.TheVariants as rule
 use Rattle.plan_audit.specs.Kept.{kept}
-use Rattle.plan_audit.specs.Rules.{is_permitted, is_connected}
 use Rattle.plan_audit.specs.Broken.{broken}
 
 -- the audit of a plan has this line
