@@ -20,13 +20,13 @@ use Rattle.tail_book.specs.Route.{IsLegalFrom, IsLegalRoute}
 use Rattle.tail_book.specs.Plan.{times_flown, route_of, IsLegalPlan}
 use Rattle.tail_book.specs.Tests.{is_allowed, is_allowed_at, is_link, within_limits, is_legal_from, is_legal_route, are_legal_below, are_flown_once_below, is_legal_plan}
 
-always : Decides true ⊤
+pub always : Decides true ⊤
 always = ((λ h. tt), (λ h. refl))
 
-never : Decides false ⊥
+pub never : Decides false ⊥
 never = ((λ h. both_ways false refl h), (λ h. absurd h))
 
-same_test : (b : Bool) → Decides b (b ≡ true)
+pub same_test : (b : Bool) → Decides b (b ≡ true)
 same_test b = ((λ h. h), (λ h. h))
 
 none_test : (b : Bool) → Decides (not b) (b ≡ false)

@@ -69,7 +69,7 @@ one_route test a has (route ∷ plan) (suc k) once some here =
     ]
 
 -- who flies an activity that is flown
-contained_from_count : (route : List ℕ) (a : ℕ) → 1 ≤ count_by (nat_eq a) route → contains route a ≡ true
+pub contained_from_count : (route : List ℕ) (a : ℕ) → 1 ≤ count_by (nat_eq a) route → contains route a ≡ true
 contained_from_count [] a h = absurd (omega (arith, h))
 contained_from_count (x ∷ rest) a h = elim (cases_Bool (nat_eq a x)) [
   | inl t ↦ or_left (nat_eq a x) (contains rest a) t
@@ -81,11 +81,11 @@ contained_from_count (x ∷ rest) a h = elim (cases_Bool (nat_eq a x)) [
     none_of true n all f e h = absurd (both_ways true f refl)
     none_of false n all f e h = omega arith
 
-pub flier : (plan : List (List ℕ)) (a : ℕ) → 1 ≤ times_flown plan a → (k : ℕ) × (k < length plan) × (contains (route_of plan k) a ≡ true)
-flier [] a h = absurd (omega (arith, h))
-flier (route ∷ plan) a h = elim (cases_Bool (contains route a)) [
+pub someone_flies : (plan : List (List ℕ)) (a : ℕ) → 1 ≤ times_flown plan a → (k : ℕ) × (k < length plan) × (contains (route_of plan k) a ≡ true)
+someone_flies [] a h = absurd (omega (arith, h))
+someone_flies (route ∷ plan) a h = elim (cases_Bool (contains route a)) [
   | inl t ↦ (0, omega arith, t)
-  | inr f ↦ (let rest = flier plan a (others f) in (suc rest.0, omega (arith, rest.1), rest.2))
+  | inr f ↦ (let rest = someone_flies plan a (others f) in (suc rest.0, omega (arith, rest.1), rest.2))
 ]
   where
     others : contains route a ≡ false → 1 ≤ times_flown plan a
