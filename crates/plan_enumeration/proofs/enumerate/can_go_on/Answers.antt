@@ -1,7 +1,7 @@
-use Rattle.std.proofs.Common.{arith, subst}
+use Rattle.std.proofs.Common.{arith, refl, subst}
 use Rattle.tail_book.specs.declared.place.Place.{Place}
 use Rattle.plan_enumeration.specs.Enumeration.{HasRow}
-use Rattle.plan_enumeration.proofs.Trials.{goes_on_back, goes_on_from, place_is_before, place_of_book, values_are_small}
+use Rattle.plan_enumeration.proofs.Trials.{agrees_before, goes_on_back, goes_on_from, place_is_before, place_of_book, values_are_small}
 use Rattle.plan_enumeration.proofs.enumerate.can_go_on.Goals as goal
 
 pub link_by-requires-clause-place : goal.link_by-requires-clause-place
@@ -31,3 +31,10 @@ returns-then-link_by-clause-exact c = (
       c.place_of-from.ensures (c.link_by.ensures.means.0 c.if-link_by.true) (c.step_values.ensures.limits.0 fits)),
   (λ goes. c.step_values.ensures.limits.1 (goes_on_back c.args.book.now c.args.a c.args.trial.now c.requires.trial c.args.k c.place_of-from.result c.requires.aircraft c.requires.activity c.place_of-from.ensures goes).1),
 )
+
+pub returns-then-links-clause-agrees : goal.returns-then-links-clause-agrees
+returns-then-links-clause-agrees c = record {
+  fliers = refl;
+  places = refl;
+  values = agrees_before c.args.book.now c.args.a c.args.trial.now c.requires.trial c.requires.activity _ c.step_values.new.values.items c.step_values.ensures.wide c.step_values.ensures.row;
+}
