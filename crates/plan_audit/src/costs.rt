@@ -3,7 +3,7 @@
 ghost use Rattle.std.specs.Prelude.{◌≡◌, ◌<◌, ◌≤◌, ◌^◌, All};
 ghost use Rattle.tail_book.specs.Lookup.{activities, aircraft};
 ghost use Rattle.tail_book.specs.Cost.{activity_cost, band_cost, connection_cost};
-ghost use Rattle.turn_rules.specs.InRange.{IsPlaceOf};
+ghost use Rattle.tail_book.specs.Place.{IsPlaceOf};
 ghost use Rattle.plan_audit.specs.Kept.{IsLegOf};
 ghost use Rattle.plan_audit.specs.LegCost.{leg_cost, legs_cost};
 

@@ -4,7 +4,7 @@ ghost use Rattle.std.specs.Prelude.{◌≡◌, ◌<◌, ◌≤◌, ◌+◌};
 ghost use Rattle.tail_book.specs.Lookup.{activities, aircraft};
 ghost use Rattle.tail_book.specs.Cost.{activity_cost, band_cost, connection_cost};
 ghost use Rattle.tail_book.specs.CostTable.{IsTableFor, activity_cost_in, connection_cost_in, costs_of};
-ghost use Rattle.turn_rules.specs.InRange.{IsPlaceOf};
+ghost use Rattle.tail_book.specs.Place.{IsPlaceOf};
 
 use tail_book::{Band, Book, CostTable, Place, laws};
 use turn_rules::gap;

@@ -17,7 +17,7 @@ ghost use Rattle.plan_enumeration.specs.Enumeration.{Advances, AgreesBelow, HasR
 ghost use Rattle.plan_enumeration.specs.Decided.{IsDecided};
 ghost use Rattle.plan_enumeration.specs.Tables.{AreTablesOf};
 ghost use Rattle.turn_rules.specs.FreeBefore.{IsFreeBefore};
-ghost use Rattle.turn_rules.specs.InRange.{IsPlaceOf};
+ghost use Rattle.tail_book.specs.Place.{IsPlaceOf};
 
 use crate::cost::going_cost;
 use crate::permissions::links;

@@ -5,7 +5,7 @@ ghost use Rattle.std.specs.List.{flat_map, range_with_len};
 ghost use Rattle.tail_book.specs.Lookup.{activities, aircraft};
 ghost use Rattle.tail_book.specs.Link.{IsLink};
 ghost use Rattle.tail_book.specs.Tests.{is_allowed, is_allowed_at};
-ghost use Rattle.turn_rules.specs.InRange.{IsPlaceOf};
+ghost use Rattle.tail_book.specs.Place.{IsPlaceOf};
 ghost use Rattle.turn_rules.specs.FreeBefore.{IsFreeBefore};
 ghost use Rattle.plan_enumeration.specs.Permissions.{ArePermissions, allowed_by};
 

@@ -14,7 +14,8 @@ use Rattle.tail_book.specs.Numbers.{contains}
 use Rattle.tail_book.specs.Lookup.{activities, aircraft, carry_of}
 use Rattle.tail_book.specs.Route.{IsLegalRoute}
 use Rattle.tail_book.specs.Plan.{times_flown, route_of, IsLegalPlan}
-use Rattle.tail_book.specs.Rising.{IsBefore, IsRisingFrom}
+use Rattle.tail_book.specs.Place.{IsBefore}
+use Rattle.tail_book.specs.Rising.{IsRisingFrom}
 use Rattle.tail_book.specs.Sound.{IsBook}
 use Rattle.tail_book.specs.Sums.{IsPartition}
 use Rattle.tail_book.specs.Partition.{all_flown}

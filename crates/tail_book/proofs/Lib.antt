@@ -15,4 +15,6 @@ pub mod RouteBounds
 pub mod RisingLists
 pub mod FlownTimes
 pub mod Fliers
+pub mod Renumbered
 pub mod Worked
+mod TruthLemmas

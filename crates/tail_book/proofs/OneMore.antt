@@ -10,7 +10,8 @@ use Rattle.tail_book.specs.Counters.{step, WithinLimits}
 use Rattle.tail_book.specs.Route.{IsLegalFrom, IsLegalRoute, counters_from, place_after}
 use Rattle.tail_book.specs.Cost.{activity_cost, connection_cost, cost_from}
 use Rattle.tail_book.specs.CostTable.{activity_cost_in, connection_cost_in, cost_from_in}
-use Rattle.tail_book.specs.Rising.{IsBefore, IsRisingFrom}
+use Rattle.tail_book.specs.Place.{IsBefore}
+use Rattle.tail_book.specs.Rising.{IsRisingFrom}
 use Rattle.tail_book.specs.OneMore.{GoesOnWith}
 
 pub place_more : (x : Place) (route : List ℕ) (b : ℕ) → place_after x (route ++ b ∷ []) ≡ After b
@@ -62,6 +63,6 @@ module _ (book : BookSeen) (k : ℕ) (b : ℕ) where
   pub legal_more : (route : List ℕ) → IsLegalRoute book k (route ++ b ∷ []) ↔ GoesOnWith book k route b
   legal_more route =
       let whole = legal_from_more Carry (carry_of book k) route in (
-        (λ h. let r = whole.0 h in record { before = r.0; activity = r.1.0; link = r.1.1; within = r.1.2 }),
-        (λ g. whole.1 (g.before, (g.activity, g.link, g.within))),
+        (λ h. let r = whole.0 h in record { before = r.0; link = r.1.1; within = r.1.2 }),
+        (λ g. whole.1 (g.before, (g.link.after.activity, g.link, g.within))),
       )

@@ -100,10 +100,10 @@ rows_most book sound s zero = λ i d lt. absurd (omega (arith, lt))
 rows_most book sound s (suc m) = All-append (λ c. c ≤ 1_000_000) _ _ (row_most book sound s) (rows_most book sound (s + 1) m)
 
 -- 4,000 activities at two million each, in thousandths
-sums_most : (n : ℕ) → n ≤ 4000 → n * 1000 * (n * (1_000_000 + 1_000_000) + 1) + 1000 * (n * (1_000_000 + 1_000_000)) ≤ 2 ^ 61
+sums_most : (n : ℕ) → n ≤ 4000 → n * (1000 * (n * (1_000_000 + 1_000_000) + 1)) + 1000 * (n * (1_000_000 + 1_000_000)) ≤ 2 ^ 61
 sums_most n few =
     let squared : n * n ≤ 4000 * 4000 = mul-le-mul few few in
-    spread n (n * n) (n * 1000 * (n * 2_000_000 + 1)) few squared (omega arith)
+    spread n (n * n) (n * (1000 * (n * 2_000_000 + 1))) few squared (omega arith)
   where
     spread : (n s p : ℕ) → n ≤ 4000 → s ≤ 16_000_000 → p ≡ 2_000_000_000 * s + 1000 * n → p + 1000 * (n * (1_000_000 + 1_000_000)) ≤ 2 ^ 61
     spread n s p few squared e = omega arith

@@ -9,11 +9,11 @@ use Rattle.tail_book.specs.declared.rules.CounterKind.{CounterKind}
 use Rattle.tail_book.specs.declared.rules.CounterKind.TheVariants.{Minutes, Landings, Days}
 use Rattle.tail_book.specs.Counters.{step}
 use Rattle.tail_book.specs.Cost.{plan_cost}
-use Rattle.tail_book.specs.CostTable.{activity_cost_in, costs_of, plan_cost_in}
+use Rattle.tail_book.specs.CostTable.{activity_cost_in, box_end, costs_of, plan_cost_in}
 use Rattle.tail_book.specs.Curfew.{is_curfewed}
 use Rattle.tail_book.specs.Link.{gap}
 use Rattle.tail_book.specs.Route.{counters_after}
-use Rattle.tail_book.specs.Tests.{is_legal_plan, is_legal_route, is_link}
+use Rattle.tail_book.specs.Tests.{is_allowed, is_legal_plan, is_legal_route, is_link}
 
 -- a minute of 2025-03-03 UTC
 abbrev at : ℕ → ℤ
@@ -62,6 +62,26 @@ turned_cost = refl
 
 nothing_left_out : is_legal_plan (turning 30) ((0 ∷ []) ∷ []) ≡ false
 nothing_left_out = refl
+
+-- numbers past the end: neither an activity nor an aircraft that the book does not have is allowed or linked
+no_such_activity_is_allowed : is_allowed (turning 30) 0 2 ≡ false
+no_such_activity_is_allowed = refl
+
+no_such_aircraft_is_allowed : is_allowed (turning 30) 1 0 ≡ false
+no_such_aircraft_is_allowed = refl
+
+no_link_to_no_such_activity : is_link (turning 30) 0 Carry 5 ≡ false
+no_link_to_no_such_activity = refl
+
+no_link_from_no_such_activity : is_link (turning 30) 0 (After 2) 1 ≡ false
+no_link_from_no_such_activity = refl
+
+no_link_of_no_such_aircraft : is_link (turning 30) 1 Carry 0 ≡ false
+no_link_of_no_such_aircraft = refl
+
+-- two activities of at most two million each, and one more, in thousandths
+box_of_two_activities : box_end (costs_of (turning 30)) ≡ 4_000_001_000
+box_of_two_activities = refl
 
 -- a turn a minute longer
 turn_is_missed : is_link (turning 31) 0 (After 0) 1 ≡ false

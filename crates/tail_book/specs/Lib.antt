@@ -4,18 +4,19 @@ pub mod Seen
 pub mod Numbers
 pub mod Sound
 pub mod Lookup
+pub mod Place
 pub mod Curfew
 pub mod Allowed
 pub mod Link
 pub mod Counters
 pub mod Route
 pub mod Cost
+pub mod CostTable
 pub mod Plan
 pub mod Truth
 pub mod Rising
 pub mod Bounds
 pub mod Tests
-pub mod CostTable
 pub mod TableLaws
 pub mod Order
 pub mod OneMore
@@ -24,4 +25,5 @@ pub mod Sums
 pub mod Partition
 pub mod Flown
 pub mod Fliers
+pub mod Renumbered
 pub mod RouteBounds

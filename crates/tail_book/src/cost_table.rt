@@ -1,10 +1,10 @@
 //! What flying costs, as a table: an entry for each aircraft and activity, and the bands of connection costs.
 
-ghost use Rattle.std.specs.Prelude.{◌≡◌, ◌<◌, ◌≤◌, ◌++◌, IfOk, unsigned_abs};
+ghost use Rattle.std.specs.Prelude.{◌≡◌, ◌<◌, ◌≤◌, ◌*◌, ◌^◌, ◌++◌, IfOk, length, pos, unsigned_abs};
 ghost use Rattle.tail_book.specs.Lookup.{activities, aircraft};
-ghost use Rattle.tail_book.specs.Cost.{activity_cost};
+ghost use Rattle.tail_book.specs.Cost.{activity_cost, band_cost};
 ghost use Rattle.tail_book.specs.Counters.{flown};
-ghost use Rattle.tail_book.specs.CostTable.{activity_costs, costs_of};
+ghost use Rattle.tail_book.specs.CostTable.{activity_cost_in, activity_costs, box_end, costs_of, greatest_cost_in};
 
 use crate::{Band, Book, Memory, laws};
 use std::alloc::Global;
@@ -34,6 +34,9 @@ impl Model for CostTable {
     ghost invariant = { λ t. IsCostTable (record { n = t.n; m = t.m; fly = t.fly.items; bands = t.bands.items; fly_max = t.fly_max; band_max = t.band_max }) };
 }
 
+/// Thousandths in a cost unit: duals and reduced costs are counted in these.
+pub const COST_UNIT: u64 = 1000;
+
 // What an entry, and a band, of a book cost at most.
 const COST_MAX: u64 = 1_000_000;
 
@@ -56,6 +59,57 @@ impl CostTable {
             band_max: COST_MAX,
         })
     }
+}
+
+impl CostTable {
+    /// What an activity costs an aircraft, in cost units.
+    pub fn activity_cost(&self, k: u32, a: u32) -> u64
+        requires aircraft { k < self.now.m }
+        requires activity { a < self.now.n }
+        requires entries { length self.now.fly ≡ self.now.n * self.now.m }
+        ensures value { result ≡ activity_cost_in self.now k a }
+        ensures most { result ≤ self.now.fly_max }
+    {
+        self.fly[k as usize * self.n + a as usize]
+    }
+
+    /// What a connection of so many minutes on the ground costs, in cost units.
+    pub fn connection_cost(&self, minutes: i64) -> u64
+        ensures value { result ≡ band_cost self.now.bands minutes }
+        ensures most { result ≤ self.now.band_max }
+    {
+        band_cost(&self.bands, minutes)
+    }
+
+    /// The number that bounds the cost of every legal plan, in cost units.
+    pub fn greatest_cost(&self) -> u64
+        ensures value { result ≡ greatest_cost_in self.now }
+        ensures most { 1000 * result ≤ 2 ^ 61 }
+    {
+        if self.n == 0 {
+            return 0;
+        }
+        self.n as u64 * (self.fly_max + self.band_max)
+    }
+
+    /// The ends of the box of duals, in thousandths of a cost unit.
+    pub fn box_end(&self) -> i64
+        ensures { result ≡ pos (box_end self.now) }
+    {
+        (COST_UNIT * (self.greatest_cost() + 1)) as i64
+    }
+}
+
+/// The cost of the first band, in the table's order, that reaches so many minutes, and 0 where none does.
+pub fn band_cost(bands: &[Band], minutes: i64) -> u64
+    ensures { result ≡ band_cost bands.now minutes }
+{
+    for band in bands {
+        if minutes <= band.upto {
+            return band.cost;
+        }
+    }
+    0
 }
 
 // Minutes flown in an activity.

@@ -4,6 +4,7 @@
 mod activity;
 mod aircraft;
 mod book;
+mod claim;
 mod cost_table;
 mod flown;
 pub mod laws;
@@ -18,7 +19,8 @@ mod rules;
 pub use activity::Activity;
 pub use aircraft::Tail;
 pub use book::Book;
-pub use cost_table::CostTable;
+pub use claim::Claim;
+pub use cost_table::{COST_UNIT, CostTable, band_cost};
 pub use flown::Flown;
 pub use memory::Memory;
 pub use name::Name;

@@ -9,7 +9,7 @@ ghost use Rattle.tail_book.specs.Numbers.{int_le};
 ghost use Rattle.tail_book.specs.Link.{IsLink, port, free_from, gap, turn_time};
 ghost use Rattle.tail_book.specs.Sound.{IsWithin, IsMoment};
 ghost use Rattle.tail_book.specs.Tests.{is_link, is_allowed_at};
-ghost use Rattle.turn_rules.specs.InRange.{IsPlaceOf};
+ghost use Rattle.tail_book.specs.Place.{IsPlaceOf};
 ghost use Rattle.turn_rules.specs.FreeBefore.{IsFreeBefore};
 
 use crate::permission::allowed;
