@@ -26,7 +26,7 @@ always = ((λ h. tt), (λ h. refl))
 pub never : Decides false ⊥
 never = ((λ h. both_ways false refl h), (λ h. absurd h))
 
-same_test : (b : Bool) → Decides b (b ≡ true)
+pub same_test : (b : Bool) → Decides b (b ≡ true)
 same_test b = ((λ h. h), (λ h. h))
 
 none_test : (b : Bool) → Decides (not b) (b ≡ false)

@@ -18,3 +18,4 @@ pub mod Fliers
 pub mod Renumbered
 pub mod Worked
 mod TruthLemmas
+pub mod SoundTested

@@ -18,6 +18,7 @@ pub mod Rising
 pub mod Bounds
 pub mod Tests
 pub mod TableLaws
+pub mod SoundTests
 pub mod Order
 pub mod OneMore
 pub mod Along

@@ -4,6 +4,7 @@ ghost use Rattle.tail_book.specs.Rising.{LinksRise, LegalRoutesRise, EachIsFlown
 ghost use Rattle.tail_book.specs.Bounds.{ActivitiesCostAtMost, ConnectionsCostAtMost, LegalPlansCostAtMost};
 ghost use Rattle.tail_book.specs.Sound.{IsBook};
 ghost use Rattle.tail_book.specs.TableLaws.{OwnCostsAreForBook, OwnCostsOfActivities, OwnCostsOfConnections, OwnCostsOfRoutes, OwnCostsOfPlans, OwnCostsOfLegalPlans, OwnCostsKeepClaims, OwnCostsKeepOutcomes, LegalPlansCostAtMostIn};
+ghost use Rattle.tail_book.specs.SoundTests.{BookDecides, CostTableDecides};
 ghost use Rattle.tail_book.specs.Tests.{AllowedDecides, LinkDecides, LimitsDecide, LegalRouteDecides, LegalPlanDecides};
 
 mod along;
@@ -144,6 +145,16 @@ pub fn legal_route_decides()
 /// Whether a plan is legal is decided by a test.
 pub fn legal_plan_decides()
     ensures { LegalPlanDecides }
+{}
+
+/// What every book keeps is decided by a test.
+pub fn book_decides()
+    ensures { BookDecides }
+{}
+
+/// What every cost table keeps is decided by a test.
+pub fn cost_table_decides()
+    ensures { CostTableDecides }
 {}
 
 /// Every book keeps the order, the ranges and the limits of `IsBook`.

@@ -15,6 +15,7 @@ mod place;
 mod plan;
 mod raw_plan;
 mod rules;
+mod sound;
 
 pub use activity::Activity;
 pub use aircraft::Tail;
