@@ -17,5 +17,6 @@ pub mod FlownTimes
 pub mod Fliers
 pub mod Renumbered
 pub mod Worked
+pub mod WorkedRoutes
 mod TruthLemmas
 pub mod SoundTested
