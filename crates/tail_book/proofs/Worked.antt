@@ -7,6 +7,7 @@ use Rattle.tail_book.specs.declared.rules.AircraftType.{AircraftType}
 use Rattle.tail_book.specs.declared.rules.Band.{Band}
 use Rattle.tail_book.specs.declared.rules.CounterKind.{CounterKind}
 use Rattle.tail_book.specs.declared.rules.CounterKind.TheVariants.{Minutes, Landings, Days}
+use Rattle.tail_book.specs.Along.{counters_along}
 use Rattle.tail_book.specs.Counters.{step}
 use Rattle.tail_book.specs.Cost.{plan_cost}
 use Rattle.tail_book.specs.CostTable.{activity_cost_in, box_end, costs_of, plan_cost_in}
@@ -150,6 +151,16 @@ cleared_at_base = refl
 
 counted_again : counters_after (hours 120 570) 0 (0 ∷ 1 ∷ 2 ∷ 3 ∷ []) ≡ pos 120 ∷ []
 counted_again = refl
+
+-- along the same route: at the carry-in, and after its first and second activity
+along_at_carry_in : counters_along (hours 120 570) 0 (0 ∷ 1 ∷ 2 ∷ 3 ∷ []) 0 ≡ pos 0 ∷ []
+along_at_carry_in = refl
+
+along_after_one : counters_along (hours 120 570) 0 (0 ∷ 1 ∷ 2 ∷ 3 ∷ []) 1 ≡ pos 60 ∷ []
+along_after_one = refl
+
+along_after_two : counters_along (hours 120 570) 0 (0 ∷ 1 ∷ 2 ∷ 3 ∷ []) 2 ≡ pos 120 ∷ []
+along_after_two = refl
 
 cleared_plan : is_legal_plan (hours 120 570) ((0 ∷ 1 ∷ 2 ∷ 3 ∷ []) ∷ []) ≡ true
 unfolding is_link is_connected is_allowed is_permitted
