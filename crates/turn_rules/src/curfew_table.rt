@@ -44,8 +44,7 @@ fn is_shut(book: &Book, curfew: &Curfew, port: u32, moment: i64) -> bool
     requires moment { IsMoment moment }
     ensures { result ≡ is_shut book.now curfew.now port moment }
 {
-    curfew.airport == port
-        && in_window(curfew.from, curfew.to, local_minute(book, port, moment))
+    curfew.airport == port && in_window(curfew.from, curfew.to, local_minute(book, port, moment))
 }
 
 // Whether an activity starts in a curfew's hours.

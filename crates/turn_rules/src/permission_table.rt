@@ -13,7 +13,7 @@ ghost use Rattle.turn_rules.specs.FreeBefore.{IsFreeBefore};
 ghost use Rattle.turn_rules.specs.CurfewTable.{AreCurfewsOf};
 ghost use Rattle.turn_rules.specs.PermissionTable.{ArePermissionsOf, allowed_to};
 
-use crate::connection::{is_in_time, is_there};
+use crate::connection::connected;
 use crate::curfew_table::CurfewTable;
 use crate::permission::allowed_by;
 use std::alloc::Global;
@@ -86,7 +86,7 @@ fn permits_at(book: &Book, permissions: &PermissionTable, k: u32, from: Place) -
 }
 
 /// Whether an activity may come directly after a place of an aircraft, by the book's table of who may fly what.
-#[tactic(auto, unfolding(tail_book::specs::Tests::is_link, tail_book::specs::Tests::is_connected))]
+#[tactic(auto, unfolding(tail_book::specs::Tests::is_link))]
 pub fn link_by(book: &Book, permissions: &PermissionTable, k: u32, from: Place, b: u32) -> bool
     requires permissions { ArePermissionsOf book.now permissions.now }
     requires aircraft { k < aircraft book.now }
@@ -97,8 +97,7 @@ pub fn link_by(book: &Book, permissions: &PermissionTable, k: u32, from: Place, 
     ensures forward { IsTrue result → IsFreeBefore book.now k from b }
 {
     link_decides();
-    is_there(book, k, from, b)
-        && is_in_time(book, k, from, b)
+    connected(book, k, from, b)
         && permits_at(book, permissions, k, from)
         && permits(book, permissions, k, b)
 }

@@ -64,12 +64,7 @@ fn flight(alloc: Global, id: Name, leg: (u32, u32), time: (i64, i64)) -> Activit
 }
 
 // The same activity, asking for types, tags and an aircraft.
-fn asking(
-    mut activity: Activity,
-    types: Vec<u32>,
-    tags: Vec<u32>,
-    tail: Option<u32>,
-) -> Activity {
+fn asking(mut activity: Activity, types: Vec<u32>, tags: Vec<u32>, tail: Option<u32>) -> Activity {
     activity.types = types;
     activity.tags = tags;
     activity.tail = tail;
@@ -147,9 +142,21 @@ fn small_rules(alloc: Global) -> Result<Rules, Memory> {
         kind(Name::new(b"E190".as_slice()), 20),
     ]?;
     let airports = vec![in alloc;
-        Airport { name: Name::new(b"ARN".as_slice()), offset: 60, turn: 30 },
-        Airport { name: Name::new(b"OSL".as_slice()), offset: 60, turn: 30 },
-        Airport { name: Name::new(b"JFK".as_slice()), offset: -300, turn: 60 },
+        Airport {
+            name: Name::new(b"ARN".as_slice()),
+            offset: 60,
+            turn: 30
+        },
+        Airport {
+            name: Name::new(b"OSL".as_slice()),
+            offset: 60,
+            turn: 30
+        },
+        Airport {
+            name: Name::new(b"JFK".as_slice()),
+            offset: -300,
+            turn: 60
+        },
     ]?;
     Ok(rules(alloc, kinds, airports, small_curfews(alloc)?))
 }
@@ -175,7 +182,13 @@ fn small_activities(alloc: Global) -> Result<Vec<Activity>, Memory> {
     let both = vec![in alloc; A320, E190]?;
     Ok(vec![in alloc;
         flight(alloc, Name::new(b"F1".as_slice()), (ARN, OSL), (360, 420)),
-        activity(alloc, Name::new(b"G1".as_slice()), false, (OSL, OSL), (421, 441)),
+        activity(
+            alloc,
+            Name::new(b"G1".as_slice()),
+            false,
+            (OSL, OSL),
+            (421, 441)
+        ),
         flight(alloc, Name::new(b"F2".as_slice()), (OSL, ARN), (449, 509)),
         flight(alloc, Name::new(b"F3".as_slice()), (OSL, ARN), (450, 510)),
         flight(alloc, Name::new(b"F4".as_slice()), (OSL, JFK), (460, 900)),

@@ -2,7 +2,7 @@
 
 ghost use Rattle.std.specs.Prelude.{◌<◌};
 
-use super::{asking, activity, kind, rules, tail};
+use super::{activity, asking, kind, rules, tail};
 use crate::*;
 use std::alloc::Global;
 use std::process::Abort;
@@ -85,25 +85,42 @@ fn three_tails(alloc: Global, dice: &mut Dice) -> Result<Vec<Tail>, Memory> {
         Name::new(b"A3".as_slice()),
     ] {
         let (place, tags) = ((dice.below(3), 0), dice.few(alloc)?);
-        let avoid = if dice.below(3) == 0 { dice.few(alloc)? } else { Vec::new(alloc) };
+        let avoid = if dice.below(3) == 0 {
+            dice.few(alloc)?
+        } else {
+            Vec::new(alloc)
+        };
         tails.push(tail(alloc, name, dice.below(3), place, tags, avoid))?;
     }
     Ok(tails)
 }
 
-fn an_activity(
-    alloc: Global,
-    dice: &mut Dice,
-    name: Name,
-    start: i64,
-) -> Result<Activity, Memory> {
+fn an_activity(alloc: Global, dice: &mut Dice, name: Name, start: i64) -> Result<Activity, Memory> {
     let (from, to, minutes) = (dice.below(3), dice.below(3), 1 + dice.below(600) as i64);
     let flight = dice.below(4) > 0;
     let leg = if flight { (from, to) } else { (from, from) };
-    let made = activity(alloc, name, flight, leg, (start, start.saturating_add(minutes)));
-    let types = if dice.below(2) == 0 { dice.few(alloc)? } else { Vec::new(alloc) };
-    let tags = if dice.below(4) == 0 { dice.few(alloc)? } else { Vec::new(alloc) };
-    let tail = if dice.below(4) == 0 { Some(dice.below(3)) } else { None };
+    let made = activity(
+        alloc,
+        name,
+        flight,
+        leg,
+        (start, start.saturating_add(minutes)),
+    );
+    let types = if dice.below(2) == 0 {
+        dice.few(alloc)?
+    } else {
+        Vec::new(alloc)
+    };
+    let tags = if dice.below(4) == 0 {
+        dice.few(alloc)?
+    } else {
+        Vec::new(alloc)
+    };
+    let tail = if dice.below(4) == 0 {
+        Some(dice.below(3))
+    } else {
+        None
+    };
     Ok(asking(made, types, tags, tail))
 }
 
@@ -143,7 +160,11 @@ fn compare(rt: &impl Abort, alloc: Global, book: &Book) -> Result<(u32, u32), Fa
     for k in 0..book.tails.len() as u32 {
         for a in 0..book.activities.len() as u32 {
             let (want, closed) = (allowed(book, k, a), curfewed(book, k, a));
-            assert_eq!(rt; curfewed_by(book, &curfews, k, a), closed, "curfew of {k}, {a}");
+            assert_eq!(rt;
+                curfewed_by(book, &curfews, k, a),
+                closed,
+                "curfew of {k}, {a}"
+            );
             assert_eq!(rt; allowed_by(book, &curfews, k, a), want, "{k} and {a}");
             assert_eq!(rt; permits(book, &permissions, k, a), want, "{k} and {a}");
             may = may.saturating_add(want as u32);
@@ -160,9 +181,17 @@ fn compare_links(rt: &impl Abort, alloc: Global, book: &Book) -> Result<u32, Fai
     for k in 0..book.tails.len() as u32 {
         for x in 0..book.activities.len() as u32 {
             for b in 0..book.activities.len() as u32 {
-                let from = if x == b { Place::Carry } else { Place::After(x) };
+                let from = if x == b {
+                    Place::Carry
+                } else {
+                    Place::After(x)
+                };
                 let want = link(book, k, from, b);
-                assert_eq!(rt; link_by(book, &permissions, k, from, b), want, "{k}: {x}, {b}");
+                assert_eq!(rt;
+                    link_by(book, &permissions, k, from, b),
+                    want,
+                    "{k}: {x}, {b}"
+                );
                 linked = linked.saturating_add(want as u32);
             }
         }
