@@ -2,7 +2,8 @@
 
 ghost use Rattle.std.specs.Prelude.{◌≡◌, ◌++◌, IfOk, All};
 ghost use Rattle.plan_audit.specs.Kept.{IsLegOf};
-ghost use Rattle.plan_audit.specs.Rules.{is_connected, no_links};
+ghost use Rattle.tail_book.specs.Tests.{is_connected};
+ghost use Rattle.plan_audit.specs.Rules.{no_links};
 
 use crate::broken::Broken;
 use crate::leg::Leg;

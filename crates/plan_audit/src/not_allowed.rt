@@ -3,7 +3,8 @@
 ghost use Rattle.std.specs.Prelude.{◌≡◌, ◌<◌, ◌++◌, IfOk, All};
 ghost use Rattle.tail_book.specs.Lookup.{activities, aircraft};
 ghost use Rattle.plan_audit.specs.Kept.{IsLegOf};
-ghost use Rattle.plan_audit.specs.Rules.{is_permitted, not_allowed, curfews};
+ghost use Rattle.tail_book.specs.Tests.{is_permitted};
+ghost use Rattle.plan_audit.specs.Rules.{not_allowed, curfews};
 
 use crate::broken::Broken;
 use crate::leg::Leg;

@@ -155,6 +155,7 @@ pub fn is_in_time(book: &Book, k: u32, from: Place, b: u32) -> bool
 }
 
 /// Whether an activity may come directly after a place of an aircraft.
+#[tactic(auto, unfolding(tail_book::specs::Tests::is_link, tail_book::specs::Tests::is_connected))]
 pub fn link(book: &Book, k: u32, from: Place, b: u32) -> bool
     requires aircraft { k < aircraft book.now }
     requires place { IsPlaceOf book.now from }

@@ -2,7 +2,7 @@
 //!
 //! Each condition has a test of its own, so that a refusal can name the one that fails.
 //! Types, tags and avoided airports are lists of at most 20 numbers, which are searched from the front.
-//! The curfews come last, since they cost most (see the module `curfew`).
+//! The curfews come last, since they cost most (see the module `curfew`). With a table of them the cheap tests come first.
 
 ghost use Rattle.std.specs.Prelude.{◌≡◌, ◌<◌, ◌↔◌, IsTrue, not};
 ghost use Rattle.std.specs.List.{list_all};
@@ -11,8 +11,10 @@ ghost use Rattle.tail_book.specs.Lookup.{activities, aircraft, types_of, kind_of
 ghost use Rattle.tail_book.specs.Curfew.{covers_type};
 ghost use Rattle.tail_book.specs.Allowed.{IsAllowed};
 ghost use Rattle.tail_book.specs.Tests.{is_allowed};
+ghost use Rattle.turn_rules.specs.CurfewTable.{AreCurfewsOf};
 
 use crate::curfew::{covers_type, curfewed};
+use crate::curfew_table::{CurfewTable, curfewed_by};
 use tail_book::Book;
 use tail_book::laws::allowed_decides;
 
@@ -95,4 +97,21 @@ pub fn allowed(book: &Book, k: u32, a: u32) -> bool
         && !avoids_end(book, k, a)
         && is_free_for(book, k, a)
         && !curfewed(book, k, a)
+}
+
+/// Whether an aircraft may fly an activity, by the book's table of curfews.
+pub fn allowed_by(book: &Book, curfews: &CurfewTable, k: u32, a: u32) -> bool
+    requires curfews { AreCurfewsOf book.now curfews.now }
+    requires aircraft { k < aircraft book.now }
+    requires activity { a < activities book.now }
+    ensures means { IsTrue result ↔ IsAllowed book.now k a }
+    ensures tests { result ≡ is_allowed book.now k a }
+{
+    allowed_decides();
+    is_free_for(book, k, a)
+        && !curfewed_by(book, curfews, k, a)
+        && takes_type(book, k, a)
+        && !avoids_start(book, k, a)
+        && !avoids_end(book, k, a)
+        && has_tags(book, k, a)
 }
