@@ -86,7 +86,7 @@ put f g j v none here others s (suc n) =
       ]),
     )
 
-no_route : (met : List Met) (k : ℕ) → contains (tails_met met) k ≡ false → route_met met k ≡ []
+pub no_route : (met : List Met) (k : ℕ) → contains (tails_met met) k ≡ false → route_met met k ≡ []
 no_route [] k h = refl
 no_route (Unknown name ∷ met) k h = no_route met k h
 no_route (Twice name ∷ met) k h = no_route met k h

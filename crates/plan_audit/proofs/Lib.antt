@@ -9,3 +9,8 @@ mod Unbroken
 mod Deciding
 mod Converse
 mod Listed
+mod ToldLemmas
+mod KeptLegs
+mod KeptRoutes
+mod ToldCounters
+mod Told

@@ -1,6 +1,6 @@
 -- The kept plan, and its legs.
 use Rattle.std.specs.Prelude.{ℕ, List, [], ◌∷◌, map, if◌then◌else◌, nat_eq, ◌<◌}
-use Rattle.std.specs.List.{range_with_len}
+use Rattle.std.specs.List.{range_with_len, filter}
 use Rattle.tail_book.specs.Seen.{BookSeen, RawPlanSeen}
 use Rattle.tail_book.specs.Lookup.{activities, aircraft}
 use Rattle.tail_book.specs.declared.place.Place.{Place}
@@ -43,6 +43,10 @@ legs_from k x (Activity b ∷ met) = record { tail = k; from = x; activity = b }
 -- the legs of the kept plan in reading order; before the first aircraft there is none
 abbrev pub legs_met : List Met → List Leg
 legs_met met = legs_from 0 Carry met
+
+-- the route of aircraft k among legs: the activities of its legs, in order
+abbrev pub route_in : List Leg → ℕ → List ℕ
+route_in legs k = map (λ leg. leg.activity) (filter (λ leg. nat_eq leg.tail k) legs)
 
 -- a leg's numbers are of the book
 pub record IsLegOf (book : BookSeen) (leg : Leg) : Type 0 where

@@ -1,7 +1,6 @@
 -- Laws of the audit.
-use Rattle.std.specs.Prelude.{ℕ, ◌≡◌, ◌<◌, List, [], All}
+use Rattle.std.specs.Prelude.{◌≡◌, [], All}
 use Rattle.tail_book.specs.Seen.{BookSeen, RawPlanSeen}
-use Rattle.tail_book.specs.Lookup.{activities}
 use Rattle.tail_book.specs.Plan.{IsLegalPlan}
 use Rattle.tail_book.specs.Sound.{IsBook}
 use Rattle.tail_book.specs.Truth.{IsPlanOf}
@@ -19,10 +18,6 @@ LegsAreOfBook = (book : BookSeen) (raw : RawPlanSeen) → All (IsLegOf book) (le
 abbrev pub UnbrokenPlansAreLegal : Type 0
 UnbrokenPlansAreLegal = (book : BookSeen) → IsBook book → (raw : RawPlanSeen) → broken book raw ≡ []
     → IsPlanOf book (legs_cost book (legs_met (names_met book raw))) (kept book raw)
-
--- the routes of a legal plan are of activities of the book
-abbrev pub LegalPlansFlyTheBook : Type 0
-LegalPlansFlyTheBook = (book : BookSeen) (plan : List (List ℕ)) → IsLegalPlan book plan → All (All (λ a. a < activities book)) plan
 
 -- where the kept plan is legal, and no name was unknown or met twice, no rule is broken
 abbrev pub LegalPlansAreUnbroken : Type 0

@@ -99,6 +99,12 @@ module _ (book : BookSeen) (a : ℕ) (trial : Trial) (h : IsTrial book a trial) 
             (subst (λ (b : ℕ). WithinLimits book.rules.counters (step book k (end_of_route k (take a trial.fliers.items)) b (counters_after book k (flown_by k (take a trial.fliers.items))))) n goes.limits),
       )
 
+-- a row that is written at a leaves the rows before it
+pub agrees_before : (book : BookSeen) (a : ℕ) (trial : Trial) → IsTrial book a trial → a < activities book → (row values : List ℤ) → length row ≡ width_of book
+    → values ≡ with_row (width_of book) trial.values.items a row → take (a * width_of book) values ≡ take (a * width_of book) trial.values.items
+agrees_before book a trial h in_book row values wide e =
+    ap (take (a * width_of book)) e ∙ with_row-front (width_of book) a trial.values.items row wide (room book a trial h in_book)
+
 -- going on: activity a flown by aircraft k, its row written
 module _ (book : BookSeen) (a k : ℕ) (old new : Trial) (row : List ℤ) (h : IsTrial book a old) (in_book : a < activities book) (lt : k < aircraft book)
     (fliers : new.fliers.items ≡ slice_set old.fliers.items a k) (places : new.places.items ≡ slice_set old.places.items k (After a))

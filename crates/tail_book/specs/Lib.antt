@@ -18,3 +18,13 @@ pub mod Rising
 pub mod Bounds
 pub mod Tests
 pub mod TableLaws
+pub mod SoundTests
+pub mod Order
+pub mod OneMore
+pub mod Along
+pub mod Sums
+pub mod Partition
+pub mod Flown
+pub mod Fliers
+pub mod Renumbered
+pub mod RouteBounds

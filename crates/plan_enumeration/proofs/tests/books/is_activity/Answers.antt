@@ -22,6 +22,4 @@ returns-then-stays_on_ground c =
       tail = c.has_numbers.ensures.tail numbers;
       resets = c.has_numbers.ensures.resets numbers;
       few_resets = c.has_few.ensures.resets few;
-      ground_stays = c.stays_on_ground.ensures c.if-stays_on_ground.true;
-      flight_resets_nothing = c.resets_on_ground.ensures good;
     }
