@@ -8,8 +8,10 @@ use crate::{
     SureFiles, SureSink, read_all,
 };
 use std::alloc::Global;
-use std::fs;
+use std::io::Write;
+use std::os::fd::AsRawFd;
 use std::test::Fail;
+use std::{fs, io};
 
 // Puts one piece and then another.
 fn put_both<S: Sink>(out: &mut S, first: &[u8], second: &[u8]) -> Result<(), Fault>
@@ -287,6 +289,82 @@ fn a_real_file_is_rewritten(rt: HostRuntime) -> Result<(), Fail> {
     assert!(rt; into.starts_with(b"xyz"));
     fs::remove_file(&rt, name)?;
     assert_eq!(rt; real.read_at(name, 0, &mut into), Err(Failed));
+    Ok(())
+}
+
+// The bytes of a long file in turn, then again from its beginning, at a place behind it and at one before it.
+#[test]
+fn a_real_file_is_read_on(rt: HostRuntime) -> Result<(), Fail> {
+    let name = "tail_outside_forward";
+    let mut real = RealFiles::new(rt.alloc(), &rt);
+    assert_eq!(rt; real.begin(name), Ok(()));
+    assert_eq!(rt; real.append(name, b"abcdefg"), Ok(()));
+    for (at, want) in [
+        (0, b"abcd".as_slice()),
+        (4, b"efg".as_slice()),
+        (7, b"".as_slice()),
+        (0, b"abcd".as_slice()),
+        (6, b"g".as_slice()),
+        (1, b"bcde".as_slice()),
+        (5, b"fg".as_slice()),
+    ] {
+        let mut into = [0; 4];
+        assert_eq!(rt;
+            real.read_at(name, at, &mut into),
+            Ok(want.len()),
+            "at {at}"
+        );
+        assert!(rt; into.starts_with(want), "at {at}");
+    }
+    fs::remove_file(&rt, name)?;
+    Ok(())
+}
+
+// Two files in turn: each is read at its own place.
+#[test]
+fn real_files_are_read_in_turn(rt: HostRuntime) -> Result<(), Fail> {
+    let (first, second) = ("tail_outside_first", "tail_outside_second");
+    let mut real = RealFiles::new(rt.alloc(), &rt);
+    assert_eq!(rt; real.append(first, b"abc"), Ok(()));
+    assert_eq!(rt; real.append(second, b"xyz"), Ok(()));
+    for (name, at, want) in [
+        (first, 0, b"a"),
+        (second, 1, b"y"),
+        (first, 1, b"b"),
+        (first, 2, b"c"),
+        (second, 2, b"z"),
+    ] {
+        let mut into = [0; 1];
+        assert_eq!(rt; real.read_at(name, at, &mut into), Ok(1));
+        assert!(rt; into == *want, "{name} at {at}");
+    }
+    fs::remove_file(&rt, first)?;
+    fs::remove_file(&rt, second)?;
+    Ok(())
+}
+
+// A pipe has no places to go back to: it is read on to its end, piece by piece.
+#[test]
+fn a_pipe_is_read_to_its_end(rt: HostRuntime) -> Result<(), Fail> {
+    let (reader, mut writer) = io::pipe(&rt)?;
+    writer.write_all(b"abcdef")?;
+    drop(writer);
+    let name = format!(in rt.alloc(); "/dev/fd/{}", reader.as_raw_fd())?;
+    let mut real = RealFiles::new(rt.alloc(), &rt);
+    for (at, want) in [
+        (0, b"abcd".as_slice()),
+        (4, b"ef".as_slice()),
+        (6, b"".as_slice()),
+    ] {
+        let mut into = [0; 4];
+        assert_eq!(rt;
+            real.read_at(&name, at, &mut into),
+            Ok(want.len()),
+            "at {at}"
+        );
+        assert!(rt; into.starts_with(want), "at {at}");
+    }
+    assert_eq!(rt; real.read_at(&name, 3, &mut [0; 4]), Err(Failed));
     Ok(())
 }
 
