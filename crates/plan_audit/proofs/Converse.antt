@@ -64,6 +64,7 @@ no_limit_past leg c (counter ∷ counters) (value ∷ values) e =
 module _ (book : BookSeen) where
   more_unbroken : (values : List ℤ) (leg : Leg) (legs : List Leg) → is_link book leg.tail leg.from leg.activity ≡ true
       → within_limits book.rules.counters (values_after book leg values) ≡ true → IsUnbroken book (values_after book leg values) legs → IsUnbroken book values (leg ∷ legs)
+  unfolding is_allowed is_link
   more_unbroken values leg legs linked within rest =
       let k = leg.tail in
       let a = leg.activity in

@@ -93,6 +93,7 @@ module _ (book : BookSeen) (sound : IsBook book) where
   -- the next leg is a link, and stays within limits
   leg_allowed : (values : List ℤ) (leg : Leg) (legs : List Leg) → leg.tail < aircraft book → leg.activity < activities book → IsUnbroken book values (leg ∷ legs)
       → is_allowed book leg.tail leg.activity ≡ true
+  unfolding is_allowed
   leg_allowed values leg legs tail activity h =
       let k = leg.tail in
       let a = leg.activity in
@@ -117,6 +118,7 @@ module _ (book : BookSeen) (sound : IsBook book) where
   pub routes_legal : (k : ℕ) (x : Place) (values : List ℤ) (met : List Met) → All (IsMetOf book) met → k < aircraft book → is_allowed_at book k x ≡ true
       → length (values_before book k x values) ≡ length book.rules.counters → IsUnbroken book values (legs_from k x met)
       → (is_legal_from book k x (values_before book k x values) (next_route met) ≡ true) × ((i : ℕ) → is_legal_route book i (route_met met i) ≡ true)
+  unfolding is_link
   routes_legal k x values [] all flier before width h = (refl, (λ i. refl))
   routes_legal k x values (Unknown name ∷ met) all flier before width h = routes_legal k x values met (All-tail (IsMetOf book) (Unknown name) met all) flier before width h
   routes_legal k x values (Twice name ∷ met) all flier before width h = routes_legal k x values met (All-tail (IsMetOf book) (Twice name) met all) flier before width h

@@ -20,10 +20,6 @@ abbrev pub UnbrokenPlansAreLegal : Type 0
 UnbrokenPlansAreLegal = (book : BookSeen) → IsBook book → (raw : RawPlanSeen) → broken book raw ≡ []
     → IsPlanOf book (legs_cost book (legs_met (names_met book raw))) (kept book raw)
 
--- the routes of a legal plan are of activities of the book
-abbrev pub LegalPlansFlyTheBook : Type 0
-LegalPlansFlyTheBook = (book : BookSeen) (plan : List (List ℕ)) → IsLegalPlan book plan → All (All (λ a. a < activities book)) plan
-
 -- where the kept plan is legal, and no name was unknown or met twice, no rule is broken
 abbrev pub LegalPlansAreUnbroken : Type 0
 LegalPlansAreUnbroken = (book : BookSeen) (raw : RawPlanSeen) → IsLegalPlan book (kept book raw)

@@ -1,6 +1,6 @@
 //! Laws over the definitions alone: the contract of each function is the law.
 
-ghost use Rattle.plan_audit.specs.Laws.{LegsAreOfBook, UnbrokenPlansAreLegal, LegalPlansAreUnbroken, LegalPlansFlyTheBook, KeptPlansFlyOnce};
+ghost use Rattle.plan_audit.specs.Laws.{LegsAreOfBook, UnbrokenPlansAreLegal, LegalPlansAreUnbroken, KeptPlansFlyOnce};
 ghost use Rattle.plan_audit.specs.Told.{UncoveredAreInNoRoute, NotAllowedAreNotPermitted, CurfewsAreInTheWay, NoLinksAreNotConnected, CountersArePastLimits};
 
 use tail_book::laws::{legal_plan_decides, legal_route_decides};
@@ -23,11 +23,6 @@ pub fn legal_plans_are_unbroken()
 {
     legal_route_decides();
 }
-
-/// The routes of a legal plan are of activities of the book.
-pub fn legal_plans_fly_the_book()
-    ensures { LegalPlansFlyTheBook }
-{}
 
 /// An activity is told as uncovered exactly where no kept route has it.
 pub fn uncovered_are_in_no_route()

@@ -25,7 +25,7 @@ module _ (book : BookSeen) (k : ℕ) where
 
   links_of : (x : Place) (values : List ℤ) (route : List ℕ) → IsLegalFrom book k x values route → IsLinkedFrom book k x route
   links_of x values [] legal = tt
-  links_of x values (b ∷ rest) legal = (legal.0, legal.1, links_of (After b) (step book k x b values) rest legal.3)
+  links_of x values (b ∷ rest) legal = (legal.1, links_of (After b) (step book k x b values) rest legal.3)
 
   within_of : (x : Place) (values : List ℤ) (route : List ℕ) → IsLegalFrom book k x values route → WithinAlong x values route
   within_of x values [] legal i low high = absurd (omega (arith, low, high))
@@ -37,10 +37,10 @@ module _ (book : BookSeen) (k : ℕ) where
   legal_of : (x : Place) (values : List ℤ) (route : List ℕ) → IsLinkedFrom book k x route → WithinAlong x values route → IsLegalFrom book k x values route
   legal_of x values [] links within = tt
   legal_of x values (b ∷ rest) links within = (
+    links.0.after.activity,
     links.0,
-    links.1,
     within (suc zero) (omega arith) (omega arith),
-    legal_of (After b) (step book k x b values) rest links.2 (λ i low high. within (suc i) (omega arith) (omega (arith, high))),
+    legal_of (After b) (step book k x b values) rest links.1 (λ i low high. within (suc i) (omega arith) (omega (arith, high))),
   )
 
   pub legal_along : (route : List ℕ) → IsLegalRoute book k route ↔ IsLegalAlong book k route

@@ -18,7 +18,7 @@ use Rattle.tail_book.specs.Link.{port, free_from, turn_time, IsLink, IsAllowedAt
 use Rattle.tail_book.specs.Counters.{step, WithinLimits}
 use Rattle.tail_book.specs.Route.{IsLegalFrom, IsLegalRoute}
 use Rattle.tail_book.specs.Plan.{times_flown, route_of, IsLegalPlan}
-use Rattle.tail_book.specs.Tests.{is_allowed, is_allowed_at, is_link, within_limits, is_legal_from, is_legal_route, are_legal_below, are_flown_once_below, is_legal_plan}
+use Rattle.tail_book.specs.Tests.{is_permitted, is_allowed, is_allowed_at, is_connected, is_link, within_limits, is_legal_from, is_legal_route, are_legal_below, are_flown_once_below, is_legal_plan}
 
 pub always : Decides true ⊤
 always = ((λ h. tt), (λ h. refl))
@@ -40,6 +40,7 @@ pub int_le_tested : (a b : ℤ) → Decides (int_le a b) (a ≤ℤ b)
 int_le_tested a b = Decides-like (int_le a b) (λ n. by_lt_z b a (λ l. absurd (n l)) (λ h. h)) (λ h l. absurd (omega (arith, ints, h, l))) (Decides-not (int_lt b a) (int_lt_tested b a))
 
 pub allowed_tested : (book : BookSeen) (k a : ℕ) → Decides (is_allowed book k a) (IsAllowed book k a)
+unfolding is_allowed is_permitted
 allowed_tested book k a =
     Decides-like (is_allowed book k a)
     (λ h.
@@ -66,6 +67,7 @@ allowed_at_tested book k Carry = always
 allowed_at_tested book k (After x) = allowed_tested book k x
 
 pub link_tested : (book : BookSeen) (k : ℕ) (x : Place) (b : ℕ) → Decides (is_link book k x b) (IsLink book k x b)
+unfolding is_link is_connected
 link_tested book k x b =
     Decides-like (is_link book k x b) (λ h. record { place = h.0.0; time = h.0.1; before = h.1.0; after = h.1.1 }) (λ l. ((l.place, l.time), (l.before, l.after)))
     (Decides-and _ _

@@ -15,6 +15,8 @@ pub mod RouteBounds
 pub mod RisingLists
 pub mod FlownTimes
 pub mod Fliers
+pub mod Renumbered
 pub mod Worked
+pub mod WorkedRoutes
 mod TruthLemmas
 pub mod SoundTested

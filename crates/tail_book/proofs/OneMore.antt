@@ -63,6 +63,6 @@ module _ (book : BookSeen) (k : ℕ) (b : ℕ) where
   pub legal_more : (route : List ℕ) → IsLegalRoute book k (route ++ b ∷ []) ↔ GoesOnWith book k route b
   legal_more route =
       let whole = legal_from_more Carry (carry_of book k) route in (
-        (λ h. let r = whole.0 h in record { before = r.0; activity = r.1.0; link = r.1.1; within = r.1.2 }),
-        (λ g. whole.1 (g.before, (g.activity, g.link, g.within))),
+        (λ h. let r = whole.0 h in record { before = r.0; link = r.1.1; within = r.1.2 }),
+        (λ g. whole.1 (g.before, (g.link.after.activity, g.link, g.within))),
       )

@@ -1,11 +1,11 @@
 -- The tests of books and cost tables decide their words.
-use Rattle.std.proofs.Common.{◌≡◌, ◌≤◌, ◌<◌, ◌+◌, ◌*◌, ◌/◌, ◌%◌, ◌^◌, ℕ, ℤ, pos, negsuc, Bool, true, false, arith, ap, List, [], ◌∷◌, refl, sym, length, suc}
+use Rattle.std.proofs.Common.{◌≡◌, ◌≤◌, ◌<◌, ◌+◌, ◌*◌, ◌/◌, ◌%◌, ◌^◌, ℕ, ℤ, pos, negsuc, Bool, true, arith, ap, List, [], ◌∷◌, refl, length, suc}
 use Rattle.std.proofs.Math.Nat.{mul-mod_left}
 use Rattle.std.proofs.lemmas.Int.{ints}
 use Rattle.std.proofs.lemmas.Bool.Decides.{Decides-eqb, Decides-ltb, Decides-and, Decides-not, Decides-like, Decides-by_and}
 use Rattle.std.proofs.lemmas.List.Kept.{AllPairs-cons}
 use Rattle.std.proofs.lemmas.Slice.Eq.{bytes_eq-Decides}
-use Rattle.std.specs.Prelude.{All, AllPairs, nat_lt, nat_le, not, bytes_eq, unsigned_abs, ◌+ℤ◌, ◌*ℤ◌, ◌==◌, ◌≢◌}
+use Rattle.std.specs.Prelude.{All, AllPairs, nat_lt, nat_le, not, bytes_eq, unsigned_abs, ◌+ℤ◌, ◌≢◌}
 use Rattle.std.specs.List.{list_all}
 use Rattle.std.specs.Bool.{Decides}
 use Rattle.tail_book.specs.Seen.{ActivitySeen, TailSeen, CurfewSeen, CounterSeen, AirportSeen, RulesSeen, BookSeen, CostTableSeen}
@@ -14,9 +14,9 @@ use Rattle.tail_book.specs.declared.rules.Band.{Band}
 use Rattle.tail_book.specs.declared.rules.CounterKind.{CounterKind}
 use Rattle.tail_book.specs.declared.rules.CounterKind.TheVariants.{Minutes, Landings, Days}
 use Rattle.tail_book.specs.Name.{is_name}
-use Rattle.tail_book.specs.Sound.{IsWithin, IsMoment, IsLimit, IsActivity, IsTail, IsKind, IsAirport, IsCurfew, IsCounter, IsBand, IsRules, IsBook, is_none_or_below, comes_before}
+use Rattle.tail_book.specs.Sound.{IsWithin, IsLimit, IsActivity, IsTail, IsKind, IsAirport, IsCurfew, IsCounter, IsBand, IsRules, IsBook, is_none_or_below, comes_before}
 use Rattle.tail_book.specs.CostTable.{box_end, cost_unit, greatest_cost_in, IsCostTable}
-use Rattle.tail_book.specs.SoundTests.{is_within, is_moment, are_below, each_pair, is_timed, names_of_book, has_short_lists, is_activity, comes_in, has_short_marks, carries_each, is_tail, is_kind, is_airport, is_curfew, is_limit, is_counter, is_band, are_kinds, are_airports, are_counters, are_curfews, are_bands, are_rules, are_activities, are_tails, is_book, sums_fit, is_cost_table}
+use Rattle.tail_book.specs.SoundTests.{is_within, are_below, each_pair, is_activity, is_tail, is_kind, is_airport, is_curfew, is_limit, is_counter, is_band, are_rules, is_book, is_cost_table}
 use Rattle.tail_book.proofs.Deciding.{int_le_tested, same_test}
 
 at_most_tested : (a b : ℕ) → Decides (nat_le a b) (a ≤ b)

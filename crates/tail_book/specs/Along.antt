@@ -3,7 +3,6 @@ use Rattle.std.specs.Prelude.{ℕ, ◌+◌, ℤ, ◌<◌, ◌≤◌, ◌≡◌, 
 use Rattle.tail_book.specs.Seen.{BookSeen}
 use Rattle.tail_book.specs.declared.place.Place.{Place}
 use Rattle.tail_book.specs.declared.place.Place.TheVariants.{Carry, After}
-use Rattle.tail_book.specs.Lookup.{activities}
 use Rattle.tail_book.specs.Link.{IsLink}
 use Rattle.tail_book.specs.Counters.{step, WithinLimits}
 use Rattle.tail_book.specs.Route.{IsLegalRoute, counters_after}
@@ -18,10 +17,10 @@ abbrev pub CountersAlongStep : Type 0
 CountersAlongStep = (book : BookSeen) (k : ℕ) (route : List ℕ) (i : ℕ) → i < length route
     → counters_along book k route (i + 1) ≡ step book k (end_place (take i route)) (slice_index_or route i 0) (counters_along book k route i)
 
--- from a place on each activity is of the book and linked from the place before it
+-- from a place on each activity is linked from the place before it
 abbrev pub IsLinkedFrom : BookSeen → ℕ → Place → List ℕ → Type 0
 IsLinkedFrom book k x [] = ⊤
-IsLinkedFrom book k x (b ∷ rest) = (b < activities book) × IsLink book k x b × IsLinkedFrom book k (After b) rest
+IsLinkedFrom book k x (b ∷ rest) = IsLink book k x b × IsLinkedFrom book k (After b) rest
 
 -- the route is linked from the carry-in on, and after each of its first i activities the counters are within their limits
 pub record IsLegalAlong (book : BookSeen) (k : ℕ) (route : List ℕ) : Type 0 where

@@ -1,6 +1,6 @@
 -- A plan as an assignment: for each activity the aircraft that flies it.
-use Rattle.std.specs.Prelude.{ℕ, ◌<◌, ◌≡◌, true, not, List, All, length, map, nat_eq, slice_index_or}
-use Rattle.std.specs.List.{filter, prefix_len, range_with_len}
+use Rattle.std.specs.Prelude.{ℕ, ◌<◌, ◌≡◌, true, List, All, length, map, nat_eq, slice_index_or}
+use Rattle.std.specs.List.{filter, position_or_len, range_with_len}
 use Rattle.tail_book.specs.Seen.{BookSeen}
 use Rattle.tail_book.specs.declared.place.Place.TheVariants.{Carry}
 use Rattle.tail_book.specs.Numbers.{contains}
@@ -14,7 +14,7 @@ use Rattle.tail_book.specs.Partition.{all_flown}
 
 -- the number of the first route that has the activity, and the number of routes where none has it
 abbrev pub flier : List (List ℕ) → ℕ → ℕ
-flier plan a = prefix_len (λ route. not (contains route a)) plan
+flier plan a = position_or_len (λ route. contains route a) plan
 
 -- the flier of each activity below n
 abbrev pub fliers_of : List (List ℕ) → ℕ → List ℕ

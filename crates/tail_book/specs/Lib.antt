@@ -26,4 +26,5 @@ pub mod Sums
 pub mod Partition
 pub mod Flown
 pub mod Fliers
+pub mod Renumbered
 pub mod RouteBounds

@@ -3,7 +3,6 @@ use Rattle.std.specs.Prelude.{ℕ, ◌+◌, ◌<◌, ◌≡◌, ◌↔◌, List,
 use Rattle.tail_book.specs.Seen.{BookSeen, CostTableSeen}
 use Rattle.tail_book.specs.declared.place.Place.{Place}
 use Rattle.tail_book.specs.declared.place.Place.TheVariants.{Carry, After}
-use Rattle.tail_book.specs.Lookup.{activities}
 use Rattle.tail_book.specs.Link.{IsLink}
 use Rattle.tail_book.specs.Counters.{step, WithinLimits}
 use Rattle.tail_book.specs.Route.{IsLegalRoute, counters_after, place_after}
@@ -16,10 +15,9 @@ use Rattle.tail_book.specs.Rising.{IsRisingFrom}
 abbrev pub end_place : List ℕ → Place
 end_place route = place_after Carry route
 
--- the route is legal, b is of the book and linked from its end, and the counters stay within their limits after b
+-- the route is legal, b is linked from its end, and the counters stay within their limits after b
 pub record GoesOnWith (book : BookSeen) (k : ℕ) (route : List ℕ) (b : ℕ) : Type 0 where
   pub before : IsLegalRoute book k route
-  pub activity : b < activities book
   pub link : IsLink book k (end_place route) b
   pub within : WithinLimits book.rules.counters (step book k (end_place route) b (counters_after book k route))
 

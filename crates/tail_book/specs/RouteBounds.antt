@@ -1,13 +1,14 @@
 -- What a route costs at most, legal or not: it has no more activities than the book where its numbers rise.
-use Rattle.std.specs.Prelude.{ℕ, ◌+◌, ◌*◌, ◌<◌, ◌≤◌, List, All, length}
+use Rattle.std.specs.Prelude.{ℕ, ℤ, pos, ◌+◌, ◌*◌, ◌^◌, ◌-ℤ◌, ◌<◌, ◌≤◌, List, All, length, map}
 use Rattle.tail_book.specs.Seen.{BookSeen, CostTableSeen}
 use Rattle.tail_book.specs.declared.place.Place.{Place}
 use Rattle.tail_book.specs.Lookup.{activities}
 use Rattle.tail_book.specs.Cost.{cost_from}
-use Rattle.tail_book.specs.CostTable.{IsCostTable, IsTableFor, cost_from_in, greatest_cost_in}
+use Rattle.tail_book.specs.CostTable.{IsCostTable, IsTableFor, IsInBox, cost_unit, cost_from_in, greatest_cost_in}
 use Rattle.tail_book.specs.Bounds.{greatest_cost}
 use Rattle.tail_book.specs.Rising.{IsRisingFrom}
-use Rattle.tail_book.specs.Sound.{IsBook}
+use Rattle.tail_book.specs.Sound.{IsBook, IsWithin}
+use Rattle.tail_book.specs.Sums.{total}
 
 -- numbers that rise below n are at most n
 abbrev pub RisingRoutesAreShort : Type 0
@@ -36,3 +37,10 @@ RoutesCostAtMostIn = (table : CostTableSeen) (book : BookSeen) → IsCostTable t
 abbrev pub RisingRoutesCostAtMostIn : Type 0
 RisingRoutesCostAtMostIn = (table : CostTableSeen) (book : BookSeen) → IsCostTable table → IsTableFor book table → (k : ℕ) (x : Place) (route : List ℕ)
     → IsRisingFrom (activities book) x route → cost_from_in table book k x route ≤ greatest_cost_in table
+
+-- so with duals in the box the reduced cost of a route whose numbers rise lies within 2^61 of 0, in thousandths
+abbrev pub ReducedCostsAreSmall : Type 0
+ReducedCostsAreSmall = (table : CostTableSeen) (book : BookSeen) → IsCostTable table → IsTableFor book table
+    → (dual : ℕ → ℤ) → ((a : ℕ) → a < activities book → IsInBox table (dual a))
+    → (k : ℕ) (x : Place) (route : List ℕ) → IsRisingFrom (activities book) x route
+    → IsWithin (pos 0 -ℤ pos (2 ^ 61)) (pos (2 ^ 61)) (pos (cost_unit * cost_from_in table book k x route) -ℤ total (map dual route))

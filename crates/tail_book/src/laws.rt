@@ -13,13 +13,15 @@ mod fliers;
 mod flown;
 mod one_more;
 mod order;
+mod renumbered;
 mod sums;
 
 use crate::Book;
 pub use along::{counters_along_step, legal_is_legal_along};
 pub use bounds::{
-    rising_routes_are_below, rising_routes_are_short, rising_routes_cost_at_most,
-    rising_routes_cost_at_most_in, routes_cost_at_most, routes_cost_at_most_in,
+    reduced_costs_are_small, rising_routes_are_below, rising_routes_are_short,
+    rising_routes_cost_at_most, rising_routes_cost_at_most_in, routes_cost_at_most,
+    routes_cost_at_most_in,
 };
 pub use fliers::{
     fliers_fly, fliers_of_their_plan, plans_by_fliers_are_legal, plans_by_fliers_partition,
@@ -36,6 +38,9 @@ pub use one_more::{
 pub use order::{
     each_at_most_chains, each_at_most_decides, each_at_most_itself, lower_stays_legal,
     lower_stays_within, routes_keep_count, routes_keep_order, steps_keep_count, steps_keep_order,
+};
+pub use renumbered::{
+    renumbered_routes_are_legal, renumbered_routes_cost, renumbered_routes_count,
 };
 pub use sums::{
     legal_plans_fly_all, legal_plans_fly_the_book, legal_plans_partition, length_of_partition,
