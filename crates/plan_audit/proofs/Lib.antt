@@ -14,3 +14,4 @@ mod KeptLegs
 mod KeptRoutes
 mod ToldCounters
 mod Told
+mod KeptOnce

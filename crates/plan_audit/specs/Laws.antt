@@ -1,7 +1,8 @@
 -- Laws of the audit.
-use Rattle.std.specs.Prelude.{◌≡◌, [], All}
+use Rattle.std.specs.Prelude.{ℕ, ◌≡◌, ◌<◌, ◌≤◌, List, [], length, All}
 use Rattle.tail_book.specs.Seen.{BookSeen, RawPlanSeen}
-use Rattle.tail_book.specs.Plan.{IsLegalPlan}
+use Rattle.tail_book.specs.Lookup.{activities, aircraft}
+use Rattle.tail_book.specs.Plan.{IsLegalPlan, times_flown}
 use Rattle.tail_book.specs.Sound.{IsBook}
 use Rattle.tail_book.specs.Truth.{IsPlanOf}
 use Rattle.plan_audit.specs.Met.{names_met}
@@ -23,3 +24,13 @@ UnbrokenPlansAreLegal = (book : BookSeen) → IsBook book → (raw : RawPlanSeen
 abbrev pub LegalPlansAreUnbroken : Type 0
 LegalPlansAreUnbroken = (book : BookSeen) (raw : RawPlanSeen) → IsLegalPlan book (kept book raw)
     → unknown (names_met book raw) ≡ [] → twice (names_met book raw) ≡ [] → broken book raw ≡ []
+
+-- a route for each aircraft, all of the book's activities, and none of them flown twice
+pub record FliesOnce (book : BookSeen) (plan : List (List ℕ)) : Type 0 where
+  pub one_each : length plan ≡ aircraft book
+  pub of_book : All (All (λ a. a < activities book)) plan
+  pub once : (a : ℕ) → times_flown plan a ≤ 1
+
+-- so it is with every kept plan, legal or not
+abbrev pub KeptPlansFlyOnce : Type 0
+KeptPlansFlyOnce = (book : BookSeen) (raw : RawPlanSeen) → FliesOnce book (kept book raw)

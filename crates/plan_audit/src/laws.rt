@@ -1,6 +1,6 @@
 //! Laws over the definitions alone: the contract of each function is the law.
 
-ghost use Rattle.plan_audit.specs.Laws.{LegsAreOfBook, UnbrokenPlansAreLegal, LegalPlansAreUnbroken};
+ghost use Rattle.plan_audit.specs.Laws.{LegsAreOfBook, UnbrokenPlansAreLegal, LegalPlansAreUnbroken, KeptPlansFlyOnce};
 ghost use Rattle.plan_audit.specs.Told.{UncoveredAreInNoRoute, NotAllowedAreNotPermitted, CurfewsAreInTheWay, NoLinksAreNotConnected, CountersArePastLimits};
 
 use tail_book::laws::{legal_plan_decides, legal_route_decides};
@@ -47,4 +47,9 @@ pub fn no_links_are_not_connected()
 /// A counter is told exactly where it is past its limit after a front of a kept route.
 pub fn counters_are_past_limits()
     ensures { CountersArePastLimits }
+{}
+
+/// A kept plan has a route for each aircraft, all of the book's activities, and flies none of them twice.
+pub fn kept_plans_fly_once()
+    ensures { KeptPlansFlyOnce }
 {}

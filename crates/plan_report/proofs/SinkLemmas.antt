@@ -1,7 +1,7 @@
 -- Pieces that a sink takes, one after the other.
-use Rattle.std.proofs.Common.{◌≡◌, ◌∙◌, ℕ, ◌+◌, ◌<◌, ◌≤◌, inl, inr, List, [], ◌∷◌, ◌++◌, Option, Some, None, length, take, drop, get_or, refl, ap, sym, arith, append_assoc}
+use Rattle.std.proofs.Common.{◌≡◌, ◌∙◌, ℕ, ◌+◌, ◌<◌, List, [], ◌∷◌, ◌++◌, Option, Some, None, length, take, drop, get_or, refl, ap, sym, arith, append_assoc}
 use Rattle.std.proofs.lemmas.List.{append-nil, drop_more, take_more, take-append-drop}
-use Rattle.tail_outside.specs.Outside.{Adds, AddsFront, HasRisen}
+use Rattle.tail_outside.specs.Outside.{Adds, AddsFront}
 use Rattle.plan_report.specs.Lines.{text_of}
 
 pub adds-nothing : (told : Option (List ℕ)) → Adds told told []
@@ -36,7 +36,3 @@ module _ (lines : List (List ℕ)) (i : ℕ) (x : List ℕ) (within : i < length
   text_of-around =
       let next : drop i lines ≡ x ∷ drop (i + 1) lines = drop_more lines i x within ∙ rw (← here) refl in
       ap text_of (sym (take-append-drop i lines)) ∙ text_of-append (take i lines) (drop i lines) ∙ rw next refl
-
-pub risen-after : (a b c : ℕ) → a ≤ b → HasRisen b c → HasRisen a c
-risen-after a b c h (inl up) = inl (omega arith)
-risen-after a b c h (inr top) = inr top

@@ -5,5 +5,4 @@ pub mod PartsLeft
 pub mod Report
 pub mod AuditText
 pub mod Laws
-pub mod Printed
 pub mod PlanText

@@ -2,7 +2,7 @@
 
 ghost use Rattle.std.specs.Prelude.{◌≡◌, ◌++◌, ◌<◌, ◌≤◌, false, length, map, All, IfOk, OnOk, OnErr, IsErrOf, decimal};
 ghost use Rattle.tail_book.specs.Lookup.{activities, activity_of, aircraft};
-ghost use Rattle.tail_outside.specs.Outside.{Adds, AddsFront, HasRisen};
+ghost use Rattle.tail_outside.specs.Outside.{PieceHasFailed, Takes, TakesFront};
 ghost use Rattle.plan_report.specs.Lines.{newline};
 ghost use Rattle.plan_report.specs.AuditText.{AreOfBook, IsOfBook, audit_lines, audit_text, broken_line, broken_text, pair_names};
 
@@ -21,11 +21,12 @@ pub fn write_audit<S: Sink>(
     out: &mut S,
 ) -> Result<(), ReportFail>
     requires { AreOfBook book.now audit.now }
-    ensures taken { OnOk result (S.ceased out.new ≡ false → Adds (S.told out.old) (S.told out.new) (audit_text book.now audit.now)) }
-    ensures front { OnErr result (S.ceased out.new ≡ false → AddsFront (S.told out.old) (S.told out.new) (audit_text book.now audit.now)) }
+    ensures taken { OnOk result (Takes (S.shows out.old) (S.shows out.new) (audit_text book.now audit.now)) }
+    ensures front { OnErr result (TakesFront (S.shows out.old) (S.shows out.new) (audit_text book.now audit.now)) }
     ensures beside { S.beside out.old out.new }
-    ensures counts { S.faults out.old ≤ S.faults out.new }
-    ensures cause { IsErrOf result ReportFail.Write → HasRisen (S.faults out.old) (S.faults out.new) }
+    ensures ceases { (S.shows out.new).ceased ≡ false → (S.shows out.old).ceased ≡ false }
+    ensures counts { (S.shows out.old).faults ≤ (S.shows out.new).faults }
+    ensures cause { IsErrOf result ReportFail.Write → PieceHasFailed (S.shows out.old) (S.shows out.new) }
 {
     let Ok(lines) = audit_lines(alloc, book, audit) else {
         return Err(ReportFail::Memory);

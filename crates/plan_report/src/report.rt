@@ -2,7 +2,7 @@
 
 ghost use Rattle.std.specs.Prelude.{◌≡◌, ◌++◌, ◌<◌, ◌≤◌, false, IfOk, OnOk, OnErr, IsErrOf, All, codes};
 ghost use Rattle.tail_book.specs.Lookup.{activities, activity_of, aircraft};
-ghost use Rattle.tail_outside.specs.Outside.{Adds, AddsFront, HasRisen};
+ghost use Rattle.tail_outside.specs.Outside.{PieceHasFailed, Takes, TakesFront};
 ghost use Rattle.plan_report.specs.Report.{HasPlanFor, IsPlanFor, aircraft_line, aircraft_lines, first_line, ids_of, report, report_lines};
 
 use crate::writing::{ReportFail, write_lines};
@@ -20,11 +20,12 @@ pub fn write_report<S: Sink>(
     out: &mut S,
 ) -> Result<(), ReportFail>
     requires { HasPlanFor book.now outcome.now }
-    ensures taken { OnOk result (S.ceased out.new ≡ false → Adds (S.told out.old) (S.told out.new) (report book.now outcome.now)) }
-    ensures front { OnErr result (S.ceased out.new ≡ false → AddsFront (S.told out.old) (S.told out.new) (report book.now outcome.now)) }
+    ensures taken { OnOk result (Takes (S.shows out.old) (S.shows out.new) (report book.now outcome.now)) }
+    ensures front { OnErr result (TakesFront (S.shows out.old) (S.shows out.new) (report book.now outcome.now)) }
     ensures beside { S.beside out.old out.new }
-    ensures counts { S.faults out.old ≤ S.faults out.new }
-    ensures cause { IsErrOf result ReportFail.Write → HasRisen (S.faults out.old) (S.faults out.new) }
+    ensures ceases { (S.shows out.new).ceased ≡ false → (S.shows out.old).ceased ≡ false }
+    ensures counts { (S.shows out.old).faults ≤ (S.shows out.new).faults }
+    ensures cause { IsErrOf result ReportFail.Write → PieceHasFailed (S.shows out.old) (S.shows out.new) }
 {
     let Ok(lines) = report_lines(alloc, book, outcome) else {
         return Err(ReportFail::Memory);

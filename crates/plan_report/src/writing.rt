@@ -2,7 +2,7 @@
 
 ghost use Rattle.std.specs.Prelude.{◌≡◌, ◌≤◌, false, OnOk, OnErr, IsErrOf};
 ghost use Rattle.plan_report.specs.Lines.{text_of};
-ghost use Rattle.tail_outside.specs.Outside.{Adds, AddsFront, HasRisen};
+ghost use Rattle.tail_outside.specs.Outside.{PieceHasFailed, Takes, TakesFront};
 
 use crate::lines::put_lines;
 use tail_outside::{Fault, Sink};
@@ -19,11 +19,12 @@ pub enum ReportFail {
 
 /// Puts the lines, one after the other, and says what failed.
 pub fn write_lines<S: Sink>(lines: &[Line], out: &mut S) -> Result<(), ReportFail>
-    ensures taken { OnOk result (S.ceased out.new ≡ false → Adds (S.told out.old) (S.told out.new) (text_of lines.now)) }
-    ensures front { OnErr result (S.ceased out.new ≡ false → AddsFront (S.told out.old) (S.told out.new) (text_of lines.now)) }
+    ensures taken { OnOk result (Takes (S.shows out.old) (S.shows out.new) (text_of lines.now)) }
+    ensures front { OnErr result (TakesFront (S.shows out.old) (S.shows out.new) (text_of lines.now)) }
     ensures beside { S.beside out.old out.new }
-    ensures counts { S.faults out.old ≤ S.faults out.new }
-    ensures cause { IsErrOf result ReportFail.Write → HasRisen (S.faults out.old) (S.faults out.new) }
+    ensures ceases { (S.shows out.new).ceased ≡ false → (S.shows out.old).ceased ≡ false }
+    ensures counts { (S.shows out.old).faults ≤ (S.shows out.new).faults }
+    ensures cause { IsErrOf result ReportFail.Write → PieceHasFailed (S.shows out.old) (S.shows out.new) }
 {
     match put_lines(lines, out) {
         Ok(()) => Ok(()),

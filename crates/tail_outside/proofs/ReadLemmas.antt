@@ -1,6 +1,6 @@
 -- A file read piece by piece, where its bytes are told.
-use Rattle.std.proofs.Common.{◌≡◌, ◌∙◌, ℕ, ◌+◌, ◌≤◌, ◌<◌, List, [], ◌++◌, Option, Some, None, IfSome, length, take, drop, refl, ap, sym, arith, inl, inr, append_assoc, length-append, length-take-le}
-use Rattle.std.proofs.lemmas.List.{append-nil, drop-drop, take_all, take-append-drop, take-append-le}
+use Rattle.std.proofs.Common.{◌≡◌, ◌∙◌, ℕ, ◌+◌, ◌-◌, ◌≤◌, ◌<◌, List, [], ◌++◌, Option, Some, None, IfSome, length, take, drop, refl, ap, sym, arith, inl, inr, append_assoc, length-append, length-take-le}
+use Rattle.std.proofs.lemmas.List.{append-nil, length-take, drop-drop, take_all, take-append-drop, take-take}
 use Rattle.tail_outside.specs.Outside.{IsRead}
 
 -- the bytes begin with these
@@ -37,6 +37,15 @@ read-more (Some bytes) now xs buffer n same begins read =
     let r : IsRead bytes (length xs) buffer n = rw same at read in
     longer xs bytes (take n buffer) n begins r.front r.within
 
-pub read-full : (told : Option (List ℕ)) (xs : List ℕ) (limit : ℕ) → limit ≤ length xs → IfSome told (Begins xs) → IfSome told (λ bytes. take limit xs ≡ take limit bytes)
-read-full None xs limit long begins = tt
-read-full (Some bytes) xs limit long begins = sym (ap (take limit) (sym begins) ∙ take-append-le limit xs (drop (length xs) bytes) long)
+-- the same of a piece that was asked for as a front of the buffer
+pub read-piece : (told now : Option (List ℕ)) (xs buffer : List ℕ) (n most : ℕ) → now ≡ told → IfSome told (Begins xs) → IfSome now (λ bytes. IsRead bytes (length xs) (take most buffer) n)
+    → n ≤ most → IfSome told (Begins (xs ++ take n buffer))
+read-piece told now xs buffer n most same begins read few =
+    let front : take n (take most buffer) ≡ take n buffer = take-take n most buffer few in
+    rw (← front) (read-more told now xs (take most buffer) n same begins read)
+
+-- a piece that is no longer than what is left stays within the limit
+pub read-within : (limit : ℕ) (xs buffer : List ℕ) (n : ℕ) (ys : List ℕ) → ys ≡ xs ++ take n buffer → length xs ≤ limit → n ≤ limit - length xs → length ys ≤ limit
+read-within limit xs buffer n ys is short few =
+    let piece : length (take n buffer) ≤ n = rw (length-take n buffer) (omega arith) in
+    rw is (omega (arith, length-append xs (take n buffer), piece))

@@ -1,5 +1,5 @@
 -- What is held under a name, and which calls fail.
-use Rattle.std.specs.Prelude.{ℕ, ◌+◌, ◌-◌, ◌^◌, Bool, List, [], Option, ◌==◌, min, option_map, unwrap_or, find}
+use Rattle.std.specs.Prelude.{ℕ, ◌+◌, ◌-◌, ◌^◌, Bool, List, [], Option, ◌==◌, min, option_map, find}
 use Rattle.std.specs.List.{list_any}
 use Rattle.std.specs.Str.{bytes_eq}
 use Rattle.tail_outside.specs.Seen.{FileSeen, CallsSeen, MemFilesSeen, MemSinkSeen}
@@ -11,10 +11,6 @@ first_under name_of part xs name = option_map part (find (λ x. bytes_eq (name_o
 -- the bytes of the first file of a name
 abbrev pub bytes_under : List FileSeen → List ℕ → Option (List ℕ)
 bytes_under = first_under (λ file. file.name) (λ file. file.bytes)
-
--- those bytes, and no bytes where no file has the name
-abbrev pub bytes_or_empty : List FileSeen → List ℕ → List ℕ
-bytes_or_empty files name = unwrap_or (bytes_under files name) []
 
 -- one more in a count, which ends at 2 ^ 64 - 1
 abbrev pub one_up : ℕ → ℕ

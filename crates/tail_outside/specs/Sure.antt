@@ -1,5 +1,6 @@
 -- Sinks and files that never fail, with room for so many bytes.
-use Rattle.std.specs.Prelude.{ℕ, ◌-◌, Bool, true, false, ◌||◌, List, [], ◌++◌, length, nat_lt, Option, Some, None, if◌then◌else◌, option_and_then, unwrap_or}
+use Rattle.std.specs.Prelude.{ℕ, ◌-◌, Bool, true, false, ◌||◌, List, [], ◌++◌, length, nat_lt, Option, Some, None, if◌then◌else◌, option_and_then, unwrap_or, ◌≡◌, refl}
+use Rattle.std.proofs.Common.{ap}
 use Rattle.std.specs.Option.{option_map_or}
 use Rattle.tail_outside.specs.Held.{first_under}
 use Rattle.tail_outside.specs.Seen.{FileSeen, SureSinkSeen, SureFileSeen}
@@ -50,3 +51,15 @@ held_under = first_under (λ file. file.name) (λ file. file.sink.bytes)
 -- what is read under a name: those bytes, and no bytes where no file has the name
 abbrev pub read_under : List SureFileSeen → List ℕ → List ℕ
 read_under files name = unwrap_or (held_under files name) []
+
+-- a sink that has ceased tells nothing
+pub told_of-ceased : (sink : SureSinkSeen) → sink.ceased ≡ true → told_of sink ≡ None
+told_of-ceased sink gone = ap (λ (c : Bool). if c then None else Some sink.bytes) gone
+
+-- of a name that has ceased nothing is told
+pub told_under-ceased : (files : List SureFileSeen) (name : List ℕ) → ceased_under files name ≡ true → told_under files name ≡ None
+told_under-ceased files name gone = of_sink (sink_under files name) gone
+  where
+    of_sink : (found : Option SureSinkSeen) → option_map_or (λ sink. sink.ceased) found true ≡ true → option_and_then told_of found ≡ None
+    of_sink None missing = refl
+    of_sink (Some sink) ceased = told_of-ceased sink ceased

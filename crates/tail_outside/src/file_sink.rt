@@ -4,18 +4,18 @@ ghost use Rattle.std.specs.Prelude.{◌≡◌, IsTrue};
 
 use crate::{Fault, Files, Sink};
 
-/// A sink over one named file of some files, which it holds meanwhile.
+/// A sink over one named file of some files, which it holds meanwhile. A file that isn't there yet has taken nothing.
 #[derive(Drop)]
 pub struct FileSink<'a, F: Files> {
     pub files: F,
     pub name: &'a str,
-    ghost lets: { IsTrue (F.lets_write files name.now) },
+    ghost lets: { IsTrue ((F.shows files).lets_write name.now) },
 }
 
 impl<'a, F: Files> FileSink<'a, F> {
     /// A sink over the file of this name.
     pub fn new(files: F, name: &'a str) -> FileSink<'a, F>
-        requires { IsTrue (F.lets_write files name.now) }
+        requires { IsTrue ((F.shows files).lets_write name.now) }
         ensures files { result.files ≡ files }
         ensures name { result.name ≡ name.entry }
     {
@@ -34,39 +34,24 @@ impl<'a, F: Files> FileSink<'a, F> {
 impl<'a, F: Files> Sink for FileSink<'a, F> {
     ghost use Rattle.std.specs.Prelude.{◌≡◌, refl};
     ghost use Rattle.std.proofs.Common.{◌∙◌, ap};
-    ghost use Rattle.tail_outside.specs.Outside.{SameOthers, SameNames, StayCeased, SameOthers-chain};
+    ghost use Rattle.tail_outside.specs.OverFile.{shown_over, told_over-ceased};
+    ghost use Rattle.tail_outside.specs.Outside.{OnlyWritten, only_written_same, only_written_chains};
 
-    ghost faults = { λ s. F.write_faults s.files };
+    ghost shows = { λ s. shown_over (F.shows s.files) s.name.now };
 
-    ghost told = { λ s. F.holds s.files s.name.now };
-
-    ghost ceased = { λ s. F.ceased s.files s.name.now };
-
-    // The name, the files of other names, the names that may be used and the read faults stay.
+    // The name stays, and no other file is written.
     ghost beside = { λ a b. (b.name ≡ a.name)
-        × SameOthers (F.holds a.files) (F.holds b.files) a.name.now
-        × SameNames (F.lets_read a.files) (F.lets_read b.files)
-        × SameNames (F.lets_write a.files) (F.lets_write b.files)
-        × StayCeased (F.ceased a.files) (F.ceased b.files)
-        × (F.read_faults b.files ≡ F.read_faults a.files) };
+        × OnlyWritten a.name.now (F.shows a.files) (F.shows b.files) };
 
-    ghost beside_same = { λ s. (
-      refl,
-      λ other differs. refl,
-      λ other. refl,
-      λ other. refl,
-      λ other alive. alive,
-      refl,
-    ) };
+    ghost ceased_tells_nothing = { λ s gone.
+        told_over-ceased ((F.shows s.files).ceased s.name.now) ((F.shows s.files).holds s.name.now) gone };
+
+    ghost beside_same = { λ s. (refl, only_written_same s.name.now (F.shows s.files)) };
 
     ghost beside_chains = { λ a b c h k. (
       k.0 ∙ h.0,
-      SameOthers-chain (F.holds a.files) (F.holds b.files) (F.holds c.files) a.name.now b.name.now
+      only_written_chains a.name.now b.name.now (F.shows a.files) (F.shows b.files) (F.shows c.files)
           (ap (λ name. name.now) h.0) h.1 k.1,
-      λ other. k.2 other ∙ h.2 other,
-      λ other. k.3 other ∙ h.3 other,
-      λ other alive. h.4 other (k.4 other alive),
-      k.5 ∙ h.5,
     ) };
 
     fn put(&mut self, piece: &[u8]) -> Result<(), Fault> {

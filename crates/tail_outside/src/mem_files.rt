@@ -2,8 +2,8 @@
 
 ghost use Rattle.std.specs.Prelude.{◌≡◌, ◌≤◌, ◌^◌, ◌↔◌, ◌⊎◌, ◌++◌, [], ◌∷◌, length, option_map, position, IsTrue, IsOk, IfOk, IfSome, IsErr, OnOk, OnErr, IsErrOf};
 ghost use Rattle.std.specs.Str.{bytes_eq};
-ghost use Rattle.tail_outside.specs.Held.{bytes_under, bytes_or_empty, fails_next, one_more, files_at_first};
-ghost use Rattle.tail_outside.specs.Outside.{HasRisen, IsRead, SameOthers};
+ghost use Rattle.tail_outside.specs.Held.{bytes_under, fails_next, one_more, files_at_first};
+ghost use Rattle.tail_outside.specs.Outside.{HasRisen, IsRead, SameOthers, with_piece};
 
 use crate::calls::Calls;
 use crate::{Failed, Fault, Files};
@@ -93,7 +93,7 @@ fn place_of(files: &[MemFile], name: &str) -> Option<usize>
 // Adds the piece to the file of this name, which is made where it isn't there.
 fn extend(alloc: Global, files: &mut Vec<MemFile>, name: &str, piece: &[u8]) -> Result<(), Memory>
     ensures added { OnOk result (bytes_under files.new.items name.now
-        ≡ Some (bytes_or_empty files.old.items name.now ++ piece.now)) }
+        ≡ with_piece (bytes_under files.old.items name.now) piece.now) }
     ensures others { SameOthers (bytes_under files.old.items) (bytes_under files.new.items) name.now }
     ensures memory { OnErr result (files.new.items ≡ files.old.items) }
 {
@@ -139,18 +139,18 @@ fn empty(alloc: Global, files: &mut Vec<MemFile>, name: &str) -> Result<(), Memo
 
 impl Files for MemFiles {
     ghost use Rattle.std.specs.Prelude.{true, false};
+    ghost use Rattle.std.proofs.lemmas.Bool.{false≢true};
 
-    ghost read_faults = { λ f. f.read_faults };
+    ghost shows = { λ f. record {
+      holds = bytes_under f.files;
+      lets_read = λ name. true;
+      lets_write = λ name. true;
+      ceased = λ name. false;
+      read_faults = f.read_faults;
+      write_faults = f.write_faults;
+    } };
 
-    ghost write_faults = { λ f. f.write_faults };
-
-    ghost holds = { λ f. bytes_under f.files };
-
-    ghost lets_read = { λ f name. true };
-
-    ghost lets_write = { λ f name. true };
-
-    ghost ceased = { λ f name. false };
+    ghost ceased_tells_nothing = { λ f name gone. absurd (false≢true gone) };
 
     fn read_at(&mut self, name: &str, at: u64, into: &mut [u8]) -> Result<usize, Failed>
         requires { at ≤ 2 ^ 40 }
@@ -205,7 +205,7 @@ impl Files for MemFiles {
 
     fn append(&mut self, name: &str, piece: &[u8]) -> Result<(), Fault>
         ensures added { OnOk result (bytes_under self.new.files name.now
-            ≡ Some (bytes_or_empty self.old.files name.now ++ piece.now)) }
+            ≡ with_piece (bytes_under self.old.files name.now) piece.now) }
         ensures same { OnErr result (self.new.files ≡ self.old.files) }
         ensures others { SameOthers (bytes_under self.old.files) (bytes_under self.new.files) name.now }
         ensures failed { IsErrOf result Fault.Failed ↔ IsTrue (fails_next self.old.calls) }

@@ -50,14 +50,13 @@ impl MemSink {
 impl Sink for MemSink {
     ghost use Rattle.std.specs.Prelude.{◌≡◌, Some, false, refl};
     ghost use Rattle.std.proofs.Common.{◌∙◌};
+    ghost use Rattle.std.proofs.lemmas.Bool.{false≢true};
 
-    ghost faults = { λ s. s.faults };
-
-    ghost told = { λ s. Some s.bytes };
-
-    ghost ceased = { λ s. false };
+    ghost shows = { λ s. record { told = Some s.bytes; ceased = false; faults = s.faults } };
 
     ghost beside = { λ a b. b.calls.failing ≡ a.calls.failing };
+
+    ghost ceased_tells_nothing = { λ s gone. absurd (false≢true gone) };
 
     ghost beside_same = { λ s. refl };
 

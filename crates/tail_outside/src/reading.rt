@@ -1,7 +1,7 @@
 //! A file's bytes, up to a limit.
 
-ghost use Rattle.std.specs.Prelude.{◌≡◌, ◌<◌, ◌≤◌, ◌^◌, ℕ, length, List, take, IfOk, IfSome, IsErrOf, IsTrue};
-ghost use Rattle.tail_outside.specs.Outside.{HasRisen, SameNames};
+ghost use Rattle.std.specs.Prelude.{◌≡◌, ◌<◌, ◌≤◌, ◌^◌, length, take, IfOk, IfSome, IsErr, IsErrOf, IsTrue};
+ghost use Rattle.tail_outside.specs.Outside.{IsRead, OnlyRead, ReadHasFailed};
 
 use crate::{Failed, Files};
 use std::alloc::Global;
@@ -29,20 +29,19 @@ impl From<Failed> for ReadFail {
     }
 }
 
-/// The bytes of a file to its end, or the first `limit` of them where it has more.
+/// The bytes of a file to its end, or the first `limit` of them where it has more. No byte behind them is asked for.
 pub fn read_all<F: Files>(
     alloc: Global,
     files: &mut F,
     name: &str,
     limit: usize,
 ) -> Result<Vec<u8>, ReadFail>
-    requires named { IsTrue (F.lets_read files.old name.now) }
+    requires named { IsTrue ((F.shows files.old).lets_read name.now) }
     requires near { limit ≤ 2 ^ 40 }
-    ensures bytes { IfOk result (λ v. IfSome (F.holds files.old name.now) (λ bytes. v.items ≡ take limit bytes)) }
-    ensures same { (other : List ℕ) → F.holds files.new other ≡ F.holds files.old other }
-    ensures lets { SameNames (F.lets_read files.old) (F.lets_read files.new) }
-    ensures counts { F.read_faults files.old ≤ F.read_faults files.new }
-    ensures cause { IsErrOf result ReadFail.Failed → HasRisen (F.read_faults files.old) (F.read_faults files.new) }
+    ensures bytes { IfOk result (λ v. IfSome ((F.shows files.old).holds name.now) (λ bytes. v.items ≡ take limit bytes)) }
+    ensures within { IfOk result (λ v. length v.items ≤ limit) }
+    ensures only_read { OnlyRead (F.shows files.old) (F.shows files.new) }
+    ensures cause { IsErrOf result ReadFail.Failed → ReadHasFailed (F.shows files.old) (F.shows files.new) }
 {
     let Ok(mut buffer) = buffer_of(alloc, PIECE) else {
         return Err(ReadFail::Memory);
@@ -51,6 +50,7 @@ pub fn read_all<F: Files>(
 }
 
 // The same, with a buffer for the pieces.
+#[tactic(auto, using(crate::specs::Outside::only_read_same, crate::specs::Outside::only_read_chains))]
 fn read_pieces<F: Files>(
     alloc: Global,
     files: &mut F,
@@ -58,18 +58,18 @@ fn read_pieces<F: Files>(
     limit: usize,
     buffer: &mut [u8],
 ) -> Result<Vec<u8>, ReadFail>
-    requires named { IsTrue (F.lets_read files.old name.now) }
+    requires named { IsTrue ((F.shows files.old).lets_read name.now) }
     requires near { limit ≤ 2 ^ 40 }
     requires room { 0 < length buffer.old }
-    ensures bytes { IfOk result (λ v. IfSome (F.holds files.old name.now) (λ bytes. v.items ≡ take limit bytes)) }
-    ensures same { (other : List ℕ) → F.holds files.new other ≡ F.holds files.old other }
-    ensures lets { SameNames (F.lets_read files.old) (F.lets_read files.new) }
-    ensures counts { F.read_faults files.old ≤ F.read_faults files.new }
-    ensures cause { IsErrOf result ReadFail.Failed → HasRisen (F.read_faults files.old) (F.read_faults files.new) }
+    ensures bytes { IfOk result (λ v. IfSome ((F.shows files.old).holds name.now) (λ bytes. v.items ≡ take limit bytes)) }
+    ensures within { IfOk result (λ v. length v.items ≤ limit) }
+    ensures only_read { OnlyRead (F.shows files.old) (F.shows files.new) }
+    ensures cause { IsErrOf result ReadFail.Failed → ReadHasFailed (F.shows files.old) (F.shows files.new) }
 {
     let mut bytes = Vec::new(alloc);
     'pieces: while bytes.len() < limit {
-        let count = files.read_at(name, bytes.len() as u64, buffer)?;
+        let most = limit - bytes.len();
+        let count = read_piece(files, name, bytes.len() as u64, most, buffer)?;
         if count == 0 {
             return Ok(bytes);
         }
@@ -77,8 +77,30 @@ fn read_pieces<F: Files>(
             return Err(ReadFail::Memory);
         }
     }
-    bytes.truncate(limit);
     Ok(bytes)
+}
+
+// Reads the bytes at a place into a front of the buffer, and at most so many.
+fn read_piece<F: Files>(
+    files: &mut F,
+    name: &str,
+    at: u64,
+    most: usize,
+    buffer: &mut [u8],
+) -> Result<usize, Failed>
+    requires named { IsTrue ((F.shows files.old).lets_read name.now) }
+    requires near { at ≤ 2 ^ 40 }
+    ensures few { IfOk result (λ n. n ≤ most) }
+    ensures fits { IfOk result (λ n. n ≤ length buffer.old) }
+    ensures read { IfOk result (λ n. IfSome ((F.shows files.old).holds name.now)
+        (λ bytes. IsRead bytes at (take most buffer.new) n)) }
+    ensures only_read { OnlyRead (F.shows files.old) (F.shows files.new) }
+    ensures cause { IsErr result → ReadHasFailed (F.shows files.old) (F.shows files.new) }
+{
+    if most < buffer.len() {
+        return files.read_at(name, at, &mut buffer[..most]);
+    }
+    files.read_at(name, at, buffer)
 }
 
 // A buffer with room for a piece.

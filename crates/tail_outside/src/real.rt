@@ -1,18 +1,24 @@
 //! The file system and the standard output. They tell nothing of bytes, and keep no buffer of their own.
+//!
+//! The file that was read last stays open, so that a pipe can be read to its end without going back.
 
 ghost use Rattle.std.specs.Prelude.{◌≡◌, ◌≤◌, length, IfOk, IfErr, IsErr, OnOk};
 ghost use Rattle.tail_outside.specs.Outside.{HasRisen};
 
 use crate::{Failed, Fault, Files, Sink};
+use std::alloc::Global;
 use std::fs::OpenOptions;
-use std::io::{Read, Seek, SeekFrom, Write};
+use std::io::{ErrorKind, Read, Seek, SeekFrom, Write};
 use std::marker::Model;
 use std::{fs, io, rt};
 
-/// Files of the file system. Each call opens the file anew.
+/// Files of the file system. A read goes on in the file that was read last, where it ended there; every other call
+/// opens its file anew.
 #[derive(Drop)]
 pub struct RealFiles<R: rt::Files + Drop> {
+    alloc: Global,
     runtime: R,
+    reading: Option<Reading<R::File>>,
     read_faults: u64,
     write_faults: u64,
 }
@@ -27,31 +33,102 @@ impl<R: rt::Files + Drop> Model for RealFiles<R> {
 
 impl<R: rt::Files + Drop> RealFiles<R> {
     /// The files that this runtime reaches.
-    pub fn new(runtime: R) -> RealFiles<R>
+    pub fn new(alloc: Global, runtime: R) -> RealFiles<R>
         ensures { result ≡ record { read_faults = 0; write_faults = 0 } }
     {
         RealFiles {
+            alloc,
             runtime,
+            reading: None,
             read_faults: 0,
             write_faults: 0,
         }
     }
+
+    // One read at a place of the file. The file stays open, unless the read fails.
+    fn read_once(&mut self, name: &str, at: u64, into: &mut [u8]) -> io::Result<usize>
+        ensures fits { IfOk result (λ n. n ≤ length into.old) }
+        ensures same { self.new ≡ self.old }
+    {
+        let mut reading = match self.reading.take() {
+            Some(last) if last.stands_at(name, at) => last,
+            _ => Reading::open(self.alloc, &self.runtime, name, at)?,
+        };
+        let count = reading.read(into)?;
+        self.reading = Some(reading);
+        Ok(count)
+    }
+}
+
+// A file that is open for reading, and the place where its next byte stands.
+#[derive(Drop)]
+struct Reading<H> {
+    file: H,
+    // Nothing where there was no memory for the name: then the file is not read on.
+    name: Option<String>,
+    at: u64,
+}
+
+impl<H> Reading<H> {
+    // Whether the next byte is that at this place of this file. At its beginning a file is always opened anew.
+    fn stands_at(&self, name: &str, at: u64) -> bool {
+        match &self.name {
+            Some(own) => at > 0 && self.at == at && own.as_str() == name,
+            None => false,
+        }
+    }
+}
+
+impl<H: Read + Seek + Drop> Reading<H> {
+    // The file, at this place. What cannot be read at a place, as a pipe, can be opened at its beginning.
+    fn open<R: rt::Files<File = H>>(
+        alloc: Global,
+        runtime: &R,
+        name: &str,
+        at: u64,
+    ) -> io::Result<Reading<H>> {
+        let mut file = fs::open(runtime, name)?;
+        if at > 0 {
+            file.seek(SeekFrom::Start(at))?;
+        }
+        Ok(Reading {
+            file,
+            name: String::from_str(alloc, name).ok(),
+            at,
+        })
+    }
+
+    // Reads on, again where a signal interrupts it.
+    fn read(&mut self, into: &mut [u8]) -> io::Result<usize>
+        ensures { IfOk result (λ n. n ≤ length into.old) }
+    {
+        for _ in 0..u64::MAX {
+            match self.file.read(into) {
+                Ok(count) => {
+                    self.at = self.at.saturating_add(count as u64);
+                    return Ok(count);
+                }
+                Err(error) if error.kind() == ErrorKind::Interrupted => {}
+                Err(error) => return Err(error),
+            }
+        }
+        Err(io::Error::from(ErrorKind::Interrupted))
+    }
 }
 
 impl<R: rt::Files + Drop> Files for RealFiles<R> {
-    ghost use Rattle.std.specs.Prelude.{true, false, None};
+    ghost use Rattle.std.specs.Prelude.{true, None, refl};
 
-    ghost read_faults = { λ f. f.read_faults };
+    ghost shows = { λ f. record {
+      holds = λ name. None;
+      lets_read = λ name. true;
+      lets_write = λ name. true;
+      ceased = λ name. true;
+      read_faults = f.read_faults;
+      write_faults = f.write_faults;
+    } };
 
-    ghost write_faults = { λ f. f.write_faults };
-
-    ghost holds = { λ f name. None };
-
-    ghost lets_read = { λ f name. true };
-
-    ghost lets_write = { λ f name. true };
-
-    ghost ceased = { λ f name. false };
+    ghost ceased_tells_nothing = { λ f name gone. refl };
 
     fn read_at(&mut self, name: &str, at: u64, into: &mut [u8]) -> Result<usize, Failed>
         ensures fits { IfOk result (λ n. n ≤ length into.old) }
@@ -60,7 +137,7 @@ impl<R: rt::Files + Drop> Files for RealFiles<R> {
         ensures counts { self.old.read_faults ≤ self.new.read_faults }
         ensures cause { IsErr result → HasRisen self.old.read_faults self.new.read_faults }
     {
-        match read_once(&self.runtime, name, at, into) {
+        match self.read_once(name, at, into) {
             Ok(count) => Ok(count),
             Err(_) => {
                 self.read_faults = self.read_faults.saturating_add(1);
@@ -102,14 +179,6 @@ impl<R: rt::Files + Drop> Files for RealFiles<R> {
     }
 }
 
-fn read_once<R: rt::Files>(runtime: &R, name: &str, at: u64, into: &mut [u8]) -> io::Result<usize>
-    ensures { IfOk result (λ n. n ≤ length into.old) }
-{
-    let mut file = fs::open(runtime, name)?;
-    file.seek(SeekFrom::Start(at))?;
-    file.read(into)
-}
-
 // Writes the piece at the end of the file, which is made where it isn't there.
 fn append_whole<R: rt::Files>(runtime: &R, name: &str, piece: &[u8]) -> Result<(), Failed> {
     let opened = OpenOptions::new()
@@ -125,13 +194,17 @@ fn append_whole<R: rt::Files>(runtime: &R, name: &str, piece: &[u8]) -> Result<(
 // Writes the piece, however many calls of `write` that takes.
 fn write_whole<W: Write>(out: &mut W, piece: &[u8]) -> Result<(), Failed> {
     let mut at = 0;
-    while at < piece.len() {
+    for _ in 0..u64::MAX {
+        if at >= piece.len() {
+            return Ok(());
+        }
         match out.write(&piece[at..]) {
             Ok(count) if count > 0 => at += count,
+            Err(error) if error.kind() == ErrorKind::Interrupted => {}
             _ => return Err(Failed),
         }
     }
-    Ok(())
+    Err(Failed)
 }
 
 /// The standard output.
@@ -159,15 +232,13 @@ impl<R: Print + Drop> RealOut<R> {
 }
 
 impl<R: Print + Drop> Sink for RealOut<R> {
-    ghost use Rattle.std.specs.Prelude.{false, None, ⊤};
+    ghost use Rattle.std.specs.Prelude.{true, None, ⊤, refl};
 
-    ghost faults = { λ s. s.faults };
-
-    ghost told = { λ s. None };
-
-    ghost ceased = { λ s. false };
+    ghost shows = { λ s. record { told = None; ceased = true; faults = s.faults } };
 
     ghost beside = { λ a b. ⊤ };
+
+    ghost ceased_tells_nothing = { λ s gone. refl };
 
     ghost beside_same = { λ s. tt };
 

@@ -116,19 +116,18 @@ fn extend(files: &mut Vec<SureFile>, name: &str, piece: &[u8])
 
 impl Files for SureFiles {
     ghost use Rattle.std.specs.Prelude.{true};
-    ghost use Rattle.tail_outside.specs.Sure.{told_under, ceased_under};
+    ghost use Rattle.tail_outside.specs.Sure.{told_under, ceased_under, told_under-ceased};
 
-    ghost read_faults = { λ f. 0 };
+    ghost shows = { λ f. record {
+      holds = told_under f;
+      lets_read = λ name. true;
+      lets_write = λ name. true;
+      ceased = ceased_under f;
+      read_faults = 0;
+      write_faults = 0;
+    } };
 
-    ghost write_faults = { λ f. 0 };
-
-    ghost holds = { told_under };
-
-    ghost lets_read = { λ f name. true };
-
-    ghost lets_write = { λ f name. true };
-
-    ghost ceased = { ceased_under };
+    ghost ceased_tells_nothing = { told_under-ceased };
 
     fn read_at(&mut self, name: &str, at: u64, into: &mut [u8]) -> Result<usize, Failed>
         requires { at ≤ 2 ^ 40 }

@@ -79,15 +79,13 @@ impl SureSink {
 
 impl Sink for SureSink {
     ghost use Rattle.std.specs.Prelude.{⊤};
-    ghost use Rattle.tail_outside.specs.Sure.{told_of};
+    ghost use Rattle.tail_outside.specs.Sure.{told_of, told_of-ceased};
 
-    ghost faults = { λ s. 0 };
-
-    ghost told = { told_of };
-
-    ghost ceased = { λ s. s.ceased };
+    ghost shows = { λ s. record { told = told_of s; ceased = s.ceased; faults = 0 } };
 
     ghost beside = { λ a b. ⊤ };
+
+    ghost ceased_tells_nothing = { told_of-ceased };
 
     ghost beside_same = { λ s. tt };
 

@@ -1,26 +1,26 @@
 //! Callers through the bounds, and tables of calls over each implementation.
 
-ghost use Rattle.std.specs.Prelude.{◌≡◌, ◌≤◌, ◌++◌, false, IsTrue, IfOk, IfSome, OnOk, OnErr, IsErrOf};
-ghost use Rattle.tail_outside.specs.Outside.{HasRisen, IsRead, Adds, AddsFront, SameOthers, StayCeased};
+ghost use Rattle.std.specs.Prelude.{◌≡◌, ◌≤◌, ◌++◌, false, IsTrue, IfOk, OnOk, OnErr, IsErrOf};
+ghost use Rattle.tail_outside.specs.Outside.{IsRead, PieceHasFailed, SameOthers, StayCeased, Takes, TakesFront};
 
 use crate::{
     Failed, Fault, FileSink, Files, MemFile, MemFiles, MemSink, ReadFail, RealFiles, RealOut, Sink,
     SureFiles, SureSink, read_all,
 };
 use std::alloc::Global;
-use std::fs;
+use std::io::Write;
+use std::os::fd::AsRawFd;
 use std::test::Fail;
+use std::{fs, io};
 
 // Puts one piece and then another.
 fn put_both<S: Sink>(out: &mut S, first: &[u8], second: &[u8]) -> Result<(), Fault>
-    ensures taken { OnOk result (S.ceased out.new ≡ false →
-        Adds (S.told out.old) (S.told out.new) (first.now ++ second.now)) }
-    ensures front { OnErr result (S.ceased out.new ≡ false →
-        AddsFront (S.told out.old) (S.told out.new) (first.now ++ second.now)) }
+    ensures taken { OnOk result (Takes (S.shows out.old) (S.shows out.new) (first.now ++ second.now)) }
+    ensures front { OnErr result (TakesFront (S.shows out.old) (S.shows out.new) (first.now ++ second.now)) }
     ensures beside { S.beside out.old out.new }
-    ensures ceases { S.ceased out.new ≡ false → S.ceased out.old ≡ false }
-    ensures counts { S.faults out.old ≤ S.faults out.new }
-    ensures cause { IsErrOf result Fault.Failed → HasRisen (S.faults out.old) (S.faults out.new) }
+    ensures ceases { (S.shows out.new).ceased ≡ false → (S.shows out.old).ceased ≡ false }
+    ensures counts { (S.shows out.old).faults ≤ (S.shows out.new).faults }
+    ensures cause { IsErrOf result Fault.Failed → PieceHasFailed (S.shows out.old) (S.shows out.new) }
 {
     if let Err(fault) = out.put(first) {
         return Err(fault);
@@ -35,12 +35,11 @@ fn rewrite<F: Files>(
     piece: &[u8],
     into: &mut [u8],
 ) -> Result<usize, Fault>
-    requires reads { IsTrue (F.lets_read files.old name.now) }
-    requires writes { IsTrue (F.lets_write files.old name.now) }
-    ensures read { IfOk result (λ n. F.ceased files.new name.now ≡ false →
-        IfSome (F.holds files.old name.now) (λ _. IsRead piece.now 0 into.new n)) }
-    ensures others { SameOthers (F.holds files.old) (F.holds files.new) name.now }
-    ensures ceases { StayCeased (F.ceased files.old) (F.ceased files.new) }
+    requires reads { IsTrue ((F.shows files.old).lets_read name.now) }
+    requires writes { IsTrue ((F.shows files.old).lets_write name.now) }
+    ensures read { IfOk result (λ n. (F.shows files.new).ceased name.now ≡ false → IsRead piece.now 0 into.new n) }
+    ensures others { SameOthers (F.shows files.old).holds (F.shows files.new).holds name.now }
+    ensures ceases { StayCeased (F.shows files.old).ceased (F.shows files.new).ceased }
 {
     if let Err(fault) = files.begin(name) {
         return Err(fault);
@@ -83,8 +82,8 @@ fn failing_files(alloc: Global, number: u64) -> Result<MemFiles, Fail> {
 
 // Whether a file that is rewritten with the piece reads back so.
 fn reads_back<F: Files>(files: &mut F, name: &str, piece: &[u8], want: &[u8]) -> bool
-    requires reads { IsTrue (F.lets_read files.old name.now) }
-    requires writes { IsTrue (F.lets_write files.old name.now) }
+    requires reads { IsTrue ((F.shows files.old).lets_read name.now) }
+    requires writes { IsTrue ((F.shows files.old).lets_write name.now) }
 {
     let mut into = [0; 4];
     rewrite(files, name, piece, &mut into) == Ok(want.len()) && into.starts_with(want)
@@ -126,7 +125,7 @@ fn files_are_rewritten_alike(rt: HostRuntime) -> Result<(), Fail> {
         assert!(rt; reads_back(&mut held, "plan", piece, want));
         let mut sure = SureFiles::new(rt.alloc(), files(rt.alloc())?, 6)?;
         assert!(rt; reads_back(&mut sure, "plan", piece, want));
-        let mut real = RealFiles::new(&rt);
+        let mut real = RealFiles::new(rt.alloc(), &rt);
         assert!(rt; reads_back(&mut real, "tail_outside_alike", piece, want));
         fs::remove_file(&rt, "tail_outside_alike")?;
     }
@@ -283,7 +282,7 @@ fn a_sure_file_drops_past_its_room(rt: HostRuntime) -> Result<(), Fail> {
 #[test]
 fn a_real_file_is_rewritten(rt: HostRuntime) -> Result<(), Fail> {
     let name = "tail_outside_written";
-    let mut real = RealFiles::new(&rt);
+    let mut real = RealFiles::new(rt.alloc(), &rt);
     let mut into = [0; 4];
     assert_eq!(rt; rewrite(&mut real, name, b"old", &mut into), Ok(3));
     assert_eq!(rt; rewrite(&mut real, name, b"xyz", &mut into), Ok(3));
@@ -293,11 +292,87 @@ fn a_real_file_is_rewritten(rt: HostRuntime) -> Result<(), Fail> {
     Ok(())
 }
 
+// The bytes of a long file in turn, then again from its beginning, at a place behind it and at one before it.
+#[test]
+fn a_real_file_is_read_on(rt: HostRuntime) -> Result<(), Fail> {
+    let name = "tail_outside_forward";
+    let mut real = RealFiles::new(rt.alloc(), &rt);
+    assert_eq!(rt; real.begin(name), Ok(()));
+    assert_eq!(rt; real.append(name, b"abcdefg"), Ok(()));
+    for (at, want) in [
+        (0, b"abcd".as_slice()),
+        (4, b"efg".as_slice()),
+        (7, b"".as_slice()),
+        (0, b"abcd".as_slice()),
+        (6, b"g".as_slice()),
+        (1, b"bcde".as_slice()),
+        (5, b"fg".as_slice()),
+    ] {
+        let mut into = [0; 4];
+        assert_eq!(rt;
+            real.read_at(name, at, &mut into),
+            Ok(want.len()),
+            "at {at}"
+        );
+        assert!(rt; into.starts_with(want), "at {at}");
+    }
+    fs::remove_file(&rt, name)?;
+    Ok(())
+}
+
+// Two files in turn: each is read at its own place.
+#[test]
+fn real_files_are_read_in_turn(rt: HostRuntime) -> Result<(), Fail> {
+    let (first, second) = ("tail_outside_first", "tail_outside_second");
+    let mut real = RealFiles::new(rt.alloc(), &rt);
+    assert_eq!(rt; real.append(first, b"abc"), Ok(()));
+    assert_eq!(rt; real.append(second, b"xyz"), Ok(()));
+    for (name, at, want) in [
+        (first, 0, b"a"),
+        (second, 1, b"y"),
+        (first, 1, b"b"),
+        (first, 2, b"c"),
+        (second, 2, b"z"),
+    ] {
+        let mut into = [0; 1];
+        assert_eq!(rt; real.read_at(name, at, &mut into), Ok(1));
+        assert!(rt; into == *want, "{name} at {at}");
+    }
+    fs::remove_file(&rt, first)?;
+    fs::remove_file(&rt, second)?;
+    Ok(())
+}
+
+// A pipe has no places to go back to: it is read on to its end, piece by piece.
+#[test]
+fn a_pipe_is_read_to_its_end(rt: HostRuntime) -> Result<(), Fail> {
+    let (reader, mut writer) = io::pipe(&rt)?;
+    writer.write_all(b"abcdef")?;
+    drop(writer);
+    let name = format!(in rt.alloc(); "/dev/fd/{}", reader.as_raw_fd())?;
+    let mut real = RealFiles::new(rt.alloc(), &rt);
+    for (at, want) in [
+        (0, b"abcd".as_slice()),
+        (4, b"ef".as_slice()),
+        (6, b"".as_slice()),
+    ] {
+        let mut into = [0; 4];
+        assert_eq!(rt;
+            real.read_at(&name, at, &mut into),
+            Ok(want.len()),
+            "at {at}"
+        );
+        assert!(rt; into.starts_with(want), "at {at}");
+    }
+    assert_eq!(rt; real.read_at(&name, 3, &mut [0; 4]), Err(Failed));
+    Ok(())
+}
+
 // What a file is given joins what it holds.
 #[test]
 fn a_real_file_is_added_to(rt: HostRuntime) -> Result<(), Fail> {
     let name = "tail_outside_added";
-    let mut real = RealFiles::new(&rt);
+    let mut real = RealFiles::new(rt.alloc(), &rt);
     assert_eq!(rt; real.begin(name), Ok(()));
     assert_eq!(rt; real.append(name, b"ab"), Ok(()));
     assert_eq!(rt; real.append(name, b"c"), Ok(()));
@@ -313,7 +388,7 @@ fn a_real_file_is_added_to(rt: HostRuntime) -> Result<(), Fail> {
 // A folder is no file. The output takes what is put.
 #[test]
 fn a_folder_is_no_file(rt: HostRuntime) {
-    let mut real = RealFiles::new(&rt);
+    let mut real = RealFiles::new(rt.alloc(), &rt);
     assert_eq!(rt; real.read_at(".", 0, &mut [0; 4]), Err(Failed));
     assert_eq!(rt; real.begin("."), Err(Fault::Failed));
     assert_eq!(rt; real.append(".", b"!"), Err(Fault::Failed));

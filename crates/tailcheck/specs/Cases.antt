@@ -1,26 +1,11 @@
 -- What is judged: a plan, by the book of three tables.
-use Rattle.std.specs.Prelude.{ℕ, List, take, Result, Ok}
+use Rattle.std.specs.Prelude.{ℕ, List, Result, Ok}
 use Rattle.tail_book.specs.Seen.{BookSeen, RawPlanSeen}
 use Rattle.tail_text.specs.Checks.{look}
 use Rattle.tail_text.specs.declared.refusal.Refusal.{Refusal}
 use Rattle.book_maker.specs.Made.{book_of}
 use Rattle.plan_report.specs.PlanText.{plan_in}
-
--- the bytes of the three tables and of the plan's file
-pub record Texts : Type 0 where
-  pub timetable : List ℕ
-  pub fleet : List ℕ
-  pub rules : List ℕ
-  pub plan : List ℕ
-
--- at most so many bytes of each
-abbrev pub fronts : ℕ → Texts → Texts
-fronts limit texts = record {
-  timetable = take limit texts.timetable;
-  fleet = take limit texts.fleet;
-  rules = take limit texts.rules;
-  plan = take limit texts.plan;
-}
+use Rattle.tailcheck.specs.Texts.{TextsSeen}
 
 -- a book, and the plan that is judged by it
 pub record Case : Type 0 where
@@ -28,8 +13,8 @@ pub record Case : Type 0 where
   pub plan : RawPlanSeen
 
 -- the book of the tables and the plan of its file, or the first refusal: that of the tables, and then that of the plan's file
-abbrev pub case_of : Texts → Result Case Refusal
+abbrev pub case_of : TextsSeen → Result Case Refusal
 case_of texts =
-    look (book_of texts.timetable texts.fleet texts.rules) (λ book.
+    look (book_of texts.tables.timetable texts.tables.fleet texts.tables.rules) (λ book.
     look (plan_in texts.plan) (λ plan.
     Ok (record { book = book; plan = plan })))

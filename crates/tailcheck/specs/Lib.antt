@@ -1,5 +1,8 @@
 pub mod Usage
+pub mod Texts
+pub mod Reading
 pub mod Words
 pub mod Cases
+pub mod Audits
 pub mod Answers
 pub mod Promises

@@ -1,51 +1,19 @@
--- The reading of the words: the program's name, the names of three tables and that of a plan's file, as `clap` reads
--- one simple command.
-use Rattle.std.specs.Prelude.{ℕ, Bool, true, List, codes, length, ◌==◌, Option, Some, None, option_and_then, if◌then◌else◌}
-use Rattle.clap.specs.Words.{App, Row, Rule, fault_of, first_of, matches_of, new_app, new_rule, with_rule}
-use Rattle.clap.specs.Simple.{on_top}
-use Rattle.tailcheck.specs.declared.words.CheckNames.{CheckNames as GivenNames}
-
--- the names of the three tables and of the plan's file
-pub record CheckNames : Type 0 where
-  pub timetable : List ℕ
-  pub fleet : List ℕ
-  pub rules : List ℕ
-  pub plan : List ℕ
-
--- a word that has to stand in its place
-abbrev pub required_place : List ℕ → Rule
-required_place id = record (new_rule id) { required = true }
-
--- an option that has to be given, once and with one value
-abbrev pub required_option : List ℕ → Rule
-required_option id = record (new_rule id) { long = Some id; required = true }
-
--- the bare command: without a flag for help, and without one for a version, since it has none
-abbrev pub bare_command : App
-bare_command = on_top (λ s. record s { disable_help_flag = true }) (new_app (codes "tailcheck"))
+-- The reading of the words: the program's name, the names of three tables and that of a plan's file.
+use Rattle.std.specs.Prelude.{ℕ, List, codes, Option, option_and_then, option_map}
+use Rattle.clap.specs.Words.{App, Row, first_of, with_rule}
+use Rattle.run_frame.specs.Words.{matched, required_option, tables_command, tables_in}
+use Rattle.tailcheck.specs.Texts.{CheckNamesSeen}
 
 -- the command: three places and one option
 abbrev pub command : App
-command = with_rule (with_rule (with_rule (with_rule bare_command
-    (required_place (codes "timetable"))) (required_place (codes "fleet"))) (required_place (codes "rules")))
-    (required_option (codes "plan"))
-
--- the command takes the words: no step of the reading fails
-abbrev pub is_taken : List (List ℕ) → Bool
-is_taken words = length (fault_of command words) == 0
+command = with_rule (tables_command (codes "tailcheck")) (required_option (codes "plan"))
 
 -- the names among what the command matched
-abbrev pub names_in : List Row → Option CheckNames
+abbrev pub names_in : List Row → Option CheckNamesSeen
 names_in rows =
-    option_and_then (λ timetable. option_and_then (λ fleet. option_and_then (λ rules. option_and_then (λ plan.
-    Some (record { timetable = timetable; fleet = fleet; rules = rules; plan = plan }))
-    (first_of (codes "plan") rows)) (first_of (codes "rules") rows)) (first_of (codes "fleet") rows))
-    (first_of (codes "timetable") rows)
+    option_and_then (λ tables. option_map (λ plan. record { tables = tables; plan = plan }) (first_of (codes "plan") rows))
+    (tables_in rows)
 
 -- the names that the words give; words that the command refuses give none
-abbrev pub check_of : List (List ℕ) → Option CheckNames
-check_of words = if is_taken words then names_in (matches_of command words) else None
-
--- the names, as bytes
-abbrev pub names_seen : GivenNames → CheckNames
-names_seen names = record { timetable = names.timetable.now; fleet = names.fleet.now; rules = names.rules.now; plan = names.plan.now }
+unfoldable pub check_of : List (List ℕ) → Option CheckNamesSeen
+check_of words = option_and_then names_in (matched command words)

@@ -1,20 +1,38 @@
-//! What a run answers.
+//! What a run finds.
+
+ghost use Rattle.std.specs.Prelude.{◌≡◌, ◌≤◌, ℕ, false, List, OnErr, OnOk, IsErrOf};
+ghost use Rattle.plan_report.specs.AuditText.{AreOfBook, audit_lines};
+ghost use Rattle.tailcheck.specs.Audits.{audit_status};
 
 use plan_audit::Audit;
+use plan_report::{ReportFail, write_audit};
+use run_frame::{Finding, Status};
+use std::alloc::Global;
 use tail_book::Book;
-use tail_text::Refusal;
+use tail_outside::Sink;
 
-/// What a run answers.
+/// What a run finds: the book of the tables, and what an audit of the plan found.
 #[derive(Debug, Drop)]
-pub enum Answer {
-    /// The words are refused.
-    Usage,
-    /// A table or the plan's file is refused.
-    Refused(Refusal),
-    /// The tables are this book, and an audit of the plan found this.
-    Judged(Book, Audit),
-    /// A file could not be read.
-    ReadFailed,
-    /// There was no memory to find an answer.
-    Memory,
+pub struct Judged {
+    pub book: Book,
+    pub found: Audit,
+}
+
+impl Finding for Judged {
+    ghost lines = { λ j. audit_lines j.book j.found };
+
+    ghost code = { λ j. audit_status j.found };
+
+    ghost is_printable = { λ j. AreOfBook j.book j.found };
+
+    fn status(&self) -> Status {
+        Status(match &self.found {
+            Audit::Legal(_) => 0,
+            Audit::Broken(_) => 1,
+        })
+    }
+
+    fn write<S: Sink>(&self, alloc: Global, out: &mut S) -> Result<(), ReportFail> {
+        write_audit(alloc, &self.book, &self.found, out)
+    }
 }

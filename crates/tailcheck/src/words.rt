@@ -1,65 +1,45 @@
 //! The reading of the words: which tables and which plan are judged.
-//!
-//! `clap` reads them for one simple command, and what it gives is stated for every list of words. So both outcomes
-//! are exact: names come where the command takes the words, and nothing where it refuses them.
 
-ghost use Rattle.std.specs.Prelude.{◌≡◌, IfOk, map, option_map, string_bytes};
-ghost use Rattle.clap.specs.Words.{app_of, first_of, found_of, rows_of};
-ghost use Rattle.tailcheck.specs.Words.{check_of, command, names_in, names_seen};
+ghost use Rattle.std.specs.Prelude.{◌≡◌, IfOk, option_map};
+ghost use Rattle.clap.specs.Words.{app_of, found_of, rows_of};
+ghost use Rattle.run_frame.specs.Spelled.{spelled};
+ghost use Rattle.tailcheck.specs.Reading.{check_names_seen};
+ghost use Rattle.tailcheck.specs.Words.{check_of, command, names_in};
 
 use clap::error::ErrorKind;
 use clap::{Arg, ArgMatches, Command};
+use run_frame::{TableNames, tables_command, tables_in, value_of};
 use std::alloc::{AllocError, Global};
 use tail_book::Memory;
 
 /// The names of the three tables and of the plan's file, as the words give them.
 #[derive(Clone, Copy, PartialEq, Eq, Debug)]
 pub struct CheckNames<'a> {
-    pub timetable: &'a str,
-    pub fleet: &'a str,
-    pub rules: &'a str,
+    pub tables: TableNames<'a>,
     pub plan: &'a str,
 }
 
-/// The command: three words that have to stand in their places, an option that has to be given, and no flag for help.
+// The command: three words that have to stand in their places, and an option that has to be given.
 fn command<'a>(alloc: Global) -> Result<Command<'a>, AllocError>
     ensures { IfOk result (λ c. app_of c ≡ command) }
 {
-    Command::new(alloc, "tailcheck")
-        .disable_help_flag(true)
-        .arg(Arg::new(alloc, "timetable").required(true))?
-        .arg(Arg::new(alloc, "fleet").required(true))?
-        .arg(Arg::new(alloc, "rules").required(true))?
-        .arg(Arg::new(alloc, "plan").long("plan").required(true))
+    tables_command(alloc, "tailcheck")?.arg(Arg::new(alloc, "plan").long("plan").required(true))
 }
 
-/// The word that an argument was given.
-fn text_of<'a>(matches: &ArgMatches<'a>, id: &str) -> Option<&'a str>
-    ensures { option_map (λ s. s.now) result ≡ first_of id.now (rows_of (found_of matches.now)) }
-{
-    matches.get_str(id)
-}
-
-/// The names among what the command matched.
+// The names among what the command matched.
 fn names_in<'a>(matches: &ArgMatches<'a>) -> Option<CheckNames<'a>>
-    ensures { option_map names_seen result ≡ names_in (rows_of (found_of matches.now)) }
+    ensures { option_map check_names_seen result ≡ names_in (rows_of (found_of matches.now)) }
 {
-    let timetable = text_of(matches, "timetable")?;
-    let fleet = text_of(matches, "fleet")?;
-    let rules = text_of(matches, "rules")?;
-    let plan = text_of(matches, "plan")?;
-    Some(CheckNames {
-        timetable,
-        fleet,
-        rules,
-        plan,
-    })
+    let tables = tables_in(matches)?;
+    let plan = value_of(matches, "plan")?;
+    Some(CheckNames { tables, plan })
 }
 
 /// The names of the tables and of the plan's file, or nothing where the words are refused. The words begin with the
 /// program's name.
+#[tactic(auto, unfolding(crate::specs::Words::check_of))]
 pub fn check_of<'a>(alloc: Global, words: &'a [String]) -> Result<Option<CheckNames<'a>>, Memory>
-    ensures { IfOk result (λ names. option_map names_seen names ≡ check_of (map string_bytes words.now)) }
+    ensures { IfOk result (λ names. option_map check_names_seen names ≡ check_of (spelled words.now)) }
 {
     let command = command(alloc)?;
     match command.try_get_matches_from(words) {
@@ -89,9 +69,11 @@ mod tests {
         plan: &'a str,
     ) -> CheckNames<'a> {
         CheckNames {
-            timetable,
-            fleet,
-            rules,
+            tables: TableNames {
+                timetable,
+                fleet,
+                rules,
+            },
             plan,
         }
     }

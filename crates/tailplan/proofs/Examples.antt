@@ -1,14 +1,15 @@
 -- What the words mean, at command lines that are written out.
 use Rattle.std.proofs.Common.{◌≡◌, ℕ, List, [], ◌∷◌, Option, Some, None, codes, refl}
 use Rattle.clap.proofs.OnLiterals.{clap_on_literals}
-use Rattle.tailplan.specs.Words.{RunNames, run_of}
+use Rattle.run_frame.specs.Tables.{NamesSeen}
+use Rattle.tailplan.specs.Words.{run_of}
 
 -- the words after the program's name
-abbrev after_name : List (List ℕ) → Option RunNames
+abbrev after_name : List (List ℕ) → Option NamesSeen
 after_name words = run_of (codes "tailplan" ∷ words)
 
 -- the words name these tables
-abbrev named : List ℕ → List ℕ → List ℕ → Option RunNames
+abbrev named : List ℕ → List ℕ → List ℕ → Option NamesSeen
 named timetable fleet rules = Some (record { timetable = timetable; fleet = fleet; rules = rules })
 
 -- no words at all, or the program's name alone, give no names

@@ -1,10 +1,11 @@
 -- What the words mean, whatever the names are.
 use Rattle.std.proofs.Common.{false, ◌==◌, ◌≡◌, ℕ, List, [], ◌∷◌, ◌++◌, Option, Some, None, codes, refl}
 use Rattle.clap.proofs.OnLiterals.{clap_on_literals}
-use Rattle.tailplan.specs.Words.{RunNames, run_of}
+use Rattle.run_frame.specs.Tables.{NamesSeen}
+use Rattle.tailplan.specs.Words.{run_of}
 
 -- the words name these files
-abbrev named : List ℕ → List ℕ → List ℕ → Option RunNames
+abbrev named : List ℕ → List ℕ → List ℕ → Option NamesSeen
 named timetable fleet rules = Some (record { timetable = timetable; fleet = fleet; rules = rules })
 
 -- the program's name does not matter

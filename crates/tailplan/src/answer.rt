@@ -1,19 +1,39 @@
-//! What a run answers.
+//! What a run finds.
 
+ghost use Rattle.std.specs.Prelude.{◌≡◌, ◌≤◌, ℕ, false, List, OnErr, OnOk, IsErrOf};
+ghost use Rattle.plan_report.specs.Report.{report_lines};
+ghost use Rattle.tailplan.specs.Outcomes.{IsPrintable, outcome_status};
+
+use plan_report::{ReportFail, write_report};
+use run_frame::{Finding, Status};
+use std::alloc::Global;
 use tail_book::{Book, Outcome};
-use tail_text::Refusal;
+use tail_outside::Sink;
 
-/// What a run answers.
+/// What a run finds: the book of the tables, and what is true of it.
 #[derive(Debug, Drop)]
-pub enum Answer {
-    /// The words are refused.
-    Usage,
-    /// A table is refused.
-    Refused(Refusal),
-    /// The tables are this book, and this is true of it.
-    Solved(Book, Outcome),
-    /// A file could not be read.
-    ReadFailed,
-    /// There was no memory to find an answer.
-    Memory,
+pub struct Solved {
+    pub book: Book,
+    pub outcome: Outcome,
+}
+
+impl Finding for Solved {
+    ghost lines = { λ s. report_lines s.book s.outcome };
+
+    ghost code = { λ s. outcome_status s.outcome };
+
+    ghost is_printable = { λ s. IsPrintable s.book s.outcome };
+
+    fn status(&self) -> Status {
+        Status(match &self.outcome {
+            Outcome::Optimal(_, _) => 0,
+            Outcome::Infeasible => 1,
+            Outcome::Between { .. } => 4,
+            Outcome::Above { .. } => 4,
+        })
+    }
+
+    fn write<S: Sink>(&self, alloc: Global, out: &mut S) -> Result<(), ReportFail> {
+        write_report(alloc, &self.book, &self.outcome, out)
+    }
 }

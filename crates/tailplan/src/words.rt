@@ -1,65 +1,23 @@
 //! The reading of the words: which tables a run is over.
-//!
-//! `clap` reads them for one simple command, and what it gives is stated for every list of words. So both outcomes
-//! are exact: names come where the command takes the words, and nothing where it refuses them.
 
-ghost use Rattle.std.specs.Prelude.{◌≡◌, IfOk, map, option_map, string_bytes};
-ghost use Rattle.clap.specs.Words.{app_of, first_of, found_of, rows_of};
-ghost use Rattle.tailplan.specs.Words.{command, names_in, names_seen, run_of};
+ghost use Rattle.std.specs.Prelude.{◌≡◌, IfOk, option_map};
+ghost use Rattle.run_frame.specs.Reading.{names_seen};
+ghost use Rattle.run_frame.specs.Spelled.{spelled};
+ghost use Rattle.tailplan.specs.Words.{run_of};
 
 use clap::error::ErrorKind;
-use clap::{Arg, ArgMatches, Command};
-use std::alloc::{AllocError, Global};
+use run_frame::{TableNames, tables_command, tables_in};
+use std::alloc::Global;
 use tail_book::Memory;
-
-/// The names of the three tables, as the words give them.
-#[derive(Clone, Copy, PartialEq, Eq, Debug)]
-pub struct RunNames<'a> {
-    pub timetable: &'a str,
-    pub fleet: &'a str,
-    pub rules: &'a str,
-}
-
-/// The command: three words that have to stand in their places, and no flag for help.
-fn command<'a>(alloc: Global) -> Result<Command<'a>, AllocError>
-    ensures { IfOk result (λ c. app_of c ≡ command) }
-{
-    Command::new(alloc, "tailplan")
-        .disable_help_flag(true)
-        .arg(Arg::new(alloc, "timetable").required(true))?
-        .arg(Arg::new(alloc, "fleet").required(true))?
-        .arg(Arg::new(alloc, "rules").required(true))
-}
-
-/// The word that an argument was given.
-fn text_of<'a>(matches: &ArgMatches<'a>, id: &str) -> Option<&'a str>
-    ensures { option_map (λ s. s.now) result ≡ first_of id.now (rows_of (found_of matches.now)) }
-{
-    matches.get_str(id)
-}
-
-/// The names among what the command matched.
-fn names_in<'a>(matches: &ArgMatches<'a>) -> Option<RunNames<'a>>
-    ensures { option_map names_seen result ≡ names_in (rows_of (found_of matches.now)) }
-{
-    let timetable = text_of(matches, "timetable")?;
-    let fleet = text_of(matches, "fleet")?;
-    let rules = text_of(matches, "rules")?;
-    Some(RunNames {
-        timetable,
-        fleet,
-        rules,
-    })
-}
 
 /// The names of the tables, or nothing where the words are refused. The words begin with the program's name.
 #[tactic(auto, unfolding(crate::specs::Words::run_of))]
-pub fn run_of<'a>(alloc: Global, words: &'a [String]) -> Result<Option<RunNames<'a>>, Memory>
-    ensures { IfOk result (λ names. option_map names_seen names ≡ run_of (map string_bytes words.now)) }
+pub fn run_of<'a>(alloc: Global, words: &'a [String]) -> Result<Option<TableNames<'a>>, Memory>
+    ensures { IfOk result (λ names. option_map names_seen names ≡ run_of (spelled words.now)) }
 {
-    let command = command(alloc)?;
+    let command = tables_command(alloc, "tailplan")?;
     match command.try_get_matches_from(words) {
-        Ok(matches) => Ok(names_in(&matches)),
+        Ok(matches) => Ok(tables_in(&matches)),
         Err(error) if error.kind() == ErrorKind::OutOfMemory => Err(Memory),
         Err(_) => Ok(None),
     }
@@ -78,8 +36,8 @@ mod tests {
         Ok(all)
     }
 
-    fn named<'a>(timetable: &'a str, fleet: &'a str, rules: &'a str) -> RunNames<'a> {
-        RunNames {
+    fn named<'a>(timetable: &'a str, fleet: &'a str, rules: &'a str) -> TableNames<'a> {
+        TableNames {
             timetable,
             fleet,
             rules,
@@ -87,7 +45,7 @@ mod tests {
     }
 
     // Whether the words are read as these names, or refused where none are given.
-    fn are_read_as(alloc: Global, words: &[&str], names: Option<RunNames>) -> Result<bool, Fail> {
+    fn are_read_as(alloc: Global, words: &[&str], names: Option<TableNames>) -> Result<bool, Fail> {
         let words = strings_of(alloc, words)?;
         Ok(run_of(alloc, &words)? == names)
     }

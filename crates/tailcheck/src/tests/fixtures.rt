@@ -1,6 +1,7 @@
 //! Runs on texts.
 
-use crate::run::{Status, check_run};
+use crate::run::check_run;
+use run_frame::Status;
 use std::alloc::Global;
 use std::test::Fail;
 use tail_outside::{MemFile, MemFiles, MemSink};

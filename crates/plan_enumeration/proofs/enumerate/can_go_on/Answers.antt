@@ -32,8 +32,8 @@ returns-then-link_by-clause-exact c = (
   (λ goes. c.step_values.ensures.limits.1 (goes_on_back c.args.book.now c.args.a c.args.trial.now c.requires.trial c.args.k c.place_of-from.result c.requires.aircraft c.requires.activity c.place_of-from.ensures goes).1),
 )
 
-pub returns-then-links-clause-agrees : goal.returns-then-links-clause-agrees
-returns-then-links-clause-agrees c = record {
+pub returns-then-link_by-clause-agrees : goal.returns-then-link_by-clause-agrees
+returns-then-link_by-clause-agrees c = record {
   fliers = refl;
   places = refl;
   values = agrees_before c.args.book.now c.args.a c.args.trial.now c.requires.trial c.requires.activity _ c.step_values.new.values.items c.step_values.ensures.wide c.step_values.ensures.row;

@@ -1,15 +1,14 @@
-use Rattle.std.proofs.Common.{◌≡◌, ◌≤◌, ◌-◌, ◌++◌, ℕ, List, length, drop, IfSome, IsTrue}
-use Rattle.tail_outside.specs.Outside.{SameNames}
+use Rattle.std.proofs.Common.{◌≡◌, ◌≤◌, ◌-◌, ◌++◌, length, drop, IfSome, IsTrue}
+use Rattle.tail_outside.specs.Outside.{OnlyRead}
 use Rattle.tail_outside.proofs.reading.read_pieces.Given as goal
 
--- the file begins with the bytes read so far, and nothing else changed
+-- the file begins with the bytes read so far, and files were only read
 abbrev pub invariant-pieces : goal.invariant-pieces
 invariant-pieces g l = record {
-  begins : IfSome (g.F.Files.holds l.fn.files l.name) (λ bytes. l.bytes.items ++ drop (length l.bytes.items) bytes ≡ bytes);
-  same : (other : List ℕ) → g.F.Files.holds l.files other ≡ g.F.Files.holds l.fn.files other;
-  lets : SameNames (g.F.Files.lets_read l.fn.files) (g.F.Files.lets_read l.files);
-  may : IsTrue (g.F.Files.lets_read l.files l.name);
-  counts : g.F.Files.read_faults l.fn.files ≤ g.F.Files.read_faults l.files;
+  begins : IfSome ((g.F.Files.shows l.fn.files).holds l.name) (λ bytes. l.bytes.items ++ drop (length l.bytes.items) bytes ≡ bytes);
+  within : length l.bytes.items ≤ l.limit;
+  may : IsTrue ((g.F.Files.shows l.files).lets_read l.name);
+  only_read : OnlyRead (g.F.Files.shows l.fn.files) (g.F.Files.shows l.files);
 }
 
 abbrev pub decreases-pieces : goal.decreases-pieces

@@ -3,4 +3,4 @@ use Rattle.tail_outside.proofs.tests.put_both.Goals as goal
 
 -- a front of the first piece is a front of both
 pub returns-in-Err-clause-front : goal.returns-in-Err-clause-front
-returns-in-Err-clause-front g c = λ alive. AddsFront-more (g.S.Sink.told c.args.out.now) (g.S.Sink.told c.put.new.self) c.args.first.now c.args.second.now (c.in-Err.ensures.front alive)
+returns-in-Err-clause-front g c = λ alive. AddsFront-more (g.S.Sink.shows c.args.out.now).told (g.S.Sink.shows c.put.new.self).told c.args.first.now c.args.second.now (c.in-Err.ensures.front alive)

@@ -1,0 +1,19 @@
+//! The frame of a run, which both programs share: the words and the tables that they name, what a run answers, how that
+//! is printed, and the status that it ends with. What is asked of the tables, and what that answers, is each program's own.
+#![tactic(auto)]
+
+mod answer;
+mod printing;
+mod process;
+mod reading;
+mod status;
+mod tables;
+mod words;
+
+pub use answer::{Answer, Finding};
+pub use printing::print;
+pub use process::{Process, process_of};
+pub use reading::{READ_LIMIT, read_tables};
+pub use status::{NO_MEMORY, READ_FAILED, REFUSED, Ran, Status, USAGE, WRITE_FAILED};
+pub use tables::{TableNames, Tables};
+pub use words::{tables_command, tables_in, value_of};

@@ -1,0 +1,28 @@
+//! How a run ends.
+
+/// How a run ended, as the exit status of its process: 0 or 1 with what it found, 4 at a limit of the search, and else
+/// for one of the reasons below.
+#[derive(Clone, Copy, PartialEq, Eq, Debug)]
+pub struct Status(pub u8);
+
+/// The words are refused.
+pub const USAGE: Status = Status(2);
+
+/// A table or another file is refused.
+pub const REFUSED: Status = Status(3);
+
+/// A read failed.
+pub const READ_FAILED: Status = Status(5);
+
+/// A write failed.
+pub const WRITE_FAILED: Status = Status(6);
+
+/// There was no memory.
+pub const NO_MEMORY: Status = Status(7);
+
+/// The status of a run, and the files as they stand.
+#[derive(Drop)]
+pub struct Ran<F> {
+    pub status: Status,
+    pub files: F,
+}

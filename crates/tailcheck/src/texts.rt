@@ -1,0 +1,47 @@
+//! The files that the words name, read before one of them is judged.
+
+ghost use Rattle.std.specs.Prelude.{◌≡◌, IfOk, IfSome, IsErrOf};
+ghost use Rattle.tail_outside.specs.Outside.{OnlyRead, ReadHasFailed};
+ghost use Rattle.tailcheck.specs.Reading.{MayReadTexts, check_names_seen, text_fronts, texts_held};
+
+use crate::words::CheckNames;
+use run_frame::{READ_LIMIT, Tables, read_tables};
+use std::alloc::Global;
+use std::marker::Model;
+use tail_outside::{Files, ReadFail, read_all};
+
+/// The bytes of the three tables and of the plan's file.
+#[derive(Debug, Drop)]
+pub struct Texts {
+    pub tables: Tables,
+    pub plan: Vec<u8>,
+}
+
+impl Model for Texts {
+    ghost use Rattle.tailcheck.specs.Texts.{TextsSeen};
+
+    ghost Value = { TextsSeen };
+
+    ghost view = { λ t. record { tables = t.tables; plan = t.plan.items } };
+}
+
+/// The bytes of the three tables, and then those of the plan's file, each up to the limit.
+pub fn read_texts<F: Files>(
+    alloc: Global,
+    files: &mut F,
+    names: &CheckNames<'_>,
+) -> Result<Texts, ReadFail>
+    requires { MayReadTexts (F.shows files.old) (check_names_seen names.now) }
+    ensures texts { IfOk result (λ texts. IfSome (texts_held (F.shows files.old) (check_names_seen names.now)) (λ whole. texts ≡ text_fronts whole)) }
+    ensures only_read { OnlyRead (F.shows files.old) (F.shows files.new) }
+    ensures cause { IsErrOf result ReadFail.Failed → ReadHasFailed (F.shows files.old) (F.shows files.new) }
+{
+    let tables = match read_tables(alloc, files, &names.tables) {
+        Ok(tables) => tables,
+        Err(fail) => return Err(fail),
+    };
+    match read_all(alloc, files, names.plan, READ_LIMIT) {
+        Ok(plan) => Ok(Texts { tables, plan }),
+        Err(fail) => Err(fail),
+    }
+}
