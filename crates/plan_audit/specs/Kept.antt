@@ -27,8 +27,8 @@ route_met (Twice name ∷ met) k = route_met met k
 route_met (Tail j ∷ met) k = if nat_eq k j then next_route met else route_met met k
 route_met (Activity a ∷ met) k = route_met met k
 
--- the kept plan: a line whose aircraft is unknown or had a line before is dropped with its ids, and in the other lines
--- unknown ids are dropped, and of a repeated id only the first stays
+-- what is kept of a plan: of each aircraft of the book its first line, and there each id of the book that is met for the
+-- first time
 abbrev pub kept : BookSeen → RawPlanSeen → List (List ℕ)
 kept book raw = map (route_met (names_met book raw)) (range_with_len 0 (aircraft book))
 
