@@ -66,7 +66,14 @@ fn activity(
 
 // A flight of an hour.
 fn flight(alloc: Global, id: Name, leg: (u32, u32), start: i64) -> Activity {
-    activity(alloc, id, true, leg, (start, start.saturating_add(60)), Vec::new(alloc))
+    activity(
+        alloc,
+        id,
+        true,
+        leg,
+        (start, start.saturating_add(60)),
+        Vec::new(alloc),
+    )
 }
 
 fn counter(name: Name, kind: CounterKind, limit: i64, bases: Vec<u32>, stop: i64) -> Counter {
@@ -92,13 +99,15 @@ fn tail(alloc: Global, name: Name, at: u32, ready: i64, carry: Vec<i64>) -> Tail
     }
 }
 
-fn rules(
-    alloc: Global,
-    airports: Vec<Airport>,
-    counters: Vec<Counter>,
-) -> Result<Rules, Memory> {
+fn rules(alloc: Global, airports: Vec<Airport>, counters: Vec<Counter>) -> Result<Rules, Memory> {
     let name = Name::new(b"A320".as_slice());
-    let kinds = vec![in alloc; AircraftType { name, rate: 10, turn: 30 }]?;
+    let kinds = vec![in alloc;
+        AircraftType {
+            name,
+            rate: 10,
+            turn: 30
+        },
+    ]?;
     Ok(Rules {
         kinds,
         airports,
@@ -110,9 +119,16 @@ fn rules(
 
 // Two hours between stops of an hour at ARN, two landings between stops of half an hour at OSL, and a day.
 fn small_counters(alloc: Global) -> Result<Vec<Counter>, Memory> {
-    let (hours, landings) = (Name::new(b"hours".as_slice()), Name::new(b"landings".as_slice()));
+    let (hours, landings) = (
+        Name::new(b"hours".as_slice()),
+        Name::new(b"landings".as_slice()),
+    );
     let days = Name::new(b"days".as_slice());
-    let (arn, osl, again) = (vec![in alloc; ARN]?, vec![in alloc; OSL]?, vec![in alloc; ARN]?);
+    let (arn, osl, again) = (
+        vec![in alloc; ARN]?,
+        vec![in alloc; OSL]?,
+        vec![in alloc; ARN]?,
+    );
     Ok(vec![in alloc;
         counter(hours, CounterKind::Minutes, 120, arn, 60),
         counter(landings, CounterKind::Landings, 2, osl, 30),
@@ -123,8 +139,16 @@ fn small_counters(alloc: Global) -> Result<Vec<Counter>, Memory> {
 fn small_rules(alloc: Global) -> Result<Rules, Memory> {
     let (arn, osl) = (Name::new(b"ARN".as_slice()), Name::new(b"OSL".as_slice()));
     let airports = vec![in alloc;
-        Airport { name: arn, offset: 60, turn: 30 },
-        Airport { name: osl, offset: 60, turn: 30 },
+        Airport {
+            name: arn,
+            offset: 60,
+            turn: 30
+        },
+        Airport {
+            name: osl,
+            offset: 60,
+            turn: 30
+        },
     ]?;
     rules(alloc, airports, small_counters(alloc)?)
 }
@@ -132,10 +156,7 @@ fn small_rules(alloc: Global) -> Result<Rules, Memory> {
 fn small_tails(alloc: Global) -> Result<Vec<Tail>, Memory> {
     let (a, b) = (Name::new(b"SE-A".as_slice()), Name::new(b"SE-B".as_slice()));
     let (new, used) = (vec![in alloc; 0, 0, 0]?, vec![in alloc; 10, 2, 1000]?);
-    Ok(vec![in alloc;
-        tail(alloc, a, ARN, 360, new),
-        tail(alloc, b, OSL, 0, used),
-    ]?)
+    Ok(vec![in alloc; tail(alloc, a, ARN, 360, new), tail(alloc, b, OSL, 0, used)]?)
 }
 
 // Flights of an hour, and a check at OSL of two hours that resets the counter of days.

@@ -27,8 +27,8 @@ route_met (Twice name ∷ met) k = route_met met k
 route_met (Tail j ∷ met) k = if nat_eq k j then next_route met else route_met met k
 route_met (Activity a ∷ met) k = route_met met k
 
--- the kept plan: nothing of a line that names no aircraft of the book, or one that has its line already; of the other lines
--- the ids that the book has, each only where it is read first
+-- what is kept of a plan: of each aircraft of the book its first line, and there each id of the book that is met for the
+-- first time
 abbrev pub kept : BookSeen → RawPlanSeen → List (List ℕ)
 kept book raw = map (route_met (names_met book raw)) (range_with_len 0 (aircraft book))
 

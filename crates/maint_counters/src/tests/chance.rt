@@ -61,7 +61,11 @@ fn three_airports(alloc: Global) -> Result<Vec<Airport>, Memory> {
         Name::new(b"Y".as_slice()),
         Name::new(b"Z".as_slice()),
     ] {
-        airports.push(Airport { name, offset: 0, turn: 0 })?;
+        airports.push(Airport {
+            name,
+            offset: 0,
+            turn: 0,
+        })?;
     }
     Ok(airports)
 }
@@ -70,21 +74,28 @@ fn two_tails(alloc: Global, dice: &mut Dice) -> Result<Vec<Tail>, Memory> {
     let mut tails = Vec::new(alloc);
     for name in [Name::new(b"A1".as_slice()), Name::new(b"A2".as_slice())] {
         let ready = dice.below(1000) as i64;
-        let carry = vec![in alloc; dice.below(900) as i64, dice.below(4) as i64, dice.below(1440) as i64]?;
+        let carry = vec![in alloc;
+            dice.below(900) as i64,
+            dice.below(4) as i64,
+            dice.below(1440) as i64,
+        ]?;
         tails.push(tail(alloc, name, dice.below(3), ready, carry))?;
     }
     Ok(tails)
 }
 
-fn an_activity(
-    alloc: Global,
-    dice: &mut Dice,
-    name: Name,
-    start: i64,
-) -> Result<Activity, Memory> {
-    let (from, to, end) = (dice.below(3), dice.below(3), start.saturating_add(1 + dice.below(600) as i64));
+fn an_activity(alloc: Global, dice: &mut Dice, name: Name, start: i64) -> Result<Activity, Memory> {
+    let (from, to, end) = (
+        dice.below(3),
+        dice.below(3),
+        start.saturating_add(1 + dice.below(600) as i64),
+    );
     let flight = dice.below(2) == 0;
-    let resets = if flight { Vec::new(alloc) } else { dice.few(alloc)? };
+    let resets = if flight {
+        Vec::new(alloc)
+    } else {
+        dice.few(alloc)?
+    };
     let leg = if flight { (from, to) } else { (from, from) };
     Ok(activity(alloc, name, flight, leg, (start, end), resets))
 }
@@ -117,7 +128,14 @@ fn book_by_chance(alloc: Global, seed: u64) -> Result<Book, Fail> {
 
 // Whether both steps from the carry values write the same and answer the same; how many counters were cleared or set to 0,
 // and whether all were within their limits.
-fn compare(rt: &impl Abort, book: &Book, table: &StepTable, k: u32, from: Place, b: u32) -> (u32, bool)
+fn compare(
+    rt: &impl Abort,
+    book: &Book,
+    table: &StepTable,
+    k: u32,
+    from: Place,
+    b: u32,
+) -> (u32, bool)
     requires table { IsStepTableOf book.now table.now }
     requires aircraft { k < aircraft book.now }
     requires place { IsPlaceOf book.now from }
@@ -150,7 +168,11 @@ fn the_table_steps_as_the_rules_do(rt: HostRuntime) -> Result<(), Fail> {
         for k in 0..book.tails.len() as u32 {
             for x in 0..book.activities.len() as u32 {
                 for b in 0..book.activities.len() as u32 {
-                    let from = if x == b { Place::Carry } else { Place::After(x) };
+                    let from = if x == b {
+                        Place::Carry
+                    } else {
+                        Place::After(x)
+                    };
                     let (lower, holds) = compare(&rt, &book, &table, k, from, b);
                     low = low.saturating_add(lower);
                     within = within.saturating_add(holds as u32);
