@@ -124,9 +124,10 @@ build_all() {
         for below in ${uses[$crate]}; do
             [ -z "${uses[$below]+ours}" ] || continue 2
         done
-        follow "$crate" rt lib && finished "$crate" || return 1
+        follow "$crate" rt lib || return
+        finished "$crate"
     done
-    follow "$name" rt all check --jobs "$(side_by_side)" || return 1
+    follow "$name" rt all check --jobs "$(side_by_side)" || return
     # Once it is built, rt also runs it.
     follow "$name" rt run -- "${first_run[@]}" && finished "$name"
 }
@@ -145,7 +146,7 @@ build() {
     if [ "$status" -eq 0 ]; then
         say "built."
     else
-        say "the build failed. Its last lines:"
+        say "the build failed with status $status. Its last lines:"
         tail -n 20 "$log" >&2
     fi
     rm -f "$log"
