@@ -15,3 +15,4 @@ mod KeptRoutes
 mod ToldCounters
 mod Told
 mod KeptOnce
+mod NamedPlans

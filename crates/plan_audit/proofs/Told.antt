@@ -276,7 +276,7 @@ counters_told book sound raw k b c =
     )
 
 -- a number that is nowhere in the routes is in none of them, and the other way round
-none_among : (a : ℕ) (xs : List ℕ) → count_by (nat_eq a) xs ≡ 0 → contains xs a ≡ false
+pub none_among : (a : ℕ) (xs : List ℕ) → count_by (nat_eq a) xs ≡ 0 → contains xs a ≡ false
 none_among a [] e = refl
 none_among a (x ∷ xs) e = by (nat_eq a x) (none_among a xs) (sum_by-cons (λ y. cond (nat_eq a y) 1 0) x xs)
   where
@@ -284,7 +284,7 @@ none_among a (x ∷ xs) e = by (nat_eq a x) (none_among a xs) (sum_by-cons (λ y
     by true rest sum = absurd (omega (arith, sum, e))
     by false rest sum = rest (omega (arith, sum, e))
 
-split_count : (a : ℕ) (route : List ℕ) (plan : List (List ℕ)) → times_flown (route ∷ plan) a ≡ count_by (nat_eq a) route + times_flown plan a
+pub split_count : (a : ℕ) (route : List ℕ) (plan : List (List ℕ)) → times_flown (route ∷ plan) a ≡ count_by (nat_eq a) route + times_flown plan a
 split_count a route plan = sum_by-append (λ y. cond (nat_eq a y) 1 0) route (flat_map (λ r. r) plan)
 
 in_no_route : (a : ℕ) (plan : List (List ℕ)) → times_flown plan a ≡ 0 → IsInNoRoute plan a

@@ -1,7 +1,7 @@
 -- Laws of the audit.
-use Rattle.std.specs.Prelude.{ℕ, ◌≡◌, ◌<◌, ◌≤◌, List, [], length, All}
-use Rattle.tail_book.specs.Seen.{BookSeen, RawPlanSeen}
-use Rattle.tail_book.specs.Lookup.{activities, aircraft}
+use Rattle.std.specs.Prelude.{ℕ, ◌≡◌, ◌<◌, ◌≤◌, ◌+◌, List, [], ◌∷◌, map, length, All}
+use Rattle.tail_book.specs.Seen.{BookSeen, RawLineSeen, RawPlanSeen}
+use Rattle.tail_book.specs.Lookup.{activities, aircraft, activity_of, tail_of}
 use Rattle.tail_book.specs.Plan.{IsLegalPlan, times_flown}
 use Rattle.tail_book.specs.Sound.{IsBook}
 use Rattle.tail_book.specs.Truth.{IsPlanOf}
@@ -34,3 +34,17 @@ pub record FliesOnce (book : BookSeen) (plan : List (List ℕ)) : Type 0 where
 -- so it is with every kept plan, legal or not
 abbrev pub KeptPlansFlyOnce : Type 0
 KeptPlansFlyOnce = (book : BookSeen) (raw : RawPlanSeen) → FliesOnce book (kept book raw)
+
+-- the lines of routes from aircraft k on, with each aircraft by its name and each activity by its id
+abbrev pub lines_named : BookSeen → ℕ → List (List ℕ) → List RawLineSeen
+lines_named book k [] = []
+lines_named book k (route ∷ routes) =
+    record { tail = (tail_of book k).name; ids = map (λ a. (activity_of book a).id) route } ∷ lines_named book (k + 1) routes
+
+-- the plan spelled by these names
+abbrev pub named : BookSeen → List (List ℕ) → RawPlanSeen
+named book plan = record { lines = lines_named book 0 plan }
+
+-- a plan with a route for each aircraft that flies nothing twice is kept as it is when it is spelled by names
+abbrev pub NamedPlansAreKept : Type 0
+NamedPlansAreKept = (book : BookSeen) → IsBook book → (plan : List (List ℕ)) → FliesOnce book plan → kept book (named book plan) ≡ plan

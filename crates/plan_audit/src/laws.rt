@@ -1,6 +1,6 @@
 //! Laws over the definitions alone: the contract of each function is the law.
 
-ghost use Rattle.plan_audit.specs.Laws.{LegsAreOfBook, UnbrokenPlansAreLegal, LegalPlansAreUnbroken, KeptPlansFlyOnce};
+ghost use Rattle.plan_audit.specs.Laws.{LegsAreOfBook, UnbrokenPlansAreLegal, LegalPlansAreUnbroken, KeptPlansFlyOnce, NamedPlansAreKept};
 ghost use Rattle.plan_audit.specs.Told.{UncoveredAreInNoRoute, NotAllowedAreNotPermitted, CurfewsAreInTheWay, NoLinksAreNotConnected, CountersArePastLimits};
 
 use tail_book::laws::{legal_plan_decides, legal_route_decides};
@@ -52,4 +52,9 @@ pub fn counters_are_past_limits()
 /// A kept plan has a route for each aircraft, all of the book's activities, and flies none of them twice.
 pub fn kept_plans_fly_once()
     ensures { KeptPlansFlyOnce }
+{}
+
+/// A plan with a route for each aircraft that flies nothing twice is kept as it is when it is spelled by names.
+pub fn named_plans_are_kept()
+    ensures { NamedPlansAreKept }
 {}
