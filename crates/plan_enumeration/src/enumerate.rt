@@ -162,7 +162,8 @@ fn can_go_on(book: &Book, tables: &Tables, trial: &mut Trial, k: u32, a: u32) ->
 {
     laws::every_book_is_sound(book);
     let from = place_of(trial, k);
-    link_by(book, &tables.permissions, k, from, a) && step_values(book, &mut trial.values, k, from, a)
+    link_by(book, &tables.permissions, k, from, a)
+        && step_values(book, &mut trial.values, k, from, a)
 }
 
 // Lets aircraft `k` fly activity `a`, the next one, if that is legal.
