@@ -1,12 +1,12 @@
 -- A step by the rows of a table is the step of the book.
-use Rattle.std.proofs.Common.{◌≡◌, ◌∙◌, ℕ, ◌<◌, ℤ, pos, ◌+ℤ◌, ◌-ℤ◌, Bool, true, false, arith, refl, ap, ap₂, length}
+use Rattle.std.proofs.Common.{◌≡◌, ◌∙◌, ℕ, ◌<◌, ℤ, pos, ◌+ℤ◌, ◌-ℤ◌, Bool, true, false, refl, ap, ap₂, length}
 use Rattle.std.specs.Prelude.{◌&&◌, if◌then◌else◌}
 use Rattle.tail_book.specs.Seen.{BookSeen}
 use Rattle.tail_book.specs.declared.place.Place.{Place}
 use Rattle.tail_book.specs.declared.rules.CounterKind.{CounterKind}
 use Rattle.tail_book.specs.declared.rules.CounterKind.TheVariants.{Minutes, Landings, Days}
 use Rattle.tail_book.specs.Numbers.{int_le}
-use Rattle.tail_book.specs.Link.{free_from, gap}
+use Rattle.tail_book.specs.Link.{free_from}
 use Rattle.tail_book.specs.Counters.{is_cleared, amount, step_one}
 use Rattle.turn_rules.specs.NumberSet.{has}
 use Rattle.maint_counters.specs.declared.step_table.ActivityRow.{ActivityRow}

@@ -7,7 +7,6 @@ use Rattle.tail_book.specs.Counters.{flown}
 use Rattle.tail_book.specs.Sound.{IsWithin, IsMoment}
 use Rattle.tail_book.specs.declared.rules.CounterKind.{CounterKind}
 use Rattle.tail_book.specs.declared.rules.CounterKind.TheVariants.{Minutes, Landings, Days}
-use Rattle.turn_rules.specs.declared.number_set.NumberSet.{NumberSet}
 use Rattle.turn_rules.specs.NumberSet.{has}
 use Rattle.maint_counters.specs.declared.step_table.ActivityRow.{ActivityRow}
 use Rattle.maint_counters.specs.declared.step_table.CounterRow.{CounterRow}

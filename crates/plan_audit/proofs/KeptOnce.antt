@@ -1,19 +1,18 @@
 -- Every kept plan has a route for each aircraft, of activities of the book, and flies none twice.
-use Rattle.std.proofs.Common.{◌≡◌, sym, subst, arith, ℕ, ◌<◌, ◌≤◌, inl, inr, Bool, true, false, cond, if◌then◌else◌, nat_eq, List, [], ◌∷◌, map, length, get_or, All}
+use Rattle.std.proofs.Common.{sym, subst, arith, ℕ, ◌<◌, ◌≤◌, inl, inr, Bool, true, false, if◌then◌else◌, nat_eq, List, [], ◌∷◌, All}
 use Rattle.std.specs.Prelude.{count_by}
-use Rattle.std.specs.List.{range_with_len, IsDistinct}
+use Rattle.std.specs.List.{IsDistinct}
 use Rattle.std.proofs.lemmas.Bool.{cases_Bool}
 use Rattle.std.proofs.lemmas.List.Elements.{All-nil, All-cons, All-head, All-tail, All-from_get_or}
 use Rattle.std.proofs.lemmas.List.FromFn.{length-map-range_with_len}
-use Rattle.tail_book.specs.Seen.{BookSeen, RawPlanSeen}
+use Rattle.tail_book.specs.Seen.{BookSeen}
 use Rattle.tail_book.specs.Numbers.{contains}
 use Rattle.tail_book.specs.Lookup.{activities, aircraft}
-use Rattle.tail_book.specs.Plan.{times_flown, route_of}
 use Rattle.plan_audit.specs.declared.met.Met.{Met}
 use Rattle.plan_audit.specs.declared.met.Met.TheVariants.{Unknown, Twice, Tail, Activity}
 use Rattle.plan_audit.specs.Met.{IsMetOf, activities_met, names_met}
 use Rattle.plan_audit.specs.Kept.{next_route, route_met, kept}
-use Rattle.plan_audit.specs.Laws.{FliesOnce, KeptPlansFlyOnce}
+use Rattle.plan_audit.specs.Laws.{KeptPlansFlyOnce}
 use Rattle.plan_audit.proofs.WellMet.{names_well_met}
 use Rattle.plan_audit.proofs.Along.{kept_times, count_none, count_one}
 use Rattle.plan_audit.proofs.Unbroken.{kept_route}

@@ -1,11 +1,11 @@
 -- A plan of the book's activities, none flown twice, is met and kept as it is when it is spelled by names: each name finds its
 -- own number, and is new when it comes.
-use Rattle.std.proofs.Common.{◌≡◌, ◌≢◌, ◌∙◌, sym, refl, ap, arith, subst, true≢false, ℕ, zero, suc, ◌+◌, ◌<◌, ◌≤◌, inl, inr, Bool, true, false, ◌||◌, cond, if◌then◌else◌, nat_eq, nat_lt, List, [], ◌∷◌, ◌++◌, map, length, get_or, Option, Some, None, position, append_assoc, All, AllPairs}
+use Rattle.std.proofs.Common.{◌≡◌, ◌≢◌, ◌∙◌, sym, refl, ap, arith, true≢false, ℕ, zero, suc, ◌+◌, ◌<◌, ◌≤◌, Bool, true, false, ◌||◌, cond, if◌then◌else◌, nat_eq, nat_lt, List, [], ◌∷◌, ◌++◌, map, length, get_or, Some, None, position, append_assoc, All, AllPairs}
 use Rattle.std.specs.Prelude.{count_by}
-use Rattle.std.specs.List.{range_with_len, position_or_len}
+use Rattle.std.specs.List.{position_or_len}
 use Rattle.std.specs.Str.{bytes_eq}
 use Rattle.std.proofs.Math.ListN.{get_or-map}
-use Rattle.std.proofs.lemmas.Bool.{cases_Bool, eq-eqb, eqb-true}
+use Rattle.std.proofs.lemmas.Bool.{eq-eqb}
 use Rattle.std.proofs.lemmas.Bool.Decides.{nat_tests, Decides-ltb}
 use Rattle.std.proofs.lemmas.List.{append-nil, length-map, ext_get_or}
 use Rattle.std.proofs.lemmas.List.Elements.{All-head, All-tail}
@@ -17,13 +17,13 @@ use Rattle.std.proofs.lemmas.Slice.Eq.{bytes_eq-Decides}
 use Rattle.tail_book.specs.Seen.{ActivitySeen, TailSeen, BookSeen}
 use Rattle.tail_book.specs.Numbers.{contains}
 use Rattle.tail_book.specs.Lookup.{activities, aircraft, activity_of, tail_of, no_activity, no_tail}
-use Rattle.tail_book.specs.Plan.{times_flown, route_of}
+use Rattle.tail_book.specs.Plan.{times_flown}
 use Rattle.tail_book.specs.Sound.{IsBook}
 use Rattle.plan_audit.specs.declared.met.Met.{Met}
-use Rattle.plan_audit.specs.declared.met.Met.TheVariants.{Unknown, Twice, Tail, Activity}
-use Rattle.plan_audit.specs.Met.{tails_met, activities_met, tail_named, activity_named, tail_names, activity_ids, as_tail, as_activity, with_ids, with_tail, with_line, with_lines, names_met}
+use Rattle.plan_audit.specs.declared.met.Met.TheVariants.{Twice, Tail, Activity}
+use Rattle.plan_audit.specs.Met.{tails_met, activities_met, tail_named, activity_named, as_tail, as_activity, with_ids, with_tail, with_line, with_lines, names_met}
 use Rattle.plan_audit.specs.Kept.{next_route, route_met, kept}
-use Rattle.plan_audit.specs.Laws.{FliesOnce, lines_named, named, NamedPlansAreKept}
+use Rattle.plan_audit.specs.Laws.{lines_named, named, NamedPlansAreKept}
 use Rattle.plan_audit.proofs.NameLemmas.{false_of}
 use Rattle.plan_audit.proofs.MetLemmas.{tails_met-append, activities_met-append}
 use Rattle.plan_audit.proofs.Told.{none_among, split_count}

@@ -1,7 +1,5 @@
-use Rattle.std.proofs.Common.{◌≡◌, ◌∙◌, arith, rules, pos, ◌≤ℤ◌, ℤ, to_z, of_z, w64, subst, sym}
-use Rattle.std.specs.Prelude.{FitsSigned}
+use Rattle.std.proofs.Common.{◌≡◌, rules, ◌≤ℤ◌, to_z, of_z, w64, subst, sym}
 use Rattle.std.proofs.lemmas.Int.{to_z-of_z}
-use Rattle.tail_book.specs.Sound.{IsWithin, IsMoment}
 use Rattle.maint_counters.proofs.step_table.activity_row.Goals as goal
 
 -- each part is what its call gave

@@ -1,4 +1,4 @@
-use Rattle.std.proofs.Common.{◌≡◌, ◌<◌, ◌+◌, ℕ, length, get_or, arith, rules, subst, sym}
+use Rattle.std.proofs.Common.{rules}
 use Rattle.maint_counters.specs.StepTable.{IsActivityRow, no_activity_row}
 use Rattle.maint_counters.proofs.Listed.{each_more}
 use Rattle.maint_counters.proofs.step_table.activity_rows.Goals as goal

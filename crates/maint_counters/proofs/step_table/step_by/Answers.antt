@@ -1,4 +1,4 @@
-use Rattle.std.proofs.Common.{◌∙◌, subst, IsTrue, pos, ◌+◌, ◌^◌, ◌≤ℤ◌}
+use Rattle.std.proofs.Common.{subst, IsTrue, pos, ◌+◌, ◌^◌, ◌≤ℤ◌}
 use Rattle.std.proofs.lemmas.List.Elements.{All-weaker}
 use Rattle.tail_book.specs.Counters.{WithinLimits}
 use Rattle.tail_book.specs.Sound.{IsWithin}

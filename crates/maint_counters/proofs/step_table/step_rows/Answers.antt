@@ -1,11 +1,11 @@
-use Rattle.std.proofs.Common.{subst, ◌+◌, ◌+ℤ◌, ◌-ℤ◌, ◌≡◌, ◌≢◌, ◌<◌, ◌≤◌, pos, ◌≤ℤ◌, ◌∙◌, sym, ap, ap₂, arith, w64, to_z, of_z, rules, length, get_or, take, get_or-set_other}
+use Rattle.std.proofs.Common.{subst, ◌+◌, ◌+ℤ◌, ◌≡◌, ◌≢◌, ◌<◌, ◌≤◌, pos, ◌≤ℤ◌, ◌∙◌, sym, ap, ap₂, arith, w64, to_z, of_z, rules, length, get_or, take, get_or-set_other}
 use Rattle.std.proofs.lemmas.Int.{ints, to_z-of_z}
 use Rattle.std.proofs.lemmas.List.{take_all, take_more_set, get_or_default}
 use Rattle.std.proofs.lemmas.List.Elements.{All-same, All-push}
 use Rattle.std.specs.Prelude.{◌&&◌, FitsSigned}
 use Rattle.tail_book.specs.Lookup.{start_of}
 use Rattle.tail_book.specs.Numbers.{int_le}
-use Rattle.tail_book.specs.Link.{free_from, gap}
+use Rattle.tail_book.specs.Link.{free_from}
 use Rattle.tail_book.specs.Sound.{IsWithin}
 use Rattle.tail_book.specs.Counters.{step_one}
 use Rattle.maint_counters.specs.StepTable.{counter_of, no_counter}
