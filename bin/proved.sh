@@ -1,5 +1,6 @@
-# Builds a proved program where it isn't there or a source is newer, and then runs it. The scripts beside this one source
-# it: each is named after its program, and sets `first_run`, the words on which the program is run once it is built.
+# Builds a proved program where its sources have changed since the last build, and then runs it. The scripts beside this
+# one source it. Each is named after its program, and sets `first_run`, the words on which the program is run once it is
+# built, in the program's folder, and `read_options`, the options that name a file to read.
 # Only the program writes to standard output. Status 70: the program could not be built.
 # shellcheck shell=bash
 
@@ -7,52 +8,217 @@ set -u
 
 top=$(dirname "$(dirname "$(readlink -f "${BASH_SOURCE[0]}")")")
 first_run=()
+read_options=()
+# How long the build may be silent, in seconds.
+silence=20
+# The memory that the check of one crate may take, in KiB.
+check_memory=1500000
 
 say() {
     printf 'bin/%s: %s\n' "$name" "$*" >&2
 }
 
+# The crates of crates.txt: `uses` has for each the crates that it stands on, the kit's among them.
+read_crates() {
+    local line crate
+    declare -gA uses=()
+    while IFS= read -r line || [ -n "$line" ]; do
+        line=${line%%#*}:
+        read -r crate _ <<<"${line%%:*}"
+        line=${line#*:}
+        [ -z "$crate" ] || uses[$crate]=${line%%:*}
+    done <"$top/crates.txt"
+}
+
+# The crates that the program is built from, lowest first: those that a crate stands on, and then the crate itself.
+need() {
+    local below
+    [[ " ${needed[*]} " != *" $1 "* ]] || return 0
+    for below in ${uses[$1]}; do
+        [ -z "${uses[$below]+ours}" ] || need "$below"
+    done
+    needed+=("$1")
+}
+
+# The checksum of what the program is built from: the needed crates' lines of crates.txt, and their files but for tests.
+sum_of_sources() {
+    (
+        cd "$top/crates" || exit 1
+        for crate in "${needed[@]}"; do
+            printf '%s: %s\n' "$crate" "${uses[$crate]}"
+        done
+        find "${needed[@]}" \( -name out -o -path '*/must-fail' -o -path '*/src/tests' -o -path '*/proofs/tests' \) -prune \
+            -o -type f \( -name '*.rt' -o -name '*.antt' \) ! -path '*/src/*tests.rt' -print0 |
+            LC_ALL=C sort -z | xargs -0 sha256sum
+    ) | sha256sum
+}
+
+# Whether the kept program is the one that was built, and was built from the sources as they are.
 is_built() {
     [ -x "$program" ] && [ -f "$stamp" ] || return 1
-    [ "$(cksum <"$program")" = "$(cat "$stamp")" ] || return 1
-    local newer
-    newer=$(find "$top/crates.txt" "$top/crates" -name out -prune -o -type f -newer "$stamp" -print -quit) || return 1
-    [ -z "$newer" ]
+    [ "$(sum_of_sources; sha256sum <"$program")" = "$(cat "$stamp")" ]
+}
+
+# How many crates are checked side by side: some only wait for those below them, so twice as many as there are processors.
+side_by_side() {
+    local free most
+    most=$((2 * $(nproc)))
+    free=$(awk '/^MemAvailable:/ { print $2 }' /proc/meminfo 2>/dev/null)
+    free=$((${free:-0} / check_memory))
+    [ "$free" -ge "$most" ] || most=$free
+    [ "$most" -ge 1 ] || most=1
+    printf '%s' "$most"
+}
+
+# The crates that can be worked on: they are not done, and those that they stand on are.
+at_work() {
+    local crate below
+    for crate in "${needed[@]}"; do
+        [[ "$are_done" != *" $crate "* ]] || continue
+        for below in ${uses[$crate]}; do
+            [ -z "${uses[$below]+ours}" ] || [[ "$are_done" = *" $below "* ]] || continue 2
+        done
+        printf ' %s' "$crate"
+    done
+}
+
+# Runs a command in a crate's folder, logs what it prints, and says how far the build is. A command that checks several
+# crates is ended once only the program is left, since `rt run` gives the program all processors.
+follow() {
+    local folder=$1 from_rt rt_pid line
+    shift
+    exec {from_rt}< <(cd "$top/crates/$folder" && exec "$@" </dev/null 2>&1)
+    rt_pid=$!
+    while :; do
+        if IFS= read -r -t "$silence" -u "$from_rt" line; then
+            printf '%s\n' "$line" >>"$log"
+            [[ "$line" = "== "* && " ${needed[*]} " = *" ${line#== } "* ]] || continue
+            finished "${line#== }"
+            if [ "$(at_work)" = " $name" ]; then
+                kill "$rt_pid"
+                wait "$rt_pid"
+                exec {from_rt}<&-
+                return 0
+            fi
+        elif [ "$?" -gt 128 ]; then
+            say "$((SECONDS - began)) seconds, at work on$(at_work)"
+        else
+            break
+        fi
+    done
+    exec {from_rt}<&-
+    wait "$rt_pid"
+}
+
+finished() {
+    [[ "$are_done" != *" $1 "* ]] || return 0
+    are_done+="$1 "
+    count=$((count + 1))
+    say "$((SECONDS - began)) seconds, through with $1, $count of ${#needed[@]} crates"
+}
+
+# The lowest crates first, each with all processors, then the others side by side, and at last the program.
+build_all() {
+    local crate below
+    for crate in "${needed[@]}"; do
+        for below in ${uses[$crate]}; do
+            [ -z "${uses[$below]+ours}" ] || continue 2
+        done
+        follow "$crate" rt lib || return
+        finished "$crate"
+    done
+    follow "$name" rt all check --jobs "$(side_by_side)" || return
+    # Once it is built, rt also runs it.
+    follow "$name" rt run -- "${first_run[@]}" && finished "$name"
 }
 
 build() {
-    local began log status
+    local are_done=" " count=0 began=$SECONDS log sources status
     if ! command -v rt >/dev/null; then
         say "the command rt of the Rattle kit is not on the PATH"
         return 1
     fi
-    began=$(mktemp) && log=$(mktemp) || return 1
-    say "building the program. The first build proves everything below it, and takes several minutes."
-    # Once it is built, rt also runs it.
-    (
-        cd "$crate" && exec rt run -- "${first_run[@]}"
-    ) </dev/null >"$log" 2>&1 &&
-        cksum <"$program" >"$stamp" 2>>"$log" &&
-        touch -r "$began" "$stamp" 2>>"$log"
+    log=$(mktemp) && mkdir -p "$top/bin/out" || return 1
+    say "building the program. The first build proves the ${#needed[@]} crates that it is made of, which takes minutes."
+    sources=$(sum_of_sources)
+    build_all && keep "$sources"
     status=$?
     if [ "$status" -eq 0 ]; then
         say "built."
     else
-        say "the build failed. Its last lines:"
+        say "the build failed with status $status. Its last lines:"
         tail -n 20 "$log" >&2
     fi
-    rm -f "$began" "$log"
+    rm -f "$log"
     return "$status"
+}
+
+# Keeps the program and its stamp where `rt ci` leaves them alone.
+keep() {
+    local new=$program.new.$$
+    cp "$top/crates/$name/out/$name" "$new" &&
+        printf '%s\n%s\n' "$1" "$(sha256sum <"$new")" >"$stamp" &&
+        mv -f "$new" "$program"
+}
+
+# Whether an option is followed by the name of a file that the program reads.
+names_a_file() {
+    [[ " ${read_options[*]} " = *" $1 "* ]]
+}
+
+# Why each of the files that the words name can't be read, for those that can't. It opens none of them.
+find_unreadable() {
+    local word has_options=yes
+    unreadable=()
+    while [ "$#" -gt 0 ]; do
+        word=$1
+        shift
+        case $has_options$word in
+            yes--)
+                has_options=""
+                continue
+                ;;
+            yes--*=*)
+                names_a_file "${word%%=*}" || continue
+                word=${word#*=}
+                ;;
+            yes-?*)
+                if ! names_a_file "$word" || [ "$#" -eq 0 ]; then
+                    continue
+                fi
+                word=$1
+                shift
+                ;;
+        esac
+        if [ ! -e "$word" ]; then
+            unreadable+=("there is no file $word")
+        elif [ -d "$word" ]; then
+            unreadable+=("$word is a folder")
+        elif [ ! -r "$word" ]; then
+            unreadable+=("the file $word may not be read")
+        fi
+    done
 }
 
 # Runs the program of this name on these words, in the caller's folder, and ends with its status.
 run_proved() {
+    local why status unreadable needed=()
     name=$1
     shift
-    crate=$top/crates/$name
-    program=$crate/out/$name
-    # The checksum of the program that was built here. The stamp is as old as the start of that build.
-    stamp=$crate/out/$name.built
+    program=$top/bin/out/$name
+    stamp=$program.built
+    read_crates
+    need "$name"
     is_built || build || exit 70
-    exec "$program" "$@"
+    # The program is called by its plain name, whatever the folders above it are called.
+    find_unreadable "$@"
+    [ "${#unreadable[@]}" -ne 0 ] || exec -a "$name" "$program" "$@"
+    (exec -a "$name" "$program" "$@")
+    status=$?
+    if [ "$status" -eq 5 ]; then
+        for why in "${unreadable[@]}"; do
+            say "$why"
+        done
+    fi
+    exit "$status"
 }

@@ -66,13 +66,6 @@ as_many names (x ∷ xs) ns e =
     let whole : first.value ∷ others.value ≡ ns = cc (others.went_on) in
     omega (arith, ap length whole, as_many names xs others.value others.gave)
 
-none_left : (names xs : List (List ℕ)) (ns : List ℕ) → numbers_in names xs ≡ Ok ns → xs ≡ [] → ns ≡ []
-none_left names xs ns e none = by ns (as_many names xs ns e ∙ ap length none)
-  where
-    by : (ns : List ℕ) → length ns ≡ 0 → ns ≡ []
-    by [] h = refl
-    by (n ∷ more) h = absurd (omega (arith, h))
-
 assigned : (names : List (List ℕ)) (x : Option (List ℕ)) (k : Option ℕ) → optional_number_in names x ≡ Ok k → IsTrue (is_none_or_below k (length names))
 assigned names None k e =
     let none : None ≡ k = cc e in
@@ -207,14 +200,7 @@ activity_sound kinds airports counters tails tags rules types ports counts raw a
       tail = assigned tails raw.tail tail.value tail.gave;
       resets = rw counts (all_below counters raw.resets resets.value resets.gave);
       few_resets = rw (as_many counters raw.resets resets.value resets.gave) sound.resets.few;
-      ground_stays = λ ground. stays (sound.ground ground) from.gave to.gave;
-      flight_resets_nothing = λ flight. none_left counters raw.resets resets.value resets.gave (sound.in_flight flight);
     })
-  where
-    stays : {x y : List ℕ} {m n : ℕ} → x ≡ y → number_in airports x ≡ Ok m → number_in airports y ≡ Ok n → m ≡ n
-    stays {x} {y} {m} {n} same first second =
-        let both : ◌≡◌ {A = Result ℕ ℕ} (Ok m) (Ok n) = sym first ∙ ap (number_in airports) same ∙ second in
-        cc both
 
 pub activity_named : (kinds airports counters tails tags : List (List ℕ)) (raw : RawActivitySeen) (a : ActivitySeen) → activity_in kinds airports counters tails tags raw ≡ Ok a → a.id ≡ raw.id
 activity_named kinds airports counters tails tags raw a e =

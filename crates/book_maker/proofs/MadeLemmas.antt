@@ -6,10 +6,9 @@ use Rattle.std.proofs.Common.{◌≡◌, ◌≢◌, ◌∙◌, refl, ap, arith, 
 use Rattle.std.proofs.lemmas.List.{length-map}
 use Rattle.std.proofs.lemmas.List.Sorted.{All-permutation, length_permutation}
 use Rattle.tail_text.specs.declared.refusal.Table.TheVariants.{Fleet, Rules, Timetable}
-use Rattle.tail_book.specs.Seen.{ActivitySeen, BookSeen, CounterSeen, CurfewSeen, RulesSeen, TailSeen}
+use Rattle.tail_book.specs.Seen.{ActivitySeen, AirportSeen, BookSeen, CounterSeen, CurfewSeen, RulesSeen, TailSeen}
 use Rattle.tail_book.specs.Sound.{IsActivity, IsBook, IsCounter, IsCurfew, IsRules, IsTail}
 use Rattle.tail_book.specs.declared.rules.AircraftType.{AircraftType}
-use Rattle.tail_book.specs.declared.rules.Airport.{Airport}
 use Rattle.timetable_reader.specs.Activity.{IsRawActivity, RawActivitySeen}
 use Rattle.timetable_reader.specs.declared.timetable.TheConstants.{ACTIVITY_LIMIT}
 use Rattle.fleet_rules.specs.RawRules.{AreRawRules, IsRawCounter, IsRawCurfew, RawRulesSeen}
@@ -38,13 +37,13 @@ unchanged xs ys e = sym (itself xs) ∙ e ∙ itself ys
     itself (z ∷ zs) = ap (λ more. z ∷ more) (itself zs)
 
 -- the four kinds of entries of the rules gave these
-pub record RulesGave (raw : RawRulesSeen) (kinds : List AircraftType) (airports : List Airport) (curfews : List CurfewSeen) (counters : List CounterSeen) : Type 0 where
+pub record RulesGave (raw : RawRulesSeen) (kinds : List AircraftType) (airports : List AirportSeen) (curfews : List CurfewSeen) (counters : List CounterSeen) : Type 0 where
   pub kinds_gave : entries_in Rules 1 (λ t. Some t.name) (λ t. Ok t) raw.kinds ≡ Ok kinds
   pub airports_gave : entries_in Rules (1 + length raw.kinds) (λ p. Some p.name) (λ p. Ok p) raw.airports ≡ Ok airports
   pub curfews_gave : entries_in Rules (1 + length raw.kinds + length raw.airports) (λ _. None) (curfew_in (airport_names raw) (kind_names raw)) raw.curfews ≡ Ok curfews
   pub counters_gave : entries_in Rules (1 + length raw.kinds + length raw.airports + length raw.curfews) (λ c. Some c.name) (counter_in (airport_names raw)) raw.counters ≡ Ok counters
 
-module _ (raw : RawRulesSeen) (sound : AreRawRules raw) (kinds : List AircraftType) (airports : List Airport) (curfews : List CurfewSeen) (counters : List CounterSeen)
+module _ (raw : RawRulesSeen) (sound : AreRawRules raw) (kinds : List AircraftType) (airports : List AirportSeen) (curfews : List CurfewSeen) (counters : List CounterSeen)
     (gave : RulesGave raw kinds airports curfews counters) where
   abbrev rules : RulesSeen
   rules = record { kinds = kinds; airports = airports; curfews = curfews; counters = counters; bands = raw.bands }

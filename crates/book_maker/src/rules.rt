@@ -44,7 +44,11 @@ impl Entry for Airport {
     }
 
     fn found(&self, _alloc: Global, _known: &Known) -> Result<Airport, NoRow> {
-        Ok(*self)
+        Ok(Airport {
+            name: self.name,
+            offset: self.offset,
+            turn: self.turn,
+        })
     }
 }
 

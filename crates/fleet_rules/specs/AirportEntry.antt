@@ -1,13 +1,13 @@
 -- The entries of the key `airport`.
 use Rattle.std.specs.Prelude.{ℕ, pos, negsuc, [], ◌∷◌, codes, Result, Ok}
 use Rattle.toml.specs.Data.{Members}
-use Rattle.tail_book.specs.declared.rules.Airport.{Airport}
+use Rattle.tail_book.specs.Seen.{AirportSeen}
 use Rattle.tail_text.specs.Checks.{look}
 use Rattle.fleet_rules.specs.Entries.{Section}
 use Rattle.fleet_rules.specs.TomlValues.{name_at, number_at}
 
 -- an airport: the minutes from UTC to its local time, -840 to 840, and the turn in minutes
-abbrev pub airport_in : Members → Result Airport ℕ
+abbrev pub airport_in : Members → Result AirportSeen ℕ
 airport_in table =
     look (name_at (codes "name") table) (λ name.
     look (number_at (codes "offset") (negsuc 839) (pos 840) table) (λ offset.
@@ -15,7 +15,7 @@ airport_in table =
     Ok (record { name = name; offset = offset; turn = turn }))))
 
 -- at most 200 of them
-abbrev pub airports : Section Airport
+abbrev pub airports : Section AirportSeen
 airports = record {
   key = codes "airport";
   limit = 200;

@@ -1,9 +1,9 @@
 -- The rules as their table says them, with names in place of numbers.
 use Rattle.std.specs.Prelude.{ℕ, ℤ, pos, ◌≡◌, ◌≤◌, true, Bool, List, length, All}
 use Rattle.tail_book.specs.Name.{is_name}
+use Rattle.tail_book.specs.Seen.{AirportSeen}
 use Rattle.tail_book.specs.Sound.{IsAirport, IsBand, IsKind, IsLimit, IsWithin}
 use Rattle.tail_book.specs.declared.rules.AircraftType.{AircraftType}
-use Rattle.tail_book.specs.declared.rules.Airport.{Airport}
 use Rattle.tail_book.specs.declared.rules.Band.{Band}
 use Rattle.tail_book.specs.declared.rules.CounterKind.{CounterKind}
 use Rattle.table_records.specs.NameLists.{AreNames}
@@ -28,7 +28,7 @@ pub record RawCounterSeen : Type 0 where
 -- all rules, each kind in the order of its entries
 pub record RawRulesSeen : Type 0 where
   pub kinds : List AircraftType
-  pub airports : List Airport
+  pub airports : List AirportSeen
   pub curfews : List RawCurfewSeen
   pub counters : List RawCounterSeen
   pub bands : List Band

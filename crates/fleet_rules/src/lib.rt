@@ -8,6 +8,7 @@ mod counter_entry;
 mod curfew_entry;
 mod entries;
 mod fleet;
+mod nested;
 mod raw_rules;
 mod rules_table;
 mod tail;

@@ -10,6 +10,7 @@ ghost use Rattle.fleet_rules.specs.RulesTable.{rules_in, rules_of};
 
 use crate::RawRules;
 use crate::entries::{entries_at, refused};
+use crate::nested::give_up;
 use crate::toml_values::has_only;
 use std::alloc::Global;
 use table_records::SIZE_LIMIT;
@@ -27,7 +28,11 @@ pub fn read_rules(alloc: Global, bytes: &[u8]) -> Result<RawRules, Stopped>
         return Err(refused(2, 0));
     };
     match toml::table_from_str(alloc, text) {
-        Ok(table) => rules_in(alloc, &table),
+        Ok(table) => {
+            let rules = rules_in(alloc, &table);
+            give_up(alloc, table);
+            rules
+        }
         Err(error) => {
             if error.is_memory() {
                 Err(Stopped::Memory)

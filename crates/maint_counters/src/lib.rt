@@ -4,11 +4,13 @@
 mod carry;
 mod counting;
 mod reset;
+mod step_table;
 mod stepping;
 
 pub use carry::start;
 pub use counting::{amount, flown};
 pub use reset::cleared;
+pub use step_table::{ActivityRow, CounterRow, StepTable, step_by};
 pub use stepping::{step, step_one};
 
 #[cfg(test)]

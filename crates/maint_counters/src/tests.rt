@@ -1,10 +1,7 @@
-//! A small book, and its counters along routes.
+//! A small book, and its counters along routes; and books by chance, on which the table steps as the rules do.
 
-ghost use Rattle.std.specs.Prelude.{◌≡◌, ◌≢◌, ◌<◌, ◌≤◌, ◌≤ℤ◌, ◌+ℤ◌, pos, [], IfOk, IsTrue, true, None, length, All, AllPairs};
-ghost use Rattle.tail_book.specs.Name.{is_name};
+ghost use Rattle.std.specs.Prelude.{◌≡◌, ◌<◌, length};
 ghost use Rattle.tail_book.specs.Lookup.{aircraft};
-ghost use Rattle.tail_book.specs.Seen.{RulesSeen};
-ghost use Rattle.tail_book.specs.Sound.{IsWithin, IsLimit, IsCounter, IsActivity, IsTail, IsRules, comes_before};
 
 use crate::*;
 use std::alloc::Global;
@@ -12,6 +9,8 @@ use std::process::Abort;
 use std::test::Fail;
 use tail_book::*;
 use turn_rules::gap;
+
+mod chance;
 
 const ARN: u32 = 0;
 
@@ -42,113 +41,102 @@ const F4: u32 = 7;
 
 const H1: u32 = 8;
 
-fn flight(alloc: Global, rules: &Rules, id: &[u8; 2], leg: (u32, u32), start: i64) -> Activity
-    requires airports { length rules.now.airports ≡ 2 }
-    requires id { IsTrue (is_name id.now) }
-    requires from { leg.0 < 2 }
-    requires to { leg.1 < 2 }
-    requires least { pos 0 ≤ℤ start }
-    requires most { start ≤ℤ pos 10_000 }
-    ensures start { result.start ≡ start }
-    ensures id { result.id ≡ id.now }
-    ensures sound { IsActivity rules.now 2 result }
-{
-    let (id, (from, to), end) = (Name::new(id.as_slice()), leg, start + 60);
-    let (types, tags, resets) = (Vec::new(alloc), Vec::new(alloc), Vec::new(alloc));
+fn activity(
+    alloc: Global,
+    id: Name,
+    flight: bool,
+    leg: (u32, u32),
+    time: (i64, i64),
+    resets: Vec<u32>,
+) -> Activity {
+    let ((from, to), (start, end)) = (leg, time);
     Activity {
         id,
-        flight: true,
+        flight,
         from,
         to,
         start,
         end,
-        types,
-        tags,
+        types: Vec::new(alloc),
+        tags: Vec::new(alloc),
         tail: None,
         resets,
     }
 }
 
-// Ground time at OSL of two hours that resets the counter of days.
-fn check(alloc: Global, rules: &Rules, id: &[u8; 2], start: i64) -> Result<Activity, Memory>
-    requires airports { length rules.now.airports ≡ 2 }
-    requires counters { length rules.now.counters ≡ 3 }
-    requires id { IsTrue (is_name id.now) }
-    requires least { pos 0 ≤ℤ start }
-    requires most { start ≤ℤ pos 10_000 }
-    ensures start { IfOk result (λ a. a.start ≡ start) }
-    ensures id { IfOk result (λ a. a.id ≡ id.now) }
-    ensures sound { IfOk result (IsActivity rules.now 2) }
-{
-    let (id, end, resets) = (Name::new(id.as_slice()), start + 120, vec![in alloc; 2]?);
-    let (types, tags) = (Vec::new(alloc), Vec::new(alloc));
-    Ok(Activity {
+// A flight of an hour.
+fn flight(alloc: Global, id: Name, leg: (u32, u32), start: i64) -> Activity {
+    activity(
+        alloc,
         id,
-        flight: false,
-        from: OSL,
-        to: OSL,
-        start,
-        end,
-        types,
-        tags,
-        tail: None,
-        resets,
-    })
+        true,
+        leg,
+        (start, start.saturating_add(60)),
+        Vec::new(alloc),
+    )
 }
 
-fn counter(
-    alloc: Global,
-    name: &[u8],
-    kind: CounterKind,
-    limit: i64,
-    base: u32,
-    stop: i64,
-) -> Result<Counter, Memory>
-    requires name { IsTrue (is_name name.now) }
-    requires limit { IsLimit kind limit }
-    requires base { base < 2 }
-    requires stop { IsWithin (pos 1) (pos 100_000) stop }
-    ensures name { IfOk result (λ c. c.name ≡ name.now) }
-    ensures sound { IfOk result (λ c. (rules : RulesSeen) → length rules.airports ≡ 2 → IsCounter rules c) }
-{
-    let (name, bases) = (Name::new(name), vec![in alloc; base]?);
-    Ok(Counter {
+fn counter(name: Name, kind: CounterKind, limit: i64, bases: Vec<u32>, stop: i64) -> Counter {
+    Counter {
         name,
         kind,
         limit,
         bases,
         stop,
-    })
+    }
 }
 
-// Two hours between stops of an hour at ARN, two landings between stops of half an hour at OSL, and a day.
-fn counters(alloc: Global) -> Result<Vec<Counter>, Memory>
-    ensures each { IfOk result (λ v. (rules : RulesSeen) → length rules.airports ≡ 2 → All (IsCounter rules) v.items) }
-    ensures names { IfOk result (λ v. AllPairs (λ a b. a.name ≢ b.name) v.items) }
-    ensures count { IfOk result (λ v. length v.items ≡ 3) }
-{
-    let hours = counter(alloc, b"hours", CounterKind::Minutes, 120, ARN, 60)?;
-    let landings = counter(alloc, b"landings", CounterKind::Landings, 2, OSL, 30)?;
-    let days = counter(alloc, b"days", CounterKind::Days, 1440, ARN, 60)?;
-    let listed = vec![in alloc; hours, landings, days]?;
-    Ok(listed)
+fn tail(alloc: Global, name: Name, at: u32, ready: i64, carry: Vec<i64>) -> Tail {
+    Tail {
+        name,
+        kind: 0,
+        at,
+        ready,
+        fixed: 0,
+        tags: Vec::new(alloc),
+        avoid: Vec::new(alloc),
+        carry,
+    }
 }
 
-fn rules(alloc: Global) -> Result<Rules, Memory>
-    ensures sound { IfOk result IsRules }
-    ensures kinds { IfOk result (λ r. length r.kinds ≡ 1) }
-    ensures airports { IfOk result (λ r. length r.airports ≡ 2) }
-    ensures counters { IfOk result (λ r. length r.counters ≡ 3) }
-{
-    let counters = counters(alloc)?;
-    let a320 = Name::new(b"A320".as_slice());
+fn rules(alloc: Global, airports: Vec<Airport>, counters: Vec<Counter>) -> Result<Rules, Memory> {
+    let name = Name::new(b"A320".as_slice());
     let kinds = vec![in alloc;
         AircraftType {
-            name: a320,
+            name,
             rate: 10,
             turn: 30
         },
     ]?;
+    Ok(Rules {
+        kinds,
+        airports,
+        curfews: Vec::new(alloc),
+        counters,
+        bands: Vec::new(alloc),
+    })
+}
+
+// Two hours between stops of an hour at ARN, two landings between stops of half an hour at OSL, and a day.
+fn small_counters(alloc: Global) -> Result<Vec<Counter>, Memory> {
+    let (hours, landings) = (
+        Name::new(b"hours".as_slice()),
+        Name::new(b"landings".as_slice()),
+    );
+    let days = Name::new(b"days".as_slice());
+    let (arn, osl, again) = (
+        vec![in alloc; ARN]?,
+        vec![in alloc; OSL]?,
+        vec![in alloc; ARN]?,
+    );
+    Ok(vec![in alloc;
+        counter(hours, CounterKind::Minutes, 120, arn, 60),
+        counter(landings, CounterKind::Landings, 2, osl, 30),
+        counter(days, CounterKind::Days, 1440, again, 60),
+    ]?)
+}
+
+fn small_rules(alloc: Global) -> Result<Rules, Memory> {
     let (arn, osl) = (Name::new(b"ARN".as_slice()), Name::new(b"OSL".as_slice()));
     let airports = vec![in alloc;
         Airport {
@@ -162,82 +150,35 @@ fn rules(alloc: Global) -> Result<Rules, Memory>
             turn: 30
         },
     ]?;
-    let (curfews, bands) = (Vec::new(alloc), Vec::new(alloc));
-    Ok(Rules {
-        kinds,
-        airports,
-        curfews,
-        counters,
-        bands,
-    })
+    rules(alloc, airports, small_counters(alloc)?)
 }
 
-fn tails(alloc: Global, rules: &Rules) -> Result<Vec<Tail>, Memory>
-    requires kinds { length rules.now.kinds ≡ 1 }
-    requires airports { length rules.now.airports ≡ 2 }
-    requires counters { length rules.now.counters ≡ 3 }
-    ensures each { IfOk result (λ v. All (IsTail rules.now) v.items) }
-    ensures names { IfOk result (λ v. AllPairs (λ a b. a.name ≢ b.name) v.items) }
-    ensures count { IfOk result (λ v. length v.items ≡ 2) }
-{
+fn small_tails(alloc: Global) -> Result<Vec<Tail>, Memory> {
     let (a, b) = (Name::new(b"SE-A".as_slice()), Name::new(b"SE-B".as_slice()));
     let (new, used) = (vec![in alloc; 0, 0, 0]?, vec![in alloc; 10, 2, 1000]?);
+    Ok(vec![in alloc; tail(alloc, a, ARN, 360, new), tail(alloc, b, OSL, 0, used)]?)
+}
+
+// Flights of an hour, and a check at OSL of two hours that resets the counter of days.
+fn small_activities(alloc: Global) -> Result<Vec<Activity>, Memory> {
+    let (g1, resets) = (Name::new(b"G1".as_slice()), vec![in alloc; 2]?);
     Ok(vec![in alloc;
-        Tail {
-            name: a,
-            kind: 0,
-            at: ARN,
-            ready: 360,
-            fixed: 0,
-            tags: Vec::new(alloc),
-            avoid: Vec::new(alloc),
-            carry: new
-        },
-        Tail {
-            name: b,
-            kind: 0,
-            at: OSL,
-            ready: 0,
-            fixed: 0,
-            tags: Vec::new(alloc),
-            avoid: Vec::new(alloc),
-            carry: used
-        },
+        flight(alloc, Name::new(b"F1".as_slice()), (ARN, OSL), 360),
+        flight(alloc, Name::new(b"J1".as_slice()), (OSL, ARN), 380),
+        flight(alloc, Name::new(b"J2".as_slice()), (OSL, ARN), 381),
+        flight(alloc, Name::new(b"F2".as_slice()), (OSL, ARN), 450),
+        flight(alloc, Name::new(b"E3".as_slice()), (ARN, OSL), 569),
+        flight(alloc, Name::new(b"F3".as_slice()), (ARN, OSL), 570),
+        activity(alloc, g1, false, (OSL, OSL), (600, 720), resets),
+        flight(alloc, Name::new(b"F4".as_slice()), (OSL, ARN), 660),
+        flight(alloc, Name::new(b"H1".as_slice()), (OSL, ARN), 750),
     ]?)
 }
 
-fn activities(alloc: Global, rules: &Rules) -> Result<Vec<Activity>, Memory>
-    requires airports { length rules.now.airports ≡ 2 }
-    requires counters { length rules.now.counters ≡ 3 }
-    ensures each { IfOk result (λ v. All (IsActivity rules.now 2) v.items) }
-    ensures order { IfOk result (λ v. AllPairs (λ a b. IsTrue (comes_before a b)) v.items) }
-    ensures ids { IfOk result (λ v. AllPairs (λ a b. a.id ≢ b.id) v.items) }
-    ensures count { IfOk result (λ v. length v.items ≡ 9) }
-{
-    let g1 = check(alloc, rules, b"G1", 600)?;
-    let listed = vec![in alloc;
-        flight(alloc, rules, b"F1", (ARN, OSL), 360),
-        flight(alloc, rules, b"J1", (OSL, ARN), 380),
-        flight(alloc, rules, b"J2", (OSL, ARN), 381),
-        flight(alloc, rules, b"F2", (OSL, ARN), 450),
-        flight(alloc, rules, b"E3", (ARN, OSL), 569),
-        flight(alloc, rules, b"F3", (ARN, OSL), 570),
-        g1,
-        flight(alloc, rules, b"F4", (OSL, ARN), 660),
-        flight(alloc, rules, b"H1", (OSL, ARN), 750),
-    ]?;
-    Ok(listed)
-}
-
-fn book(alloc: Global) -> Result<Book, Memory> {
-    let rules = rules(alloc)?;
-    let tails = tails(alloc, &rules)?;
-    let activities = activities(alloc, &rules)?;
-    Ok(Book {
-        activities,
-        tails,
-        rules,
-    })
+fn book(alloc: Global) -> Result<Book, Fail> {
+    let (activities, tails) = (small_activities(alloc)?, small_tails(alloc)?);
+    let book = Book::new(activities, tails, small_rules(alloc)?);
+    Ok(book.ok_or("no book")?)
 }
 
 // Steps along a route, as far as the limits allow.

@@ -14,7 +14,7 @@ use Rattle.tail_book.specs.declared.place.Place.{Place}
 use Rattle.tail_book.specs.declared.place.Place.TheVariants.{Carry, After}
 use Rattle.tail_book.specs.Cost.{activity_cost, connection_cost, cost_from, cost_of_routes, plan_cost}
 use Rattle.tail_book.specs.Plan.{times_flown}
-use Rattle.turn_rules.specs.InRange.{IsPlaceOf}
+use Rattle.tail_book.specs.Place.{IsPlaceOf}
 use Rattle.plan_audit.specs.declared.leg.Leg.{Leg}
 use Rattle.plan_audit.specs.declared.met.Met.{Met}
 use Rattle.plan_audit.specs.declared.met.Met.TheVariants.{Unknown, Twice, Tail, Activity}
@@ -86,7 +86,7 @@ put f g j v none here others s (suc n) =
       ]),
     )
 
-no_route : (met : List Met) (k : ℕ) → contains (tails_met met) k ≡ false → route_met met k ≡ []
+pub no_route : (met : List Met) (k : ℕ) → contains (tails_met met) k ≡ false → route_met met k ≡ []
 no_route [] k h = refl
 no_route (Unknown name ∷ met) k h = no_route met k h
 no_route (Twice name ∷ met) k h = no_route met k h

@@ -1,19 +1,18 @@
 -- Where the kept plan is legal and no name was dropped, no rule is broken. Each leg of a legal route is allowed, linked and
 -- within its limits, and an activity that is flown once was met.
-use Rattle.std.proofs.Common.{◌≡◌, ◌∙◌, sym, refl, ap, arith, subst, true≢false, ℕ, zero, suc, ◌+◌, ◌<◌, ◌≤◌, ℤ, pos, inl, inr, Bool, true, false, ◌&&◌, ◌||◌, ◌+ℤ◌, cond, if◌then◌else◌, nat_eq, nat_lt, List, [], ◌∷◌, ◌++◌, map, length, replicate}
+use Rattle.std.proofs.Common.{◌≡◌, ◌∙◌, sym, refl, ap, arith, subst, true≢false, ℕ, zero, suc, ◌+◌, ◌<◌, ◌≤◌, ℤ, pos, inl, inr, Bool, true, false, ◌&&◌, ◌||◌, cond, if◌then◌else◌, nat_eq, nat_lt, List, [], ◌∷◌, ◌++◌, map, length, replicate}
 use Rattle.std.specs.Prelude.{not, count_by}
-use Rattle.std.specs.List.{filter, list_all, range_with_len, IsDistinct, AllByRecursion}
+use Rattle.std.specs.List.{filter, range_with_len, IsDistinct, AllByRecursion}
 use Rattle.std.proofs.lemmas.Bool.{cases_Bool, eq-eqb, eqb-true}
 use Rattle.std.proofs.lemmas.Map.Keys.{IsDistinct-tail}
 use Rattle.tail_book.specs.Seen.{BookSeen, RawPlanSeen, CounterSeen}
-use Rattle.tail_book.specs.Numbers.{contains, int_le, is_none_or}
-use Rattle.tail_book.specs.Lookup.{activities, aircraft, carry_of, from_port, to_port, start_of, types_of, tags_needed, preassigned, kind_of, tags_had, avoided}
+use Rattle.tail_book.specs.Numbers.{contains, int_le}
+use Rattle.tail_book.specs.Lookup.{activities, aircraft, carry_of}
 use Rattle.tail_book.specs.declared.place.Place.{Place}
 use Rattle.tail_book.specs.declared.place.Place.TheVariants.{Carry, After}
-use Rattle.tail_book.specs.Curfew.{covers_type, is_curfewed}
-use Rattle.tail_book.specs.Link.{port, free_from, turn_time}
+use Rattle.tail_book.specs.Curfew.{is_curfewed}
 use Rattle.tail_book.specs.Plan.{IsLegalPlan}
-use Rattle.tail_book.specs.Tests.{is_allowed, is_allowed_at, is_link, within_limits, is_legal_from, is_legal_route, LegalRouteDecides}
+use Rattle.tail_book.specs.Tests.{is_permitted, is_allowed, is_allowed_at, is_connected, is_link, within_limits, is_legal_from, is_legal_route, LegalRouteDecides}
 use Rattle.plan_audit.specs.declared.leg.Leg.{Leg}
 use Rattle.plan_audit.specs.declared.met.Met.{Met}
 use Rattle.plan_audit.specs.declared.met.Met.TheVariants.{Unknown, Twice, Tail, Activity}
@@ -21,7 +20,7 @@ use Rattle.plan_audit.specs.declared.broken.Broken.{Broken}
 use Rattle.plan_audit.specs.declared.broken.Broken.TheVariants as rule
 use Rattle.plan_audit.specs.Met.{tails_met, activities_met, names_met}
 use Rattle.plan_audit.specs.Kept.{next_route, route_met, kept, legs_from}
-use Rattle.plan_audit.specs.Rules.{unknown, twice, uncovered, is_permitted, is_connected, past_limits_at, values_before, values_after, past_limits}
+use Rattle.plan_audit.specs.Rules.{unknown, twice, uncovered, past_limits_at, values_before, values_after, past_limits}
 use Rattle.plan_audit.specs.Broken.{broken}
 use Rattle.plan_audit.proofs.WellMet.{names_well_met}
 use Rattle.plan_audit.proofs.Along.{kept_times, differs, count_none, tails_within}
@@ -36,17 +35,11 @@ rest-part : (p q : Bool) → (p && q) ≡ true → q ≡ true
 rest-part true q e = e
 rest-part false q e = absurd (true≢false (sym e))
 
-permitted-by : (a b c d e f : Bool) → (a && (b && (c && (d && (e && not f))))) ≡ true → (a && (b && (c && (d && e)))) ≡ true
-permitted-by a b c d e f h = grind arith
+permitted-by : (a b c d : Bool) → (a && (b && (c && not d))) ≡ true → c ≡ true
+permitted-by a b c d h = grind arith
 
-opened-by : (a b c d e f : Bool) → (a && (b && (c && (d && (e && not f))))) ≡ true → f ≡ false
-opened-by a b c d e f h = grind arith
-
-connected-by : (a b c d : Bool) → (a && (b && (c && d))) ≡ true → (a && b) ≡ true
-connected-by a b c d h = grind arith
-
-allowed-by : (a b c d : Bool) → (a && (b && (c && d))) ≡ true → d ≡ true
-allowed-by a b c d h = grind arith
+opened-by : (a b c d : Bool) → (a && (b && (c && not d))) ≡ true → d ≡ false
+opened-by a b c d h = grind arith
 
 -- what does not pass is not listed
 skip : {A : Type 0} (f : A → Broken) (p : A → Bool) (x : A) (xs : List A) → p x ≡ false → map f (filter p xs) ≡ [] → map f (filter p (x ∷ xs)) ≡ []
@@ -71,19 +64,15 @@ no_limit_past leg c (counter ∷ counters) (value ∷ values) e =
 module _ (book : BookSeen) where
   more_unbroken : (values : List ℤ) (leg : Leg) (legs : List Leg) → is_link book leg.tail leg.from leg.activity ≡ true
       → within_limits book.rules.counters (values_after book leg values) ≡ true → IsUnbroken book (values_after book leg values) legs → IsUnbroken book values (leg ∷ legs)
+  unfolding is_allowed is_link
   more_unbroken values leg legs linked within rest =
       let k = leg.tail in
       let a = leg.activity in
       let allowed : is_allowed book k a ≡ true =
-      allowed-by (nat_eq (port book k leg.from) (from_port book a)) (int_le (free_from book k leg.from +ℤ turn_time book k leg.from a) (start_of book a)) (is_allowed_at book k leg.from) (is_allowed book k a) linked in
-      let permitted : is_permitted book k a ≡ true =
-      permitted-by (covers_type (types_of book a) (kind_of book k)) (list_all (contains (tags_had book k)) (tags_needed book a)) (not (contains (avoided book k) (from_port book a)))
-      (not (contains (avoided book k) (to_port book a))) (is_none_or (preassigned book a) k) (is_curfewed book k a) allowed in
-      let opened : is_curfewed book k a ≡ false =
-      opened-by (covers_type (types_of book a) (kind_of book k)) (list_all (contains (tags_had book k)) (tags_needed book a)) (not (contains (avoided book k) (from_port book a)))
-      (not (contains (avoided book k) (to_port book a))) (is_none_or (preassigned book a) k) (is_curfewed book k a) allowed in
-      let connected : is_connected book k leg.from a ≡ true =
-      connected-by (nat_eq (port book k leg.from) (from_port book a)) (int_le (free_from book k leg.from +ℤ turn_time book k leg.from a) (start_of book a)) (is_allowed_at book k leg.from) (is_allowed book k a) linked in
+      rest-part (is_allowed_at book k leg.from) (is_allowed book k a) (rest-part (is_connected book k leg.from a) (is_allowed_at book k leg.from && is_allowed book k a) linked) in
+      let permitted : is_permitted book k a ≡ true = permitted-by (nat_lt k (aircraft book)) (nat_lt a (activities book)) (is_permitted book k a) (is_curfewed book k a) allowed in
+      let opened : is_curfewed book k a ≡ false = opened-by (nat_lt k (aircraft book)) (nat_lt a (activities book)) (is_permitted book k a) (is_curfewed book k a) allowed in
+      let connected : is_connected book k leg.from a ≡ true = first-part (is_connected book k leg.from a) (is_allowed_at book k leg.from && is_allowed book k a) linked in
       record {
         allowed = skip (λ leg. rule.NotAllowed leg.tail leg.activity) (λ leg. not (is_permitted book leg.tail leg.activity)) leg legs (not_true (is_permitted book k a) permitted) rest.allowed;
         open_hours = skip (λ leg. rule.Curfew leg.tail leg.activity) (λ leg. is_curfewed book leg.tail leg.activity) leg legs opened rest.open_hours;
@@ -125,7 +114,7 @@ is_among a xs e = elim (cases_Bool (contains xs a)) [
   | inr f ↦ absurd (omega (arith, count_none a xs f, e))
 ]
 
-among_within : (m i : ℕ) (ks : List ℕ) → AllByRecursion (λ j. j < m) ks → contains ks i ≡ true → i < m
+pub among_within : (m i : ℕ) (ks : List ℕ) → AllByRecursion (λ j. j < m) ks → contains ks i ≡ true → i < m
 among_within m i [] all h = absurd (true≢false (sym h))
 among_within m i (k ∷ ks) all h = by (nat_eq i k) refl h (among_within m i ks all.1)
   where

@@ -9,14 +9,13 @@ use Rattle.std.proofs.lemmas.Bool.Decides.{nat_tests, Decides-eqb, Decides-below
 use Rattle.std.proofs.lemmas.List.{drop_more, take_more, get_or-set_same, get_or-set_other, length-set, get_or_default, append-nil}
 use Rattle.std.proofs.lemmas.List.Concat.{flat_map-append}
 use Rattle.std.proofs.lemmas.List.Sums.{sum_by-cons, sum_by-append, AllPass-from_list_all, list_all-from_AllPass}
-use Rattle.std.proofs.lemmas.List.Elements.{All-from_get_or, All-nil, All-cons}
+use Rattle.std.proofs.lemmas.List.Elements.{All-from_get_or}
 use Rattle.tail_book.specs.Seen.{BookSeen}
-use Rattle.tail_book.specs.Lookup.{activities, carry_of}
+use Rattle.tail_book.specs.Lookup.{activities}
 use Rattle.tail_book.specs.declared.place.Place.{Place}
-use Rattle.tail_book.specs.declared.place.Place.TheVariants.{Carry, After}
+use Rattle.tail_book.specs.declared.place.Place.TheVariants.{After}
 use Rattle.tail_book.specs.Counters.{step}
-use Rattle.tail_book.specs.Plan.{times_flown, route_of, IsLegalPlan}
-use Rattle.tail_book.specs.Route.{IsLegalFrom}
+use Rattle.tail_book.specs.Plan.{times_flown, route_of}
 use Rattle.tail_book.specs.Tests.{is_link, within_limits, is_legal_from, is_legal_route, are_legal_below, are_flown_once_below}
 use Rattle.plan_audit.specs.Times.{AreTimes}
 use Rattle.plan_audit.proofs.Legality.{both}
@@ -155,14 +154,3 @@ once_by book plan times long are =
 
     from_one : (a : ℕ) → a < length times → times_flown plan a ≡ 1 → (get_or times a 0 == 1) ≡ true
     from_one a below e = let is = are a below in eq-eqb (get_or times a 0) 1 (omega (arith, is, e))
-
-route_of_book : (book : BookSeen) (k : ℕ) (x : Place) (values : List ℤ) (route : List ℕ) → IsLegalFrom book k x values route → All (λ a. a < activities book) route
-route_of_book book k x values [] h = All-nil (λ a. a < activities book)
-route_of_book book k x values (b ∷ rest) h =
-    All-cons (λ a. a < activities book) b rest h.0 (route_of_book book k (After b) (step book k x b values) rest h.3)
-
--- a legal plan is of activities of the book
-pub plan_of_book : (book : BookSeen) (plan : List (List ℕ)) → IsLegalPlan book plan → All (All (λ a. a < activities book)) plan
-plan_of_book book plan h =
-    All-from_get_or (All (λ a. a < activities book)) plan []
-    (λ k within. route_of_book book k Carry (carry_of book k) (get_or plan k []) (h.routes k (omega (arith, h.one_each, within))))

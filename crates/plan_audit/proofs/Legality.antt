@@ -1,20 +1,19 @@
 -- Where no leg breaks a rule, each kept route is legal, and where each kept route is legal, no leg breaks a rule. Both go
 -- along the names that are met, with the place and the counters before each leg.
-use Rattle.std.proofs.Common.{◌≡◌, sym, refl, arith, subst, ℕ, ◌+◌, ◌<◌, ℤ, Bool, true, false, ◌&&◌, ◌+ℤ◌, cond, if◌then◌else◌, nat_eq, nat_lt, List, [], ◌∷◌, ◌++◌, map, length, All}
+use Rattle.std.proofs.Common.{◌≡◌, sym, refl, arith, subst, ℕ, ◌+◌, ◌<◌, ℤ, Bool, true, false, ◌&&◌, cond, if◌then◌else◌, nat_eq, nat_lt, List, [], ◌∷◌, ◌++◌, map, length, All}
 use Rattle.std.specs.Prelude.{not}
-use Rattle.std.specs.List.{filter, list_all}
+use Rattle.std.specs.List.{filter}
 use Rattle.std.proofs.lemmas.Bool.Decides.{nat_tests, Decides-ltb}
 use Rattle.std.proofs.lemmas.List.Elements.{All-head, All-tail}
 use Rattle.tail_book.specs.Seen.{BookSeen, CounterSeen}
-use Rattle.tail_book.specs.Numbers.{contains, int_le, is_none_or}
-use Rattle.tail_book.specs.Lookup.{activities, aircraft, from_port, to_port, start_of, types_of, tags_needed, preassigned, kind_of, tags_had, avoided}
+use Rattle.tail_book.specs.Numbers.{int_le}
+use Rattle.tail_book.specs.Lookup.{activities, aircraft}
 use Rattle.tail_book.specs.declared.place.Place.{Place}
 use Rattle.tail_book.specs.declared.place.Place.TheVariants.{Carry, After}
-use Rattle.tail_book.specs.Curfew.{covers_type, is_curfewed}
-use Rattle.tail_book.specs.Link.{port, free_from, turn_time}
+use Rattle.tail_book.specs.Curfew.{is_curfewed}
 use Rattle.tail_book.specs.Counters.{step_from}
 use Rattle.tail_book.specs.Sound.{IsBook}
-use Rattle.tail_book.specs.Tests.{is_allowed, is_allowed_at, is_link, within_limits, is_legal_from, is_legal_route}
+use Rattle.tail_book.specs.Tests.{is_permitted, is_allowed, is_allowed_at, is_connected, is_link, within_limits, is_legal_from, is_legal_route}
 use Rattle.plan_audit.specs.declared.leg.Leg.{Leg}
 use Rattle.plan_audit.specs.declared.met.Met.{Met}
 use Rattle.plan_audit.specs.declared.met.Met.TheVariants.{Unknown, Twice, Tail, Activity}
@@ -22,17 +21,17 @@ use Rattle.plan_audit.specs.declared.broken.Broken.{Broken}
 use Rattle.plan_audit.specs.declared.broken.Broken.TheVariants as rule
 use Rattle.plan_audit.specs.Met.{IsMetOf}
 use Rattle.plan_audit.specs.Kept.{next_route, route_met, legs_from}
-use Rattle.plan_audit.specs.Rules.{is_permitted, not_allowed, curfews, is_connected, no_links, past_limits_at, values_before, values_after, past_limits}
+use Rattle.plan_audit.specs.Rules.{not_allowed, curfews, no_links, past_limits_at, values_before, values_after, past_limits}
 use Rattle.plan_audit.proofs.CountLemmas.{carry_width}
 
 pub both : (p q : Bool) → p ≡ true → q ≡ true → (p && q) ≡ true
 both p q e f = rw (e, f) refl
 
-allowed-by : (a b c d e f : Bool) → (a && (b && (c && (d && e)))) ≡ true → f ≡ false → (a && (b && (c && (d && (e && not f))))) ≡ true
-allowed-by a b c d e f h g = grind arith
+allowed-by : (a b c d : Bool) → a ≡ true → b ≡ true → c ≡ true → d ≡ false → (a && (b && (c && not d))) ≡ true
+allowed-by a b c d e f g h = rw (e, f, g, h) refl
 
-link-by : (a b c d : Bool) → (a && b) ≡ true → c ≡ true → d ≡ true → (a && (b && (c && d))) ≡ true
-link-by a b c d h e f = grind arith
+link-by : (a b c : Bool) → a ≡ true → b ≡ true → c ≡ true → (a && (b && c)) ≡ true
+link-by a b c e f g = rw (e, f, g) refl
 
 pub negated : (p : Bool) → not p ≡ false → p ≡ true
 negated true e = refl
@@ -76,7 +75,7 @@ within-by leg c (counter ∷ counters) (value ∷ values) same e =
     first true e = refl
     first false e = cc
 
-step_width : (book : BookSeen) (k : ℕ) (x : Place) (b c : ℕ) (counters : List CounterSeen) (values : List ℤ) → length values ≡ length counters
+pub step_width : (book : BookSeen) (k : ℕ) (x : Place) (b c : ℕ) (counters : List CounterSeen) (values : List ℤ) → length values ≡ length counters
     → length (step_from book k x b c counters values) ≡ length counters
 step_width book k x b c [] values same = refl
 step_width book k x b c (counter ∷ counters) [] same = absurd (omega (arith, same))
@@ -92,14 +91,16 @@ pub record IsUnbroken (book : BookSeen) (values : List ℤ) (legs : List Leg) : 
 
 module _ (book : BookSeen) (sound : IsBook book) where
   -- the next leg is a link, and stays within limits
-  leg_allowed : (values : List ℤ) (leg : Leg) (legs : List Leg) → IsUnbroken book values (leg ∷ legs) → is_allowed book leg.tail leg.activity ≡ true
-  leg_allowed values leg legs h =
+  leg_allowed : (values : List ℤ) (leg : Leg) (legs : List Leg) → leg.tail < aircraft book → leg.activity < activities book → IsUnbroken book values (leg ∷ legs)
+      → is_allowed book leg.tail leg.activity ≡ true
+  unfolding is_allowed
+  leg_allowed values leg legs tail activity h =
       let k = leg.tail in
       let a = leg.activity in
       let permitted = negated (is_permitted book k a) (none_first (λ leg. rule.NotAllowed leg.tail leg.activity) (λ leg. not (is_permitted book leg.tail leg.activity)) leg legs h.allowed) in
       let opened = none_first (λ leg. rule.Curfew leg.tail leg.activity) (λ leg. is_curfewed book leg.tail leg.activity) leg legs h.open_hours in
-      allowed-by (covers_type (types_of book a) (kind_of book k)) (list_all (contains (tags_had book k)) (tags_needed book a)) (not (contains (avoided book k) (from_port book a)))
-      (not (contains (avoided book k) (to_port book a))) (is_none_or (preassigned book a) k) (is_curfewed book k a) permitted opened
+      allowed-by (nat_lt k (aircraft book)) (nat_lt a (activities book)) (is_permitted book k a) (is_curfewed book k a)
+      ((Decides-ltb k (aircraft book)).1 tail) ((Decides-ltb a (activities book)).1 activity) permitted opened
 
   leg_connected : (values : List ℤ) (leg : Leg) (legs : List Leg) → IsUnbroken book values (leg ∷ legs) → is_connected book leg.tail leg.from leg.activity ≡ true
   leg_connected values leg legs h =
@@ -114,34 +115,34 @@ module _ (book : BookSeen) (sound : IsBook book) where
     limits = second_empty (past_limits_at leg 0 book.rules.counters (values_after book leg values)) (past_limits book (values_after book leg values) legs) h.limits;
   }
 
-  pub routes_legal : (k : ℕ) (x : Place) (values : List ℤ) (met : List Met) → All (IsMetOf book) met → is_allowed_at book k x ≡ true
+  pub routes_legal : (k : ℕ) (x : Place) (values : List ℤ) (met : List Met) → All (IsMetOf book) met → k < aircraft book → is_allowed_at book k x ≡ true
       → length (values_before book k x values) ≡ length book.rules.counters → IsUnbroken book values (legs_from k x met)
       → (is_legal_from book k x (values_before book k x values) (next_route met) ≡ true) × ((i : ℕ) → is_legal_route book i (route_met met i) ≡ true)
-  routes_legal k x values [] all before width h = (refl, (λ i. refl))
-  routes_legal k x values (Unknown name ∷ met) all before width h = routes_legal k x values met (All-tail (IsMetOf book) (Unknown name) met all) before width h
-  routes_legal k x values (Twice name ∷ met) all before width h = routes_legal k x values met (All-tail (IsMetOf book) (Twice name) met all) before width h
-  routes_legal k x values (Tail j ∷ met) all before width h =
+  unfolding is_link
+  routes_legal k x values [] all flier before width h = (refl, (λ i. refl))
+  routes_legal k x values (Unknown name ∷ met) all flier before width h = routes_legal k x values met (All-tail (IsMetOf book) (Unknown name) met all) flier before width h
+  routes_legal k x values (Twice name ∷ met) all flier before width h = routes_legal k x values met (All-tail (IsMetOf book) (Twice name) met all) flier before width h
+  routes_legal k x values (Tail j ∷ met) all flier before width h =
       let within : j < aircraft book = All-head (IsMetOf book) (Tail j) met all in
-      let rest = routes_legal j Carry values met (All-tail (IsMetOf book) (Tail j) met all) refl (carry_width book j sound within) h in
+      let rest = routes_legal j Carry values met (All-tail (IsMetOf book) (Tail j) met all) within refl (carry_width book j sound within) h in
       (refl, (λ i. by (nat_eq i j) i (λ e. grind (arith, nat_tests)) rest.0 (rest.1 i)))
     where
       by : (t : Bool) (i : ℕ) → (t ≡ true → j ≡ i) → is_legal_route book j (next_route met) ≡ true → is_legal_route book i (route_met met i) ≡ true
           → is_legal_route book i (if t then next_route met else route_met met i) ≡ true
       by true i same here other = subst (λ k. is_legal_route book k (next_route met) ≡ true) (same refl) here
       by false i same here other = other
-  routes_legal k x values (Activity b ∷ met) all before width h =
+  routes_legal k x values (Activity b ∷ met) all flier before width h =
       let leg : Leg = record { tail = k; from = x; activity = b } in
       let legs = legs_from k (After b) met in
       let after = values_after book leg values in
       let within : b < activities book = All-head (IsMetOf book) (Activity b) met all in
-      let allowed = leg_allowed values leg legs h in
+      let allowed = leg_allowed values leg legs flier within h in
       let linked : is_link book k x b ≡ true =
-      link-by (nat_eq (port book k x) (from_port book b)) (int_le (free_from book k x +ℤ turn_time book k x b) (start_of book b)) (is_allowed_at book k x) (is_allowed book k b)
-      (leg_connected values leg legs h) before allowed in
+      link-by (is_connected book k x b) (is_allowed_at book k x) (is_allowed book k b) (leg_connected values leg legs h) before allowed in
       let wide = step_width book k x b 0 book.rules.counters (values_before book k x values) width in
       let limits = within-by leg 0 book.rules.counters after wide
       (first_empty (past_limits_at leg 0 book.rules.counters after) (past_limits book after legs) h.limits) in
-      let rest = routes_legal k (After b) after met (All-tail (IsMetOf book) (Activity b) met all) allowed wide (later values leg legs h) in (
+      let rest = routes_legal k (After b) after met (All-tail (IsMetOf book) (Activity b) met all) flier allowed wide (later values leg legs h) in (
         both (nat_lt b (activities book)) _ ((Decides-ltb b (activities book)).1 within)
             (both (is_link book k x b) _ linked (both (within_limits book.rules.counters after) _ limits rest.0)),
         rest.1,
@@ -155,7 +156,7 @@ module _ (book : BookSeen) (sound : IsBook book) where
   routes_legal_first (Twice name ∷ met) values k x all led h i = routes_legal_first met values k x (All-tail (IsMetOf book) (Twice name) met all) led h i
   routes_legal_first (Tail j ∷ met) values k x all led h i =
       let within : j < aircraft book = All-head (IsMetOf book) (Tail j) met all in
-      let rest = routes_legal j Carry values met (All-tail (IsMetOf book) (Tail j) met all) refl (carry_width book j sound within) h in
+      let rest = routes_legal j Carry values met (All-tail (IsMetOf book) (Tail j) met all) within refl (carry_width book j sound within) h in
       by (nat_eq i j) (λ e. grind (arith, nat_tests)) rest.0 (rest.1 i)
     where
       by : (t : Bool) → (t ≡ true → j ≡ i) → is_legal_route book j (next_route met) ≡ true → is_legal_route book i (route_met met i) ≡ true

@@ -9,3 +9,10 @@ mod Unbroken
 mod Deciding
 mod Converse
 mod Listed
+mod ToldLemmas
+mod KeptLegs
+mod KeptRoutes
+mod ToldCounters
+mod Told
+mod KeptOnce
+mod NamedPlans

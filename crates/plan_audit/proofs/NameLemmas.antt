@@ -8,7 +8,7 @@ use Rattle.std.proofs.lemmas.List.Elements.{All-head, All-tail, All-from_get_or}
 use Rattle.std.proofs.lemmas.Slice.Eq.{bytes_eq-Decides}
 use Rattle.indexmap.specs.IndexSet.{insert_key}
 
-false_of : (b : Bool) {P : Type 0} → Decides b P → ¬ P → b ≡ false
+pub false_of : (b : Bool) {P : Type 0} → Decides b P → ¬ P → b ≡ false
 false_of true d never = absurd (never (d.0 refl))
 false_of false d never = refl
 

@@ -1,11 +1,11 @@
 -- The kept plan, and its legs.
 use Rattle.std.specs.Prelude.{ℕ, List, [], ◌∷◌, map, if◌then◌else◌, nat_eq, ◌<◌}
-use Rattle.std.specs.List.{range_with_len}
+use Rattle.std.specs.List.{range_with_len, filter}
 use Rattle.tail_book.specs.Seen.{BookSeen, RawPlanSeen}
 use Rattle.tail_book.specs.Lookup.{activities, aircraft}
 use Rattle.tail_book.specs.declared.place.Place.{Place}
 use Rattle.tail_book.specs.declared.place.Place.TheVariants.{Carry, After}
-use Rattle.turn_rules.specs.InRange.{IsPlaceOf}
+use Rattle.tail_book.specs.Place.{IsPlaceOf}
 use Rattle.plan_audit.specs.declared.leg.Leg.{Leg}
 use Rattle.plan_audit.specs.declared.met.Met.{Met}
 use Rattle.plan_audit.specs.declared.met.Met.TheVariants.{Unknown, Twice, Tail, Activity}
@@ -27,8 +27,8 @@ route_met (Twice name ∷ met) k = route_met met k
 route_met (Tail j ∷ met) k = if nat_eq k j then next_route met else route_met met k
 route_met (Activity a ∷ met) k = route_met met k
 
--- the kept plan: a line whose aircraft is unknown or had a line before is dropped with its ids, and in the other lines
--- unknown ids are dropped, and of a repeated id only the first stays
+-- what is kept of a plan: of each aircraft of the book its first line, and there each id of the book that is met for the
+-- first time
 abbrev pub kept : BookSeen → RawPlanSeen → List (List ℕ)
 kept book raw = map (route_met (names_met book raw)) (range_with_len 0 (aircraft book))
 
@@ -43,6 +43,10 @@ legs_from k x (Activity b ∷ met) = record { tail = k; from = x; activity = b }
 -- the legs of the kept plan in reading order; before the first aircraft there is none
 abbrev pub legs_met : List Met → List Leg
 legs_met met = legs_from 0 Carry met
+
+-- the route of aircraft k among legs: the activities of its legs, in order
+abbrev pub route_in : List Leg → ℕ → List ℕ
+route_in legs k = map (λ leg. leg.activity) (filter (λ leg. nat_eq leg.tail k) legs)
 
 -- a leg's numbers are of the book
 pub record IsLegOf (book : BookSeen) (leg : Leg) : Type 0 where

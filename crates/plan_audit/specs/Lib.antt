@@ -8,5 +8,6 @@ pub mod LegCost
 pub mod Rules
 pub mod Counted
 pub mod Broken
+pub mod Told
 pub mod PlanCost
 pub mod Laws

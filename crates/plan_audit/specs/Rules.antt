@@ -1,14 +1,14 @@
 -- The rules that a plan breaks, rule by rule.
-use Rattle.std.specs.Prelude.{ℕ, ℤ, List, [], ◌∷◌, ◌++◌, ◌+◌, map, filter, Bool, not, ◌&&◌, if◌then◌else◌, nat_eq, ◌+ℤ◌}
-use Rattle.std.specs.List.{range_with_len, list_all}
+use Rattle.std.specs.Prelude.{ℕ, ℤ, List, [], ◌∷◌, ◌++◌, ◌+◌, map, filter, not, if◌then◌else◌}
+use Rattle.std.specs.List.{range_with_len}
 use Rattle.tail_book.specs.Seen.{BookSeen, CounterSeen}
-use Rattle.tail_book.specs.Numbers.{contains, int_le, is_none_or}
-use Rattle.tail_book.specs.Lookup.{activities, carry_of, from_port, to_port, start_of, types_of, tags_needed, preassigned, kind_of, tags_had, avoided}
+use Rattle.tail_book.specs.Numbers.{contains, int_le}
+use Rattle.tail_book.specs.Lookup.{activities, carry_of}
 use Rattle.tail_book.specs.declared.place.Place.{Place}
 use Rattle.tail_book.specs.declared.place.Place.TheVariants.{Carry, After}
-use Rattle.tail_book.specs.Curfew.{covers_type, is_curfewed}
-use Rattle.tail_book.specs.Link.{port, free_from, turn_time}
+use Rattle.tail_book.specs.Curfew.{is_curfewed}
 use Rattle.tail_book.specs.Counters.{step}
+use Rattle.tail_book.specs.Tests.{is_permitted, is_connected}
 use Rattle.plan_audit.specs.declared.leg.Leg.{Leg}
 use Rattle.plan_audit.specs.declared.met.Met.{Met}
 use Rattle.plan_audit.specs.declared.met.Met.TheVariants.{Unknown, Twice, Tail, Activity}
@@ -36,15 +36,6 @@ twice (Activity a ∷ met) = twice met
 abbrev pub uncovered : BookSeen → List Met → List Broken
 uncovered book met = map rule.Uncovered (filter (λ a. not (contains (activities_met met) a)) (range_with_len 0 (activities book)))
 
--- the aircraft may fly the activity, curfews aside
-abbrev pub is_permitted : BookSeen → ℕ → ℕ → Bool
-is_permitted book k a =
-    covers_type (types_of book a) (kind_of book k)
-    && (list_all (contains (tags_had book k)) (tags_needed book a)
-    && (not (contains (avoided book k) (from_port book a))
-    && (not (contains (avoided book k) (to_port book a))
-    && is_none_or (preassigned book a) k)))
-
 -- the legs that their aircraft may not fly, curfews aside
 abbrev pub not_allowed : BookSeen → List Leg → List Broken
 not_allowed book legs = map (λ leg. rule.NotAllowed leg.tail leg.activity) (filter (λ leg. not (is_permitted book leg.tail leg.activity)) legs)
@@ -52,11 +43,6 @@ not_allowed book legs = map (λ leg. rule.NotAllowed leg.tail leg.activity) (fil
 -- the legs that a curfew forbids
 abbrev pub curfews : BookSeen → List Leg → List Broken
 curfews book legs = map (λ leg. rule.Curfew leg.tail leg.activity) (filter (λ leg. is_curfewed book leg.tail leg.activity) legs)
-
--- the activity starts at the airport of the place, and no earlier than the turn after it
-abbrev pub is_connected : BookSeen → ℕ → Place → ℕ → Bool
-is_connected book k x b =
-    nat_eq (port book k x) (from_port book b) && int_le (free_from book k x +ℤ turn_time book k x b) (start_of book b)
 
 -- the legs that start elsewhere than the aircraft is, or before it can
 abbrev pub no_links : BookSeen → List Leg → List Broken

@@ -12,7 +12,7 @@ ghost use Rattle.plan_audit.specs.Broken.{broken_by, IsAuditOf};
 
 use crate::broken::{Audit, Broken};
 use crate::costs::legs_cost;
-use crate::laws::{legal_plans_fly_the_book, legs_are_of_book, unbroken_plans_are_legal};
+use crate::laws::{legs_are_of_book, unbroken_plans_are_legal};
 use crate::leg::{Leg, legs_in};
 use crate::legal_plan::is_legal;
 use crate::no_links::add_no_links;
@@ -24,6 +24,7 @@ use crate::uncovered::{add_twice, add_uncovered, add_unknown};
 use std::alloc::Global;
 use tail_book::laws::{
     every_book_is_sound, legal_plan_decides, legal_plans_cost_at_most, legal_plans_cost_at_most_in,
+    legal_plans_fly_the_book,
 };
 use tail_book::{Book, CostTable, Memory, Plan, RawPlan};
 

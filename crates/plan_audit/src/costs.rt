@@ -2,15 +2,15 @@
 
 ghost use Rattle.std.specs.Prelude.{◌≡◌, ◌<◌, ◌≤◌, ◌^◌, All};
 ghost use Rattle.tail_book.specs.Lookup.{activities, aircraft};
-ghost use Rattle.tail_book.specs.Cost.{activity_cost, band_cost, connection_cost};
-ghost use Rattle.turn_rules.specs.InRange.{IsPlaceOf};
+ghost use Rattle.tail_book.specs.Cost.{activity_cost, connection_cost};
+ghost use Rattle.tail_book.specs.Place.{IsPlaceOf};
 ghost use Rattle.plan_audit.specs.Kept.{IsLegOf};
 ghost use Rattle.plan_audit.specs.LegCost.{leg_cost, legs_cost};
 
 use crate::leg::Leg;
 use maint_counters::flown;
 use tail_book::laws::{activities_cost_at_most, connections_cost_at_most, every_book_is_sound};
-use tail_book::{Band, Book, Place};
+use tail_book::{Book, Place, band_cost};
 use turn_rules::gap;
 
 /// What an activity costs an aircraft: the type's rate for each minute flown, and the fixed amount.
@@ -22,18 +22,6 @@ fn activity_cost(book: &Book, k: u32, a: u32) -> u64
     let tail = &book.tails[k as usize];
     let kind = &book.rules.kinds[tail.kind as usize];
     kind.rate * flown(book, a).unsigned_abs() + tail.fixed
-}
-
-/// The cost of the first band that reaches so many minutes, and 0 where none does.
-pub fn band_cost(bands: &[Band], minutes: i64) -> u64
-    ensures { result ≡ band_cost bands.now minutes }
-{
-    for band in bands {
-        if minutes <= band.upto {
-            return band.cost;
-        }
-    }
-    0
 }
 
 /// What a connection costs: what the bands say of the minutes on the ground, and nothing from the carry-in.

@@ -1,6 +1,7 @@
 //! Laws over the definitions alone: the contract of each function is the law.
 
-ghost use Rattle.plan_audit.specs.Laws.{LegsAreOfBook, UnbrokenPlansAreLegal, LegalPlansAreUnbroken, LegalPlansFlyTheBook};
+ghost use Rattle.plan_audit.specs.Laws.{LegsAreOfBook, UnbrokenPlansAreLegal, LegalPlansAreUnbroken, KeptPlansFlyOnce, NamedPlansAreKept};
+ghost use Rattle.plan_audit.specs.Told.{UncoveredAreInNoRoute, NotAllowedAreNotPermitted, CurfewsAreInTheWay, NoLinksAreNotConnected, CountersArePastLimits};
 
 use tail_book::laws::{legal_plan_decides, legal_route_decides};
 
@@ -23,7 +24,37 @@ pub fn legal_plans_are_unbroken()
     legal_route_decides();
 }
 
-/// The routes of a legal plan are of activities of the book.
-pub fn legal_plans_fly_the_book()
-    ensures { LegalPlansFlyTheBook }
+/// An activity is told as uncovered exactly where no kept route has it.
+pub fn uncovered_are_in_no_route()
+    ensures { UncoveredAreInNoRoute }
+{}
+
+/// A leg is told as not allowed exactly where a kept route has an activity that its aircraft may not fly.
+pub fn not_allowed_are_not_permitted()
+    ensures { NotAllowedAreNotPermitted }
+{}
+
+/// A curfew is told exactly where a kept route has an activity from which a curfew keeps its aircraft.
+pub fn curfews_are_in_the_way()
+    ensures { CurfewsAreInTheWay }
+{}
+
+/// A missing link is told exactly where a kept route has an activity that does not connect to the place before it.
+pub fn no_links_are_not_connected()
+    ensures { NoLinksAreNotConnected }
+{}
+
+/// A counter is told exactly where it is past its limit after a front of a kept route.
+pub fn counters_are_past_limits()
+    ensures { CountersArePastLimits }
+{}
+
+/// A kept plan has a route for each aircraft, all of the book's activities, and flies none of them twice.
+pub fn kept_plans_fly_once()
+    ensures { KeptPlansFlyOnce }
+{}
+
+/// A plan with a route for each aircraft that flies nothing twice is kept as it is when it is spelled by names.
+pub fn named_plans_are_kept()
+    ensures { NamedPlansAreKept }
 {}

@@ -5,7 +5,7 @@ ghost use Rattle.std.specs.List.{flat_map, list_all};
 ghost use Rattle.tail_book.specs.Lookup.{activities, aircraft};
 ghost use Rattle.tail_book.specs.Counters.{step};
 ghost use Rattle.tail_book.specs.Tests.{is_link, within_limits, is_legal_route, are_legal_below, are_flown_once_below, is_legal_plan};
-ghost use Rattle.turn_rules.specs.InRange.{IsPlaceOf};
+ghost use Rattle.tail_book.specs.Place.{IsPlaceOf};
 ghost use Rattle.maint_counters.specs.Counts.{AreCounts};
 ghost use Rattle.plan_audit.specs.Times.{AreTimes};
 

@@ -4,6 +4,7 @@
 mod auditing;
 mod broken;
 mod costs;
+mod kept_plan;
 pub mod laws;
 mod leg;
 mod legal_plan;
@@ -18,6 +19,7 @@ mod uncovered;
 
 pub use auditing::{audit, audit_plan};
 pub use broken::{Audit, Broken};
+pub use kept_plan::kept;
 
 #[cfg(test)]
 mod tests;

@@ -2,21 +2,12 @@
 
 ghost use Rattle.std.specs.Prelude.{◌≡◌, ◌++◌, IfOk, All};
 ghost use Rattle.plan_audit.specs.Kept.{IsLegOf};
-ghost use Rattle.plan_audit.specs.Rules.{is_connected, no_links};
+ghost use Rattle.plan_audit.specs.Rules.{no_links};
 
 use crate::broken::Broken;
 use crate::leg::Leg;
 use tail_book::{Book, Memory};
-use turn_rules::{is_in_time, is_there};
-
-/// Whether a leg starts where its aircraft is, and no earlier than the turn before it ends.
-fn is_connected(book: &Book, leg: Leg) -> bool
-    requires { IsLegOf book.now leg }
-    ensures { result ≡ is_connected book.now leg.tail leg.from leg.activity }
-{
-    is_there(book, leg.tail, leg.from, leg.activity)
-        && is_in_time(book, leg.tail, leg.from, leg.activity)
-}
+use turn_rules::connected;
 
 /// Adds the legs that start elsewhere than the aircraft is, or before it can.
 pub fn add_no_links(book: &Book, legs: &[Leg], list: &mut Vec<Broken>) -> Result<(), Memory>
@@ -24,7 +15,7 @@ pub fn add_no_links(book: &Book, legs: &[Leg], list: &mut Vec<Broken>) -> Result
     ensures { IfOk result (λ _. list.new.items ≡ list.old.items ++ no_links book.now legs.now) }
 {
     for leg in legs {
-        if !is_connected(book, *leg) {
+        if !connected(book, leg.tail, leg.from, leg.activity) {
             list.push(Broken::NoLink(leg.tail, leg.activity))?;
         }
     }

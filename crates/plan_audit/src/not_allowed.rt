@@ -3,25 +3,12 @@
 ghost use Rattle.std.specs.Prelude.{◌≡◌, ◌<◌, ◌++◌, IfOk, All};
 ghost use Rattle.tail_book.specs.Lookup.{activities, aircraft};
 ghost use Rattle.plan_audit.specs.Kept.{IsLegOf};
-ghost use Rattle.plan_audit.specs.Rules.{is_permitted, not_allowed, curfews};
+ghost use Rattle.plan_audit.specs.Rules.{not_allowed, curfews};
 
 use crate::broken::Broken;
 use crate::leg::Leg;
 use tail_book::{Book, Memory};
-use turn_rules::{avoids_end, avoids_start, curfewed, has_tags, is_free_for, takes_type};
-
-/// Whether an aircraft may fly an activity, curfews aside.
-fn is_permitted(book: &Book, k: u32, a: u32) -> bool
-    requires aircraft { k < aircraft book.now }
-    requires activity { a < activities book.now }
-    ensures { result ≡ is_permitted book.now k a }
-{
-    takes_type(book, k, a)
-        && has_tags(book, k, a)
-        && !avoids_start(book, k, a)
-        && !avoids_end(book, k, a)
-        && is_free_for(book, k, a)
-}
+use turn_rules::{curfewed, permitted};
 
 /// Adds the legs that their aircraft may not fly, curfews aside.
 pub fn add_not_allowed(book: &Book, legs: &[Leg], list: &mut Vec<Broken>) -> Result<(), Memory>
@@ -29,7 +16,7 @@ pub fn add_not_allowed(book: &Book, legs: &[Leg], list: &mut Vec<Broken>) -> Res
     ensures { IfOk result (λ _. list.new.items ≡ list.old.items ++ not_allowed book.now legs.now) }
 {
     for leg in legs {
-        if !is_permitted(book, leg.tail, leg.activity) {
+        if !permitted(book, leg.tail, leg.activity) {
             list.push(Broken::NotAllowed(leg.tail, leg.activity))?;
         }
     }

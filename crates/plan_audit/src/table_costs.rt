@@ -2,23 +2,12 @@
 
 ghost use Rattle.std.specs.Prelude.{◌≡◌, ◌<◌, ◌^◌, length, All};
 ghost use Rattle.tail_book.specs.Lookup.{activities, aircraft};
-ghost use Rattle.tail_book.specs.CostTable.{IsTableFor, activity_cost_in, connection_cost_in, route_cost_in, plan_cost_in};
-ghost use Rattle.turn_rules.specs.InRange.{IsPlaceOf};
+ghost use Rattle.tail_book.specs.CostTable.{IsTableFor, connection_cost_in, route_cost_in, plan_cost_in};
+ghost use Rattle.tail_book.specs.Place.{IsPlaceOf};
 
-use crate::costs::band_cost;
 use tail_book::laws::every_book_is_sound;
 use tail_book::{Book, CostTable, Place, Route};
 use turn_rules::gap;
-
-/// What an activity costs an aircraft.
-fn activity_cost(book: &Book, table: &CostTable, k: u32, a: u32) -> u64
-    requires table { IsTableFor book.now table.now }
-    requires aircraft { k < aircraft book.now }
-    requires activity { a < activities book.now }
-    ensures value { result ≡ activity_cost_in table.now k a }
-{
-    table.fly[k as usize * table.n + a as usize]
-}
 
 /// What a connection costs.
 fn connection_cost(book: &Book, table: &CostTable, k: u32, from: Place, b: u32) -> u64
@@ -29,7 +18,7 @@ fn connection_cost(book: &Book, table: &CostTable, k: u32, from: Place, b: u32) 
 {
     match from {
         Place::Carry => 0,
-        Place::After(_) => band_cost(&table.bands, gap(book, k, from, b)),
+        Place::After(_) => table.connection_cost(gap(book, k, from, b)),
     }
 }
 
@@ -44,7 +33,7 @@ fn route_cost(book: &Book, table: &CostTable, k: u32, route: &[u32]) -> u64
     let (mut cost, mut from) = (0, Place::Carry);
     for b in route {
         let b = *b;
-        cost += activity_cost(book, table, k, b) + connection_cost(book, table, k, from, b);
+        cost += table.activity_cost(k, b) + connection_cost(book, table, k, from, b);
         from = Place::After(b);
     }
     cost

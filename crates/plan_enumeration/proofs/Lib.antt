@@ -2,7 +2,6 @@ pub mod Assigned
 pub mod Fliers
 pub mod Extended
 pub mod Rows
-pub mod Table
 pub mod Trials
 pub mod Truth
 pub mod Built

@@ -21,7 +21,7 @@ use Rattle.plan_enumeration.specs.declared.enumerate.Advance.{Advance}
 use Rattle.tail_book.specs.Cost.{activity_cost, connection_cost}
 use Rattle.plan_enumeration.specs.Assignment.{flown_from, flown_by, IsLegalAssignment, assignment_cost}
 use Rattle.plan_enumeration.specs.Enumeration.{Advances, AgreesBelow, GoesOn, HasRow, HasTried, IsCount, IsPlaceBefore, IsTrial, end_of_route, row_of, values_after, values_at, width_of, with_row}
-use Rattle.turn_rules.specs.InRange.{IsPlaceOf}
+use Rattle.tail_book.specs.Place.{IsPlaceOf}
 use Rattle.plan_enumeration.proofs.Extended.{completed, cost_more, counters_push, flown_by-other, flown_by-same, legal_more, place_push}
 use Rattle.plan_enumeration.proofs.Rows.{row_below, row_of_front, with_row-front, with_row-row, with_row-through, length-with_row}
 
@@ -98,6 +98,12 @@ module _ (book : BookSeen) (a : ℕ) (trial : Trial) (h : IsTrial book a trial) 
         subst (WithinLimits book.rules.counters) (sym here)
             (subst (λ (b : ℕ). WithinLimits book.rules.counters (step book k (end_of_route k (take a trial.fliers.items)) b (counters_after book k (flown_by k (take a trial.fliers.items))))) n goes.limits),
       )
+
+-- a row that is written at a leaves the rows before it
+pub agrees_before : (book : BookSeen) (a : ℕ) (trial : Trial) → IsTrial book a trial → a < activities book → (row values : List ℤ) → length row ≡ width_of book
+    → values ≡ with_row (width_of book) trial.values.items a row → take (a * width_of book) values ≡ take (a * width_of book) trial.values.items
+agrees_before book a trial h in_book row values wide e =
+    ap (take (a * width_of book)) e ∙ with_row-front (width_of book) a trial.values.items row wide (room book a trial h in_book)
 
 -- going on: activity a flown by aircraft k, its row written
 module _ (book : BookSeen) (a k : ℕ) (old new : Trial) (row : List ℤ) (h : IsTrial book a old) (in_book : a < activities book) (lt : k < aircraft book)

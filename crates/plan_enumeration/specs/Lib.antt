@@ -1,5 +1,4 @@
 pub mod Assignment
 pub mod Enumeration
-pub mod Permissions
 pub mod Tables
 pub mod Decided

@@ -2,10 +2,10 @@
 use Rattle.std.specs.Prelude.{◌≡◌}
 use Rattle.tail_book.specs.Seen.{BookSeen}
 use Rattle.tail_book.specs.CostTable.{costs_of}
-use Rattle.plan_enumeration.specs.Permissions.{ArePermissions}
+use Rattle.turn_rules.specs.PermissionTable.{ArePermissionsOf}
 use Rattle.plan_enumeration.specs.declared.tables.Tables.{Tables}
 
 -- the book's own costs, and who may fly what in it
 pub record AreTablesOf (book : BookSeen) (tables : Tables) : Type 0 where
   pub costs : tables.costs ≡ costs_of book
-  pub permissions : ArePermissions book tables.permissions
+  pub permissions : ArePermissionsOf book tables.permissions

@@ -17,14 +17,14 @@ ghost use Rattle.plan_enumeration.specs.Enumeration.{Advances, AgreesBelow, HasR
 ghost use Rattle.plan_enumeration.specs.Decided.{IsDecided};
 ghost use Rattle.plan_enumeration.specs.Tables.{AreTablesOf};
 ghost use Rattle.turn_rules.specs.FreeBefore.{IsFreeBefore};
-ghost use Rattle.turn_rules.specs.InRange.{IsPlaceOf};
+ghost use Rattle.tail_book.specs.Place.{IsPlaceOf};
 
 use crate::cost::going_cost;
-use crate::permissions::links;
 use crate::tables::{Tables, tables_of};
 use maint_counters::{start, step};
 use std::alloc::Global;
 use tail_book::{Book, Memory, Outcome, Place, Plan, Route, laws};
+use turn_rules::link_by;
 
 /// The best assignment so far: for each activity the aircraft that flies it.
 #[derive(Debug, Drop)]
@@ -162,7 +162,8 @@ fn can_go_on(book: &Book, tables: &Tables, trial: &mut Trial, k: u32, a: u32) ->
 {
     laws::every_book_is_sound(book);
     let from = place_of(trial, k);
-    links(book, &tables.permissions, k, from, a) && step_values(book, &mut trial.values, k, from, a)
+    link_by(book, &tables.permissions, k, from, a)
+        && step_values(book, &mut trial.values, k, from, a)
 }
 
 // Lets aircraft `k` fly activity `a`, the next one, if that is legal.

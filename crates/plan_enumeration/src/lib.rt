@@ -3,7 +3,6 @@
 
 mod cost;
 mod enumerate;
-mod permissions;
 mod tables;
 
 pub use enumerate::least_plan;

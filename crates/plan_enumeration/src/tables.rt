@@ -3,15 +3,15 @@
 ghost use Rattle.std.specs.Prelude.{IfOk};
 ghost use Rattle.plan_enumeration.specs.Tables.{AreTablesOf};
 
-use crate::permissions::{Permissions, permissions_of};
 use std::alloc::Global;
 use tail_book::{Book, CostTable, Memory};
+use turn_rules::PermissionTable;
 
 /// What activities and connections cost, and who may fly what.
 #[derive(Debug, Drop)]
 pub struct Tables {
     pub costs: CostTable,
-    pub permissions: Permissions,
+    pub permissions: PermissionTable,
 }
 
 /// The tables of a book.
@@ -19,6 +19,6 @@ pub fn tables_of(alloc: Global, book: &Book) -> Result<Tables, Memory>
     ensures { IfOk result (AreTablesOf book.now) }
 {
     let costs = CostTable::of(alloc, book)?;
-    let permissions = permissions_of(alloc, book)?;
+    let permissions = PermissionTable::of(alloc, book)?;
     Ok(Tables { costs, permissions })
 }

@@ -1,13 +1,10 @@
 //! Books whose least plans were worked out by hand. Times are minutes of the day in UTC.
 
-ghost use Rattle.tail_book.specs.Sound.{IsRules};
-
 mod books;
 
 use crate::least_plan;
 use books::*;
 use std::alloc::Global;
-use std::process::Abort;
 use std::test::Fail;
 use tail_book::*;
 
@@ -25,17 +22,14 @@ fn has_routes(plan: &Plan, routes: &[&[u32]]) -> bool {
 
 // Whether these routes are the least plan, and cost this.
 fn is_least(
-    rt: &impl Abort,
     alloc: Global,
     rules: Rules,
     rows: &[TailRow],
     legs: &[Leg],
     cost: u64,
     routes: &[&[u32]],
-) -> Result<bool, Memory>
-    requires { IsRules rules }
-{
-    let made = book(rt, alloc, rules, rows, legs)?;
+) -> Result<bool, Fail> {
+    let made = book(alloc, rules, rows, legs)?;
     match least_plan(alloc, &made)? {
         Outcome::Optimal(plan, least) => Ok(least == cost && has_routes(&plan, routes)),
         _ => Ok(false),
@@ -44,16 +38,13 @@ fn is_least(
 
 // Whether some least plan costs this.
 fn costs(
-    rt: &impl Abort,
     alloc: Global,
     rules: Rules,
     rows: &[TailRow],
     legs: &[Leg],
     cost: u64,
-) -> Result<bool, Memory>
-    requires { IsRules rules }
-{
-    let made = book(rt, alloc, rules, rows, legs)?;
+) -> Result<bool, Fail> {
+    let made = book(alloc, rules, rows, legs)?;
     match least_plan(alloc, &made)? {
         Outcome::Optimal(_, least) => Ok(least == cost),
         _ => Ok(false),
@@ -61,16 +52,8 @@ fn costs(
 }
 
 // Whether no plan is legal.
-fn has_none(
-    rt: &impl Abort,
-    alloc: Global,
-    rules: Rules,
-    rows: &[TailRow],
-    legs: &[Leg],
-) -> Result<bool, Memory>
-    requires { IsRules rules }
-{
-    let made = book(rt, alloc, rules, rows, legs)?;
+fn has_none(alloc: Global, rules: Rules, rows: &[TailRow], legs: &[Leg]) -> Result<bool, Fail> {
+    let made = book(alloc, rules, rows, legs)?;
     Ok(matches!(least_plan(alloc, &made)?, Outcome::Infeasible))
 }
 
@@ -79,17 +62,9 @@ fn has_none(
 fn nothing_to_fly(rt: HostRuntime) -> Result<(), Fail> {
     let (alloc, none) = (rt.alloc(), [].as_slice());
     let rows = [aircraft(P), aircraft(P)];
-    assert!(rt; is_least(&rt, alloc, plain(alloc, 30)?, &rows, &[], 0, &[none, none])?);
-    assert!(rt; is_least(&rt, alloc, plain(alloc, 30)?, &[], &[], 0, &[])?);
-    assert!(rt;
-        has_none(
-            &rt,
-            alloc,
-            plain(alloc, 30)?,
-            &[],
-            &[flight(ARN, OSL, 360, 420)]
-        )?
-    );
+    assert!(rt; is_least(alloc, plain(alloc, 30)?, &rows, &[], 0, &[none, none])?);
+    assert!(rt; is_least(alloc, plain(alloc, 30)?, &[], &[], 0, &[])?);
+    assert!(rt; has_none(alloc, plain(alloc, 30)?, &[], &[flight(ARN, OSL, 360, 420)])?);
     Ok(())
 }
 
@@ -99,8 +74,8 @@ fn gap_is_exactly_the_turn(rt: HostRuntime) -> Result<(), Fail> {
     let (alloc, rows) = (rt.alloc(), [aircraft(P)]);
     let legs = [flight(ARN, OSL, 360, 420), flight(OSL, ARN, 450, 510)];
     let both = [0, 1].as_slice();
-    assert!(rt; is_least(&rt, alloc, plain(alloc, 30)?, &rows, &legs, 120, &[both])?);
-    assert!(rt; has_none(&rt, alloc, plain(alloc, 31)?, &rows, &legs)?);
+    assert!(rt; is_least(alloc, plain(alloc, 30)?, &rows, &legs, 120, &[both])?);
+    assert!(rt; has_none(alloc, plain(alloc, 31)?, &rows, &legs)?);
     Ok(())
 }
 
@@ -111,12 +86,12 @@ fn turn_of_the_airport(rt: HostRuntime) -> Result<(), Fail> {
     let there = flight(ARN, CPH, 360, 420);
     let both = [0, 1].as_slice();
     let late = [there, flight(CPH, ARN, 470, 530)];
-    assert!(rt; is_least(&rt, alloc, plain(alloc, 30)?, &rows, &late, 120, &[both])?);
+    assert!(rt; is_least(alloc, plain(alloc, 30)?, &rows, &late, 120, &[both])?);
     let early = [there, flight(CPH, ARN, 469, 529)];
-    assert!(rt; has_none(&rt, alloc, plain(alloc, 30)?, &rows, &early)?);
+    assert!(rt; has_none(alloc, plain(alloc, 30)?, &rows, &early)?);
     let around = [there, ground(CPH, 420, 430), flight(CPH, ARN, 430, 490)];
     let all = [0, 1, 2].as_slice();
-    assert!(rt; is_least(&rt, alloc, plain(alloc, 30)?, &rows, &around, 120, &[all])?);
+    assert!(rt; is_least(alloc, plain(alloc, 30)?, &rows, &around, 120, &[all])?);
     Ok(())
 }
 
@@ -126,7 +101,7 @@ fn longer_flight_to_the_cheaper_type(rt: HostRuntime) -> Result<(), Fail> {
     let (alloc, rows) = (rt.alloc(), [aircraft(P), aircraft(Q)]);
     let legs = [flight(ARN, OSL, 360, 420), flight(ARN, OSL, 360, 480)];
     let routes = [[1].as_slice(), [0].as_slice()];
-    assert!(rt; is_least(&rt, alloc, plain(alloc, 30)?, &rows, &legs, 240, &routes)?);
+    assert!(rt; is_least(alloc, plain(alloc, 30)?, &rows, &legs, 240, &routes)?);
     Ok(())
 }
 
@@ -146,7 +121,7 @@ fn ground_time_costs_the_fixed_amount(rt: HostRuntime) -> Result<(), Fail> {
     ];
     let routes = [[].as_slice(), [0].as_slice()];
     let legs = [ground(ARN, 360, 420)];
-    assert!(rt; is_least(&rt, alloc, plain(alloc, 30)?, &rows, &legs, 5, &routes)?);
+    assert!(rt; is_least(alloc, plain(alloc, 30)?, &rows, &legs, 5, &routes)?);
     Ok(())
 }
 
@@ -160,17 +135,7 @@ fn only_the_dearer_type_may(rt: HostRuntime) -> Result<(), Fail> {
         kind: Some(Q),
         ..leg
     };
-    assert!(rt;
-        is_least(
-            &rt,
-            alloc,
-            plain(alloc, 30)?,
-            &[p, q],
-            &[typed],
-            120,
-            &routes
-        )?
-    );
+    assert!(rt; is_least(alloc, plain(alloc, 30)?, &[p, q], &[typed], 120, &routes)?);
     let tagged = Leg {
         tag: Some(7),
         ..leg
@@ -178,7 +143,6 @@ fn only_the_dearer_type_may(rt: HostRuntime) -> Result<(), Fail> {
     let able = TailRow { tag: Some(7), ..q };
     assert!(rt;
         is_least(
-            &rt,
             alloc,
             plain(alloc, 30)?,
             &[p, able],
@@ -191,47 +155,17 @@ fn only_the_dearer_type_may(rt: HostRuntime) -> Result<(), Fail> {
         avoid: Some(ARN),
         ..p
     };
-    assert!(rt;
-        is_least(
-            &rt,
-            alloc,
-            plain(alloc, 30)?,
-            &[wary, q],
-            &[leg],
-            120,
-            &routes
-        )?
-    );
+    assert!(rt; is_least(alloc, plain(alloc, 30)?, &[wary, q], &[leg], 120, &routes)?);
     let wary = TailRow {
         avoid: Some(OSL),
         ..p
     };
-    assert!(rt;
-        is_least(
-            &rt,
-            alloc,
-            plain(alloc, 30)?,
-            &[wary, q],
-            &[leg],
-            120,
-            &routes
-        )?
-    );
+    assert!(rt; is_least(alloc, plain(alloc, 30)?, &[wary, q], &[leg], 120, &routes)?);
     let assigned = Leg {
         tail: Some(1),
         ..leg
     };
-    assert!(rt;
-        is_least(
-            &rt,
-            alloc,
-            plain(alloc, 30)?,
-            &[p, q],
-            &[assigned],
-            120,
-            &routes
-        )?
-    );
+    assert!(rt; is_least(alloc, plain(alloc, 30)?, &[p, q], &[assigned], 120, &routes)?);
     Ok(())
 }
 
@@ -251,7 +185,7 @@ fn each_its_own(rt: HostRuntime) -> Result<(), Fail> {
         },
     ];
     let routes = [[1].as_slice(), [0].as_slice()];
-    assert!(rt; is_least(&rt, alloc, plain(alloc, 30)?, &rows, &legs, 120, &routes)?);
+    assert!(rt; is_least(alloc, plain(alloc, 30)?, &rows, &legs, 120, &routes)?);
     Ok(())
 }
 
@@ -265,9 +199,9 @@ fn closed_for_landings(rt: HostRuntime) -> Result<(), Fail> {
     }];
     for (end, lands) in [(1319, true), (1320, false), (299, false), (300, true)] {
         let legs = [flight(OSL, ARN, end - 60, end)];
-        let found = costs(&rt, alloc, closed(alloc, false)?, &rows, &legs, 60)?;
+        let found = costs(alloc, closed(alloc, false)?, &rows, &legs, 60)?;
         assert_eq!(rt; found, lands, "at {end}");
-        let none = has_none(&rt, alloc, closed(alloc, false)?, &rows, &legs)?;
+        let none = has_none(alloc, closed(alloc, false)?, &rows, &legs)?;
         assert_eq!(rt; none, !lands, "at {end}");
     }
     Ok(())
@@ -278,12 +212,12 @@ fn closed_for_landings(rt: HostRuntime) -> Result<(), Fail> {
 fn closed_for_starts(rt: HostRuntime) -> Result<(), Fail> {
     let (alloc, p, q) = (rt.alloc(), [aircraft(P)], [aircraft(Q)]);
     let legs = [flight(ARN, OSL, 299, 359)];
-    assert!(rt; has_none(&rt, alloc, closed(alloc, true)?, &p, &legs)?);
-    assert!(rt; costs(&rt, alloc, closed(alloc, true)?, &q, &legs, 120)?);
+    assert!(rt; has_none(alloc, closed(alloc, true)?, &p, &legs)?);
+    assert!(rt; costs(alloc, closed(alloc, true)?, &q, &legs, 120)?);
     let legs = [flight(ARN, OSL, 300, 360)];
-    assert!(rt; costs(&rt, alloc, closed(alloc, true)?, &p, &legs, 60)?);
+    assert!(rt; costs(alloc, closed(alloc, true)?, &p, &legs, 60)?);
     let legs = [ground(ARN, 0, 60)];
-    assert!(rt; costs(&rt, alloc, closed(alloc, true)?, &p, &legs, 0)?);
+    assert!(rt; costs(alloc, closed(alloc, true)?, &p, &legs, 0)?);
     Ok(())
 }
 
@@ -304,11 +238,11 @@ fn stop_at_the_base_clears_minutes(rt: HostRuntime) -> Result<(), Fail> {
     let (alloc, rows, all) = (rt.alloc(), [aircraft(P)], [0, 1, 2, 3].as_slice());
     let rules = counted(alloc, CounterKind::Minutes, 120, Vec::new(alloc))?;
     let legs = there_and_back_twice(570);
-    assert!(rt; is_least(&rt, alloc, rules, &rows, &legs, 240, &[all])?);
+    assert!(rt; is_least(alloc, rules, &rows, &legs, 240, &[all])?);
     let rules = counted(alloc, CounterKind::Minutes, 120, Vec::new(alloc))?;
-    assert!(rt; has_none(&rt, alloc, rules, &rows, &there_and_back_twice(569))?);
+    assert!(rt; has_none(alloc, rules, &rows, &there_and_back_twice(569))?);
     let rules = counted(alloc, CounterKind::Minutes, 119, Vec::new(alloc))?;
-    assert!(rt; has_none(&rt, alloc, rules, &rows, &legs)?);
+    assert!(rt; has_none(alloc, rules, &rows, &legs)?);
     Ok(())
 }
 
@@ -328,11 +262,11 @@ fn check_resets_days(rt: HostRuntime) -> Result<(), Fail> {
         resets: true,
         ..check
     };
-    let rules = counted(alloc, CounterKind::Days, 1, Vec::new(alloc))?;
+    let rules = counted(alloc, CounterKind::Days, 1440, Vec::new(alloc))?;
     let both = [0, 1].as_slice();
-    assert!(rt; is_least(&rt, alloc, rules, &rows, &[reset, home], 74, &[both])?);
-    let rules = counted(alloc, CounterKind::Days, 1, Vec::new(alloc))?;
-    assert!(rt; has_none(&rt, alloc, rules, &rows, &[check, home])?);
+    assert!(rt; is_least(alloc, rules, &rows, &[reset, home], 74, &[both])?);
+    let rules = counted(alloc, CounterKind::Days, 1440, Vec::new(alloc))?;
+    assert!(rt; has_none(alloc, rules, &rows, &[check, home])?);
     Ok(())
 }
 
@@ -341,12 +275,12 @@ fn check_resets_days(rt: HostRuntime) -> Result<(), Fail> {
 fn a_day_is_1440_minutes(rt: HostRuntime) -> Result<(), Fail> {
     let (alloc, rows) = (rt.alloc(), [aircraft(P)]);
     let away = flight(ARN, OSL, 0, 60);
-    let rules = counted(alloc, CounterKind::Days, 1, Vec::new(alloc))?;
+    let rules = counted(alloc, CounterKind::Days, 1440, Vec::new(alloc))?;
     let legs = [away, flight(OSL, ARN, 1400, 1440)];
-    assert!(rt; costs(&rt, alloc, rules, &rows, &legs, 100)?);
-    let rules = counted(alloc, CounterKind::Days, 1, Vec::new(alloc))?;
+    assert!(rt; costs(alloc, rules, &rows, &legs, 100)?);
+    let rules = counted(alloc, CounterKind::Days, 1440, Vec::new(alloc))?;
     let legs = [away, flight(OSL, ARN, 1400, 1441)];
-    assert!(rt; has_none(&rt, alloc, rules, &rows, &legs)?);
+    assert!(rt; has_none(alloc, rules, &rows, &legs)?);
     Ok(())
 }
 
@@ -361,20 +295,11 @@ fn carried_above_the_limit(rt: HostRuntime) -> Result<(), Fail> {
     let away = TailRow { at: OSL, ..used };
     let rules = counted(alloc, CounterKind::Minutes, 120, Vec::new(alloc))?;
     let none = [].as_slice();
-    assert!(rt; is_least(&rt, alloc, rules, &[away], &[], 0, &[none])?);
+    assert!(rt; is_least(alloc, rules, &[away], &[], 0, &[none])?);
     let rules = counted(alloc, CounterKind::Minutes, 120, Vec::new(alloc))?;
-    assert!(rt; has_none(&rt, alloc, rules, &[away], &[flight(OSL, ARN, 360, 420)])?);
+    assert!(rt; has_none(alloc, rules, &[away], &[flight(OSL, ARN, 360, 420)])?);
     let rules = counted(alloc, CounterKind::Minutes, 120, Vec::new(alloc))?;
-    assert!(rt;
-        costs(
-            &rt,
-            alloc,
-            rules,
-            &[used],
-            &[flight(ARN, OSL, 360, 420)],
-            60
-        )?
-    );
+    assert!(rt; costs(alloc, rules, &[used], &[flight(ARN, OSL, 360, 420)], 60)?);
     Ok(())
 }
 
@@ -412,7 +337,7 @@ fn dear_connection_saves_a_landing(rt: HostRuntime) -> Result<(), Fail> {
         },
     ];
     let routes = [[0, 1, 3, 4].as_slice(), [2].as_slice()];
-    assert!(rt; is_least(&rt, alloc, rules, &rows, &legs, 740, &routes)?);
+    assert!(rt; is_least(alloc, rules, &rows, &legs, 740, &routes)?);
     Ok(())
 }
 
@@ -432,7 +357,7 @@ fn first_band_that_reaches(rt: HostRuntime) -> Result<(), Fail> {
             flight(ARN, OSL, 360, 420),
             flight(OSL, ARN, start, start + 60),
         ];
-        let found = costs(&rt, alloc, rules, &rows, &legs, cost)?;
+        let found = costs(alloc, rules, &rows, &legs, cost)?;
         assert!(rt; found, "from {start}");
     }
     Ok(())
@@ -465,10 +390,10 @@ fn ten_flights_on_four_aircraft(rt: HostRuntime) -> Result<(), Fail> {
         let start = 360 + 60 * a as i64;
         legs[a] = flight(ARN, ARN, start, start + 90);
     }
-    assert!(rt; costs(&rt, alloc, plain(alloc, 30)?, &rows, &legs, 925)?);
+    assert!(rt; costs(alloc, plain(alloc, 30)?, &rows, &legs, 925)?);
     for a in 5..10 {
         legs[a] = flight(ARN, ARN, 900, 990);
     }
-    assert!(rt; has_none(&rt, alloc, plain(alloc, 30)?, &rows, &legs)?);
+    assert!(rt; has_none(alloc, plain(alloc, 30)?, &rows, &legs)?);
     Ok(())
 }

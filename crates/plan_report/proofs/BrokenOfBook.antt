@@ -6,11 +6,12 @@ use Rattle.std.specs.List.{All, filter, range_with_len}
 use Rattle.tail_book.specs.Lookup.{activities}
 use Rattle.tail_book.specs.Numbers.{contains, int_le}
 use Rattle.tail_book.specs.Seen.{BookSeen, CounterSeen, RawPlanSeen}
+use Rattle.tail_book.specs.Tests.{is_permitted}
 use Rattle.plan_audit.specs.Broken.{broken}
 use Rattle.plan_audit.specs.Kept.{IsLegOf, legs_met}
 use Rattle.plan_audit.specs.Laws.{LegsAreOfBook}
 use Rattle.plan_audit.specs.Met.{activities_met, names_met}
-use Rattle.plan_audit.specs.Rules.{is_permitted, past_limits, past_limits_at, twice, uncovered, unknown, values_after}
+use Rattle.plan_audit.specs.Rules.{past_limits, past_limits_at, twice, uncovered, unknown, values_after}
 use Rattle.plan_audit.specs.declared.broken.Audit.TheVariants as audit
 use Rattle.plan_audit.specs.declared.broken.Broken.{Broken}
 use Rattle.plan_audit.specs.declared.broken.Broken.TheVariants as rule

@@ -1,9 +1,7 @@
 //! Reports, audits and plan files, on a book of three flights and two aircraft.
 
-ghost use Rattle.std.specs.Prelude.{◌≡◌, ◌≢◌, ◌<◌, ◌≤◌, ◌≤ℤ◌, ◌+ℤ◌, pos, [], IfOk, IsTrue, length, All, AllPairs};
-ghost use Rattle.tail_book.specs.Name.{is_name};
+ghost use Rattle.std.specs.Prelude.{◌≡◌, ◌<◌, IfOk, length, All};
 ghost use Rattle.tail_book.specs.Lookup.{activities, aircraft};
-ghost use Rattle.tail_book.specs.Sound.{IsActivity, IsRules, IsTail, comes_before};
 ghost use Rattle.plan_report.specs.AuditText.{AreOfBook};
 ghost use Rattle.plan_report.specs.Report.{HasPlanFor, IsPlanFor};
 
@@ -27,17 +25,7 @@ const A1: u32 = 0;
 
 const A2: u32 = 1;
 
-fn flight(alloc: Global, rules: &Rules, id: &[u8; 2], start: i64) -> Activity
-    requires airports { length rules.now.airports ≡ 1 }
-    requires id { IsTrue (is_name id.now) }
-    requires least { pos 0 ≤ℤ start }
-    requires most { start ≤ℤ pos 10_000 }
-    ensures start { result.start ≡ start }
-    ensures id { result.id ≡ id.now }
-    ensures sound { IsActivity rules.now 2 result }
-{
-    let (id, end) = (Name::new(id.as_slice()), start + 60);
-    let (types, tags, resets) = (Vec::new(alloc), Vec::new(alloc), Vec::new(alloc));
+fn flight(alloc: Global, id: Name, start: i64, end: i64) -> Activity {
     Activity {
         id,
         flight: true,
@@ -45,120 +33,79 @@ fn flight(alloc: Global, rules: &Rules, id: &[u8; 2], start: i64) -> Activity
         to: 0,
         start,
         end,
-        types,
-        tags,
+        types: Vec::new(alloc),
+        tags: Vec::new(alloc),
         tail: None,
-        resets,
+        resets: Vec::new(alloc),
     }
 }
 
 // One type, one airport, and a counter of minutes.
 fn rules(alloc: Global) -> Result<Rules, Memory>
-    ensures sound { IfOk result IsRules }
-    ensures kinds { IfOk result (λ r. length r.kinds ≡ 1) }
-    ensures airports { IfOk result (λ r. length r.airports ≡ 1) }
-    ensures counters { IfOk result (λ r. length r.counters ≡ 1) }
+    ensures { IfOk result (λ r. length r.counters ≡ 1) }
 {
-    let (p, arn, fh) = (
-        Name::new(b"P".as_slice()),
-        Name::new(b"ARN".as_slice()),
-        Name::new(b"fh".as_slice()),
-    );
     let kinds = vec![in alloc;
         AircraftType {
-            name: p,
+            name: Name::new(b"P".as_slice()),
             rate: 1,
             turn: 30
         },
     ]?;
     let airports = vec![in alloc;
         Airport {
-            name: arn,
+            name: Name::new(b"ARN".as_slice()),
             offset: 60,
             turn: 30
         },
     ]?;
     let counter = Counter {
-        name: fh,
+        name: Name::new(b"fh".as_slice()),
         kind: CounterKind::Minutes,
         limit: 120,
         bases: Vec::new(alloc),
         stop: 60,
     };
     let counters = vec![in alloc; counter]?;
-    let (curfews, bands) = (Vec::new(alloc), Vec::new(alloc));
     Ok(Rules {
         kinds,
         airports,
-        curfews,
+        curfews: Vec::new(alloc),
         counters,
-        bands,
+        bands: Vec::new(alloc),
     })
 }
 
-fn tail(alloc: Global, rules: &Rules, name: &[u8; 2]) -> Result<Tail, Memory>
-    requires kinds { length rules.now.kinds ≡ 1 }
-    requires airports { length rules.now.airports ≡ 1 }
-    requires counters { length rules.now.counters ≡ 1 }
-    requires name { IsTrue (is_name name.now) }
-    ensures name { IfOk result (λ t. t.name ≡ name.now) }
-    ensures sound { IfOk result (IsTail rules.now) }
-{
-    let (name, carry) = (Name::new(name.as_slice()), vec![in alloc; 0]?);
-    let (tags, avoid) = (Vec::new(alloc), Vec::new(alloc));
+fn tail(alloc: Global, name: Name) -> Result<Tail, Memory> {
     Ok(Tail {
         name,
         kind: 0,
         at: 0,
         ready: 0,
         fixed: 0,
-        tags,
-        avoid,
-        carry,
+        tags: Vec::new(alloc),
+        avoid: Vec::new(alloc),
+        carry: vec![in alloc; 0]?,
     })
 }
 
-fn tails(alloc: Global, rules: &Rules) -> Result<Vec<Tail>, Memory>
-    requires kinds { length rules.now.kinds ≡ 1 }
-    requires airports { length rules.now.airports ≡ 1 }
-    requires counters { length rules.now.counters ≡ 1 }
-    ensures each { IfOk result (λ v. All (IsTail rules.now) v.items) }
-    ensures names { IfOk result (λ v. AllPairs (λ a b. a.name ≢ b.name) v.items) }
-    ensures count { IfOk result (λ v. length v.items ≡ 2) }
-{
-    let (a1, a2) = (tail(alloc, rules, b"A1")?, tail(alloc, rules, b"A2")?);
-    let listed = vec![in alloc; a1, a2]?;
-    Ok(listed)
-}
-
-fn flights(alloc: Global, rules: &Rules) -> Result<Vec<Activity>, Memory>
-    requires airports { length rules.now.airports ≡ 1 }
-    ensures each { IfOk result (λ v. All (IsActivity rules.now 2) v.items) }
-    ensures order { IfOk result (λ v. AllPairs (λ a b. IsTrue (comes_before a b)) v.items) }
-    ensures ids { IfOk result (λ v. AllPairs (λ a b. a.id ≢ b.id) v.items) }
-    ensures count { IfOk result (λ v. length v.items ≡ 3) }
-{
-    let listed = vec![in alloc;
-        flight(alloc, rules, b"F1", 360),
-        flight(alloc, rules, b"F2", 450),
-        flight(alloc, rules, b"F3", 540),
-    ]?;
-    Ok(listed)
-}
-
-fn book(alloc: Global) -> Result<Book, Memory>
+fn book(alloc: Global) -> Result<Book, Fail>
     ensures activities { IfOk result (λ b. activities b ≡ 3) }
     ensures aircraft { IfOk result (λ b. aircraft b ≡ 2) }
     ensures counters { IfOk result (λ b. length b.rules.counters ≡ 1) }
 {
     let rules = rules(alloc)?;
-    let tails = tails(alloc, &rules)?;
-    let activities = flights(alloc, &rules)?;
-    Ok(Book {
-        activities,
-        tails,
-        rules,
-    })
+    let first = tail(alloc, Name::new(b"A1".as_slice()))?;
+    let second = tail(alloc, Name::new(b"A2".as_slice()))?;
+    let tails = vec![in alloc; first, second]?;
+    let activities = vec![in alloc;
+        flight(alloc, Name::new(b"F1".as_slice()), 360, 420),
+        flight(alloc, Name::new(b"F2".as_slice()), 450, 510),
+        flight(alloc, Name::new(b"F3".as_slice()), 540, 600),
+    ]?;
+    match Book::new(activities, tails, rules) {
+        Some(book) => Ok(book),
+        None => Err(Fail::new("no book")),
+    }
 }
 
 // The plan of these two routes.

@@ -18,15 +18,15 @@ use Rattle.tail_book.specs.Link.{port, free_from, turn_time, IsLink, IsAllowedAt
 use Rattle.tail_book.specs.Counters.{step, WithinLimits}
 use Rattle.tail_book.specs.Route.{IsLegalFrom, IsLegalRoute}
 use Rattle.tail_book.specs.Plan.{times_flown, route_of, IsLegalPlan}
-use Rattle.tail_book.specs.Tests.{is_allowed, is_allowed_at, is_link, within_limits, is_legal_from, is_legal_route, are_legal_below, are_flown_once_below, is_legal_plan}
+use Rattle.tail_book.specs.Tests.{is_permitted, is_allowed, is_allowed_at, is_connected, is_link, within_limits, is_legal_from, is_legal_route, are_legal_below, are_flown_once_below, is_legal_plan}
 
-always : Decides true ⊤
+pub always : Decides true ⊤
 always = ((λ h. tt), (λ h. refl))
 
-never : Decides false ⊥
+pub never : Decides false ⊥
 never = ((λ h. both_ways false refl h), (λ h. absurd h))
 
-same_test : (b : Bool) → Decides b (b ≡ true)
+pub same_test : (b : Bool) → Decides b (b ≡ true)
 same_test b = ((λ h. h), (λ h. h))
 
 none_test : (b : Bool) → Decides (not b) (b ≡ false)
@@ -40,25 +40,39 @@ pub int_le_tested : (a b : ℤ) → Decides (int_le a b) (a ≤ℤ b)
 int_le_tested a b = Decides-like (int_le a b) (λ n. by_lt_z b a (λ l. absurd (n l)) (λ h. h)) (λ h l. absurd (omega (arith, ints, h, l))) (Decides-not (int_lt b a) (int_lt_tested b a))
 
 pub allowed_tested : (book : BookSeen) (k a : ℕ) → Decides (is_allowed book k a) (IsAllowed book k a)
+unfolding is_allowed is_permitted
 allowed_tested book k a =
     Decides-like (is_allowed book k a)
-    (λ h. record { type = h.0; tags = h.1.0; leaves = h.1.1.0; arrives = h.1.1.1.0; assigned = h.1.1.1.1.0; open_hours = h.1.1.1.1.1 })
-    (λ r. (r.type, (r.tags, (r.leaves, (r.arrives, (r.assigned, r.open_hours))))))
+    (λ h.
+    record {
+      aircraft = h.0;
+      activity = h.1.0;
+      type = h.1.1.0.0;
+      tags = h.1.1.0.1.0;
+      leaves = h.1.1.0.1.1.0;
+      arrives = h.1.1.0.1.1.1.0;
+      assigned = h.1.1.0.1.1.1.1;
+      open_hours = h.1.1.1;
+    })
+    (λ r. (r.aircraft, (r.activity, ((r.type, (r.tags, (r.leaves, (r.arrives, r.assigned)))), r.open_hours))))
+    (Decides-and _ _ (Decides-ltb k (aircraft book)) (Decides-and _ _ (Decides-ltb a (activities book))
+    (Decides-and _ _
     (Decides-and _ _ (same_test _) (Decides-and _ _ (same_test _)
     (Decides-and _ _ (none_test (contains (avoided book k) (from_port book a)))
-    (Decides-and _ _ (none_test (contains (avoided book k) (to_port book a)))
-    (Decides-and _ _ (same_test _) (none_test (is_curfewed book k a)))))))
+    (Decides-and _ _ (none_test (contains (avoided book k) (to_port book a))) (same_test _)))))
+    (none_test (is_curfewed book k a)))))
 
 allowed_at_tested : (book : BookSeen) (k : ℕ) (x : Place) → Decides (is_allowed_at book k x) (IsAllowedAt book k x)
 allowed_at_tested book k Carry = always
 allowed_at_tested book k (After x) = allowed_tested book k x
 
 pub link_tested : (book : BookSeen) (k : ℕ) (x : Place) (b : ℕ) → Decides (is_link book k x b) (IsLink book k x b)
+unfolding is_link is_connected
 link_tested book k x b =
-    Decides-like (is_link book k x b) (λ h. record { place = h.0; time = h.1.0; before = h.1.1.0; after = h.1.1.1 }) (λ l. (l.place, (l.time, (l.before, l.after))))
-    (Decides-and _ _ (Decides-eqb (port book k x) (from_port book b))
-    (Decides-and _ _ (int_le_tested (free_from book k x +ℤ turn_time book k x b) (start_of book b))
-    (Decides-and _ _ (allowed_at_tested book k x) (allowed_tested book k b))))
+    Decides-like (is_link book k x b) (λ h. record { place = h.0.0; time = h.0.1; before = h.1.0; after = h.1.1 }) (λ l. ((l.place, l.time), (l.before, l.after)))
+    (Decides-and _ _
+    (Decides-and _ _ (Decides-eqb (port book k x) (from_port book b)) (int_le_tested (free_from book k x +ℤ turn_time book k x b) (start_of book b)))
+    (Decides-and _ _ (allowed_at_tested book k x) (allowed_tested book k b)))
 
 pub within_tested : (counters : List CounterSeen) (values : List ℤ) → Decides (within_limits counters values) (WithinLimits counters values)
 within_tested [] [] = always

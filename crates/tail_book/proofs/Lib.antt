@@ -1,10 +1,22 @@
 pub mod NameLemmas
 pub mod Timed
 pub mod Rise
-pub mod Flown
+pub mod FlownOnce
 pub mod Sums
+pub mod Partition
 pub mod Costs
 pub mod TableCosts
 pub mod TableBounds
 pub mod Deciding
+pub mod Order
+pub mod OneMore
+pub mod Along
+pub mod RouteBounds
+pub mod RisingLists
+pub mod FlownTimes
+pub mod Fliers
+pub mod Renumbered
 pub mod Worked
+pub mod WorkedRoutes
+mod TruthLemmas
+pub mod SoundTested

@@ -1,5 +1,4 @@
 -- Linked activities rise in number, and so do the numbers of a legal route.
-use Rattle.std.specs.Prelude.{⊤}
 use Rattle.std.proofs.Common.{ℕ, ℤ, pos, ◌≤ℤ◌, ◌<◌, ◌≤◌, Bool, true, false, arith, if◌then◌else◌, List, [], ◌∷◌}
 use Rattle.std.proofs.lemmas.Int.{ints, int_max_is}
 use Rattle.std.proofs.Math.Nat.{lt_of_not-le}
@@ -10,7 +9,8 @@ use Rattle.tail_book.specs.declared.place.Place.TheVariants.{Carry, After}
 use Rattle.tail_book.specs.Lookup.{activities}
 use Rattle.tail_book.specs.Link.{IsLink, turn_time}
 use Rattle.tail_book.specs.Route.{IsLegalFrom}
-use Rattle.tail_book.specs.Rising.{IsBefore, IsRisingFrom}
+use Rattle.tail_book.specs.Place.{IsPlaceOf, IsBefore}
+use Rattle.tail_book.specs.Rising.{IsRisingFrom}
 use Rattle.tail_book.proofs.Timed.{IsTimed}
 
 chosen : (b : Bool) (z w : ℤ) → pos 0 ≤ℤ z → pos 0 ≤ℤ (if b then int_max z w else pos 0)
@@ -28,16 +28,11 @@ link_rises book timed k x b hx hb link = lt_of_not-le (λ (le : b ≤ x).
     let z = turn_is book timed k x b in
     absurd (omega (arith, ints)))
 
--- a place of the book
-abbrev pub InRange : ℕ → Place → Type 0
-InRange n Carry = ⊤
-InRange n (After x) = x < n
-
-before_of : (book : BookSeen) → IsTimed book → (k : ℕ) (x : Place) (b : ℕ) → InRange (activities book) x → b < activities book → IsLink book k x b → IsBefore x b
+before_of : (book : BookSeen) → IsTimed book → (k : ℕ) (x : Place) (b : ℕ) → IsPlaceOf book x → b < activities book → IsLink book k x b → IsBefore x b
 before_of book timed k Carry b hx hb link = tt
 before_of book timed k (After x) b hx hb link = link_rises book timed k x b hx hb link
 
-pub rises_from : (book : BookSeen) → IsTimed book → (k : ℕ) (x : Place) (values : List ℤ) (route : List ℕ) → InRange (activities book) x → IsLegalFrom book k x values route → IsRisingFrom (activities book) x route
+pub rises_from : (book : BookSeen) → IsTimed book → (k : ℕ) (x : Place) (values : List ℤ) (route : List ℕ) → IsPlaceOf book x → IsLegalFrom book k x values route → IsRisingFrom (activities book) x route
 rises_from book timed k x values [] hx legal = tt
 rises_from book timed k x values (b ∷ rest) hx legal =
     (before_of book timed k x b hx legal.0 legal.1, legal.0, rises_from book timed k (After b) _ rest legal.0 legal.3)

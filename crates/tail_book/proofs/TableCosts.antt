@@ -1,22 +1,21 @@
 -- The book's own costs: the entry of aircraft k and activity a stands behind k rows, and so each cost by the table is the book's.
-use Rattle.std.proofs.Common.{◌≡◌, ℕ, ℤ, zero, suc, ◌+◌, ◌*◌, ◌^◌, ◌<◌, ◌≤◌, arith, List, [], ◌∷◌, ◌++◌, length, sym, refl, ap, ap₂, ◌∙◌, subst, get_or}
+use Rattle.std.proofs.Common.{◌≡◌, ℕ, zero, suc, ◌+◌, ◌*◌, ◌^◌, ◌<◌, ◌≤◌, arith, List, [], ◌∷◌, ◌++◌, length, sym, refl, ap, ap₂, ◌∙◌, subst, get_or}
 use Rattle.std.proofs.Math.Nat.{mul-le-mul}
 use Rattle.std.proofs.lemmas.List.{append-nil, append_assoc, get_or_append_left, get_or-append-add, length-append}
-use Rattle.std.proofs.lemmas.List.Elements.{All-head, All-tail, All-cons, All-append, All-from_get_or}
+use Rattle.std.proofs.lemmas.List.Elements.{All-head, All-tail, All-append, All-from_get_or}
 use Rattle.std.proofs.lemmas.List.FromFn.{length-map-range_with_len, get_or-map-range_with_len}
 use Rattle.std.specs.Prelude.{All}
 use Rattle.std.specs.List.{flat_map, range_with_len}
 use Rattle.tail_book.specs.Seen.{BookSeen}
 use Rattle.tail_book.specs.declared.place.Place.{Place}
 use Rattle.tail_book.specs.declared.place.Place.TheVariants.{Carry, After}
-use Rattle.tail_book.specs.Lookup.{activities, aircraft, carry_of}
-use Rattle.tail_book.specs.Counters.{step}
-use Rattle.tail_book.specs.Route.{IsLegalFrom}
+use Rattle.tail_book.specs.Lookup.{activities, aircraft}
 use Rattle.tail_book.specs.Cost.{activity_cost, connection_cost, cost_from, cost_of_routes, plan_cost}
 use Rattle.tail_book.specs.CostTable.{IsCostTable, IsTableFor, activity_cost_in, connection_cost_in, cost_from_in, cost_of_routes_in, plan_cost_in, activity_costs, costs_of}
-use Rattle.tail_book.specs.Plan.{IsLegalPlan, route_of}
+use Rattle.tail_book.specs.Plan.{IsLegalPlan}
 use Rattle.tail_book.specs.Sound.{IsBook}
 use Rattle.tail_book.proofs.Costs.{activity_cost_most}
+use Rattle.tail_book.proofs.Partition.{plan_of_book}
 
 -- one row more
 pub rows_more : {A : Type 0} (f : ℕ → List A) (s n j : ℕ) → s + n ≡ j → flat_map f (range_with_len s (suc n)) ≡ flat_map f (range_with_len s n) ++ f j
@@ -101,10 +100,10 @@ rows_most book sound s zero = λ i d lt. absurd (omega (arith, lt))
 rows_most book sound s (suc m) = All-append (λ c. c ≤ 1_000_000) _ _ (row_most book sound s) (rows_most book sound (s + 1) m)
 
 -- 4,000 activities at two million each, in thousandths
-sums_most : (n : ℕ) → n ≤ 4000 → n * 1000 * (n * (1_000_000 + 1_000_000) + 1) + 1000 * (n * (1_000_000 + 1_000_000)) ≤ 2 ^ 61
+sums_most : (n : ℕ) → n ≤ 4000 → n * (1000 * (n * (1_000_000 + 1_000_000) + 1)) + 1000 * (n * (1_000_000 + 1_000_000)) ≤ 2 ^ 61
 sums_most n few =
     let squared : n * n ≤ 4000 * 4000 = mul-le-mul few few in
-    spread n (n * n) (n * 1000 * (n * 2_000_000 + 1)) few squared (omega arith)
+    spread n (n * n) (n * (1000 * (n * 2_000_000 + 1))) few squared (omega arith)
   where
     spread : (n s p : ℕ) → n ≤ 4000 → s ≤ 16_000_000 → p ≡ 2_000_000_000 * s + 1000 * n → p + 1000 * (n * (1_000_000 + 1_000_000)) ≤ 2 ^ 61
     spread n s p few squared e = omega arith
@@ -116,17 +115,9 @@ own_costs_sound book sound = record {
   sums = sums_most (activities book) sound.few_activities;
 }
 
--- the activities of a legal route are of the book
-all_legal : (book : BookSeen) (k : ℕ) (x : Place) (values : List ℤ) (route : List ℕ) → IsLegalFrom book k x values route → All (λ a. a < activities book) route
-all_legal book k x values [] legal = λ i d lt. absurd (omega (arith, lt))
-all_legal book k x values (b ∷ rest) legal =
-    All-cons (λ a. a < activities book) b rest legal.0 (all_legal book k (After b) (step book k x b values) rest legal.3)
-
 pub own_plan_cost : (book : BookSeen) (plan : List (List ℕ)) → length plan ≡ aircraft book → All (All (λ a. a < activities book)) plan
     → plan_cost_in (costs_of book) book plan ≡ plan_cost book plan
 own_plan_cost book plan one_each below = own_cost_of_routes book 0 plan (omega (arith, one_each)) below
 
 pub own_legal_cost : (book : BookSeen) (plan : List (List ℕ)) → IsLegalPlan book plan → plan_cost_in (costs_of book) book plan ≡ plan_cost book plan
-own_legal_cost book plan legal = own_plan_cost book plan legal.one_each
-    (All-from_get_or (All (λ a. a < activities book)) plan []
-    (λ i lt. all_legal book i Carry (carry_of book i) (route_of plan i) (legal.routes i (omega (arith, legal.one_each, lt)))))
+own_legal_cost book plan legal = own_plan_cost book plan legal.one_each (plan_of_book book plan legal)

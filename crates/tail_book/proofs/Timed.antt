@@ -6,8 +6,7 @@ use Rattle.std.proofs.lemmas.List.Elements.{All-head, All-tail}
 use Rattle.std.specs.Prelude.{All, int_lt, ◌&&◌}
 use Rattle.std.specs.Ordering.{nat_cmp, int_eq, is_lt}
 use Rattle.std.specs.Cmp.Lexicographic.{slice_cmp}
-use Rattle.tail_book.specs.Seen.{ActivitySeen, BookSeen}
-use Rattle.tail_book.specs.declared.rules.Airport.{Airport}
+use Rattle.tail_book.specs.Seen.{ActivitySeen, AirportSeen, BookSeen}
 use Rattle.tail_book.specs.Lookup.{activities, activity_of, start_of, end_of, type_turn, port_turn, no_activity, no_type, no_airport}
 use Rattle.tail_book.specs.Sound.{IsKind, IsAirport, IsBook, comes_before}
 
@@ -50,5 +49,5 @@ timed_of book sound = record {
   ordered = in_order book sound;
   lasting = λ a lt. (sound.activities a no_activity lt).lasts;
   type_turns = λ t. everywhere IsKind (λ k. pos 0 ≤ℤ k.turn) no_type (omega (arith, ints)) (λ k h. h.turn.least) book.rules.kinds sound.rules.kinds t;
-  port_turns = λ p. everywhere IsAirport (λ (a : Airport). pos 0 ≤ℤ a.turn) no_airport (omega (arith, ints)) (λ a h. h.turn.least) book.rules.airports sound.rules.airports p;
+  port_turns = λ p. everywhere IsAirport (λ (a : AirportSeen). pos 0 ≤ℤ a.turn) no_airport (omega (arith, ints)) (λ a h. h.turn.least) book.rules.airports sound.rules.airports p;
 }

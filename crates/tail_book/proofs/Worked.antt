@@ -7,13 +7,14 @@ use Rattle.tail_book.specs.declared.rules.AircraftType.{AircraftType}
 use Rattle.tail_book.specs.declared.rules.Band.{Band}
 use Rattle.tail_book.specs.declared.rules.CounterKind.{CounterKind}
 use Rattle.tail_book.specs.declared.rules.CounterKind.TheVariants.{Minutes, Landings, Days}
+use Rattle.tail_book.specs.Along.{counters_along}
 use Rattle.tail_book.specs.Counters.{step}
 use Rattle.tail_book.specs.Cost.{plan_cost}
-use Rattle.tail_book.specs.CostTable.{activity_cost_in, costs_of, plan_cost_in}
+use Rattle.tail_book.specs.CostTable.{activity_cost_in, box_end, costs_of, plan_cost_in}
 use Rattle.tail_book.specs.Curfew.{is_curfewed}
 use Rattle.tail_book.specs.Link.{gap}
 use Rattle.tail_book.specs.Route.{counters_after}
-use Rattle.tail_book.specs.Tests.{is_legal_plan, is_legal_route, is_link}
+use Rattle.tail_book.specs.Tests.{is_allowed, is_connected, is_legal_plan, is_legal_route, is_link, is_permitted}
 
 -- a minute of 2025-03-03 UTC
 abbrev at : ℕ → ℤ
@@ -55,19 +56,48 @@ abbrev turning : ℕ → BookSeen
 turning turn = record { activities = there_and_back; tails = one_aircraft []; rules = rules_of (kind_with (codes "P") 1 turn ∷ []) [] [] [] }
 
 gap_is_exactly_the_turn : is_legal_plan (turning 30) ((0 ∷ 1 ∷ []) ∷ []) ≡ true
+unfolding is_link is_connected is_allowed is_permitted
 gap_is_exactly_the_turn = refl
 
 turned_cost : plan_cost (turning 30) ((0 ∷ 1 ∷ []) ∷ []) ≡ 120
 turned_cost = refl
 
 nothing_left_out : is_legal_plan (turning 30) ((0 ∷ []) ∷ []) ≡ false
+unfolding is_link is_connected is_allowed is_permitted
 nothing_left_out = refl
+
+-- numbers past the end: neither an activity nor an aircraft that the book does not have is allowed or linked
+no_such_activity_is_allowed : is_allowed (turning 30) 0 2 ≡ false
+unfolding is_link is_connected is_allowed is_permitted
+no_such_activity_is_allowed = refl
+
+no_such_aircraft_is_allowed : is_allowed (turning 30) 1 0 ≡ false
+unfolding is_link is_connected is_allowed is_permitted
+no_such_aircraft_is_allowed = refl
+
+no_link_to_no_such_activity : is_link (turning 30) 0 Carry 5 ≡ false
+unfolding is_link is_connected is_allowed is_permitted
+no_link_to_no_such_activity = refl
+
+no_link_from_no_such_activity : is_link (turning 30) 0 (After 2) 1 ≡ false
+unfolding is_link is_connected is_allowed is_permitted
+no_link_from_no_such_activity = refl
+
+no_link_of_no_such_aircraft : is_link (turning 30) 1 Carry 0 ≡ false
+unfolding is_link is_connected is_allowed is_permitted
+no_link_of_no_such_aircraft = refl
+
+-- two activities of at most two million each, and one more, in thousandths
+box_of_two_activities : box_end (costs_of (turning 30)) ≡ 4_000_001_000
+box_of_two_activities = refl
 
 -- a turn a minute longer
 turn_is_missed : is_link (turning 31) 0 (After 0) 1 ≡ false
+unfolding is_link is_connected is_allowed is_permitted
 turn_is_missed = refl
 
 missed_plan : is_legal_plan (turning 31) ((0 ∷ 1 ∷ []) ∷ []) ≡ false
+unfolding is_link is_connected is_allowed is_permitted
 missed_plan = refl
 
 -- two flights at once, and a type that costs twice as much a minute
@@ -79,6 +109,7 @@ rates = record {
 }
 
 cheaper_plan : is_legal_plan rates ((1 ∷ []) ∷ (0 ∷ []) ∷ []) ≡ true
+unfolding is_link is_connected is_allowed is_permitted
 cheaper_plan = refl
 
 cheaper_cost : plan_cost rates ((1 ∷ []) ∷ (0 ∷ []) ∷ []) ≡ 240
@@ -98,6 +129,7 @@ cheaper_cost_in_table : plan_cost_in (costs_of rates) rates ((1 ∷ []) ∷ (0 �
 cheaper_cost_in_table = refl
 
 not_both_at_once : is_legal_plan rates ((0 ∷ 1 ∷ []) ∷ [] ∷ []) ≡ false
+unfolding is_link is_connected is_allowed is_permitted
 not_both_at_once = refl
 
 -- minutes flown, cleared by an hour at Arlanda
@@ -120,7 +152,18 @@ cleared_at_base = refl
 counted_again : counters_after (hours 120 570) 0 (0 ∷ 1 ∷ 2 ∷ 3 ∷ []) ≡ pos 120 ∷ []
 counted_again = refl
 
+-- along the same route: at the carry-in, and after its first and second activity
+along_at_carry_in : counters_along (hours 120 570) 0 (0 ∷ 1 ∷ 2 ∷ 3 ∷ []) 0 ≡ pos 0 ∷ []
+along_at_carry_in = refl
+
+along_after_one : counters_along (hours 120 570) 0 (0 ∷ 1 ∷ 2 ∷ 3 ∷ []) 1 ≡ pos 60 ∷ []
+along_after_one = refl
+
+along_after_two : counters_along (hours 120 570) 0 (0 ∷ 1 ∷ 2 ∷ 3 ∷ []) 2 ≡ pos 120 ∷ []
+along_after_two = refl
+
 cleared_plan : is_legal_plan (hours 120 570) ((0 ∷ 1 ∷ 2 ∷ 3 ∷ []) ∷ []) ≡ true
+unfolding is_link is_connected is_allowed is_permitted
 cleared_plan = refl
 
 cleared_cost : plan_cost (hours 120 570) ((0 ∷ 1 ∷ 2 ∷ 3 ∷ []) ∷ []) ≡ 240
@@ -131,13 +174,16 @@ stop_is_short : counters_after (hours 120 569) 0 (0 ∷ 1 ∷ 2 ∷ []) ≡ pos 
 stop_is_short = refl
 
 short_stop_plan : is_legal_plan (hours 120 569) ((0 ∷ 1 ∷ 2 ∷ 3 ∷ []) ∷ []) ≡ false
+unfolding is_link is_connected is_allowed is_permitted
 short_stop_plan = refl
 
 -- a limit one minute lower
 limit_is_passed : is_legal_route (hours 119 570) 0 (0 ∷ 1 ∷ []) ≡ false
+unfolding is_link is_connected is_allowed is_permitted
 limit_is_passed = refl
 
 limit_is_met : is_legal_route (hours 120 570) 0 (0 ∷ 1 ∷ []) ≡ true
+unfolding is_link is_connected is_allowed is_permitted
 limit_is_met = refl
 
 -- a check in Oslo that resets the days since the last one
@@ -165,12 +211,14 @@ days_after_check : step (checked (0 ∷ [])) 0 (After 0) 1 (pos 0 ∷ []) ≡ po
 days_after_check = refl
 
 checked_plan : is_legal_plan (checked (0 ∷ [])) ((0 ∷ 1 ∷ []) ∷ []) ≡ true
+unfolding is_link is_connected is_allowed is_permitted
 checked_plan = refl
 
 checked_cost : plan_cost (checked (0 ∷ [])) ((0 ∷ 1 ∷ []) ∷ []) ≡ 74
 checked_cost = refl
 
 unchecked_plan : is_legal_plan (checked []) ((0 ∷ 1 ∷ []) ∷ []) ≡ false
+unfolding is_link is_connected is_allowed is_permitted
 unchecked_plan = refl
 
 -- no landing at Arlanda from 23:00 to 06:00 of local time, an hour ahead
@@ -194,12 +242,14 @@ lands_after_night : is_curfewed (night 300) 0 0 ≡ false
 lands_after_night = refl
 
 early_plan : is_legal_plan (night 1319) ((0 ∷ []) ∷ []) ≡ true
+unfolding is_link is_connected is_allowed is_permitted
 early_plan = refl
 
 early_cost : plan_cost (night 1319) ((0 ∷ []) ∷ []) ≡ 60
 early_cost = refl
 
 night_plan : is_legal_plan (night 1320) ((0 ∷ []) ∷ []) ≡ false
+unfolding is_link is_connected is_allowed is_permitted
 night_plan = refl
 
 -- landings, and bands: the cheap way through the ground time leaves no landing for the last flight
@@ -218,6 +268,7 @@ landings = record {
 }
 
 dear_connection : is_legal_plan landings ((0 ∷ 1 ∷ 3 ∷ 4 ∷ []) ∷ (2 ∷ []) ∷ []) ≡ true
+unfolding is_link is_connected is_allowed is_permitted
 dear_connection = refl
 
 dear_connection_cost : plan_cost landings ((0 ∷ 1 ∷ 3 ∷ 4 ∷ []) ∷ (2 ∷ []) ∷ []) ≡ 740
@@ -230,6 +281,7 @@ fourth_landing : counters_after landings 0 (0 ∷ 1 ∷ 2 ∷ 3 ∷ 4 ∷ []) �
 fourth_landing = refl
 
 cheap_connection : is_legal_plan landings ((0 ∷ 1 ∷ 2 ∷ 3 ∷ 4 ∷ []) ∷ [] ∷ []) ≡ false
+unfolding is_link is_connected is_allowed is_permitted
 cheap_connection = refl
 
 -- two flights at once, each preassigned
@@ -241,10 +293,12 @@ preassigned_flights = record {
 }
 
 each_its_own : is_legal_plan preassigned_flights ((1 ∷ []) ∷ (0 ∷ []) ∷ []) ≡ true
+unfolding is_link is_connected is_allowed is_permitted
 each_its_own = refl
 
 each_its_own_cost : plan_cost preassigned_flights ((1 ∷ []) ∷ (0 ∷ []) ∷ []) ≡ 120
 each_its_own_cost = refl
 
 swapped : is_legal_plan preassigned_flights ((0 ∷ []) ∷ (1 ∷ []) ∷ []) ≡ false
+unfolding is_link is_connected is_allowed is_permitted
 swapped = refl

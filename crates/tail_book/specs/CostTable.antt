@@ -1,5 +1,5 @@
 -- What activities, connections, routes and plans cost by a table, in cost units, and the table of the book's own costs.
-use Rattle.std.specs.Prelude.{ℕ, ◌+◌, ◌*◌, ◌^◌, ◌≤◌, ◌≡◌, List, [], ◌∷◌, All, length, map, slice_index_or}
+use Rattle.std.specs.Prelude.{ℕ, ℤ, pos, ◌+ℤ◌, ◌≤ℤ◌, ◌+◌, ◌*◌, ◌^◌, ◌≤◌, ◌≡◌, List, [], ◌∷◌, All, length, map, slice_index_or}
 use Rattle.std.specs.List.{flat_map, range_with_len}
 use Rattle.tail_book.specs.Seen.{BookSeen, CostTableSeen}
 use Rattle.tail_book.specs.declared.place.Place.{Place}
@@ -12,11 +12,24 @@ use Rattle.tail_book.specs.Cost.{activity_cost, band_cost}
 abbrev pub greatest_cost_in : CostTableSeen → ℕ
 greatest_cost_in table = table.n * (table.fly_max + table.band_max)
 
+-- thousandths in a cost unit: duals and reduced costs are counted in these
+abbrev pub cost_unit : ℕ
+cost_unit = 1000
+
+-- the ends of the box of duals, in thousandths of a cost unit: a dual lies from minus this to this
+abbrev pub box_end : CostTableSeen → ℕ
+box_end table = cost_unit * (greatest_cost_in table + 1)
+
+-- the dual lies in the box
+pub record IsInBox (table : CostTableSeen) (dual : ℤ) : Type 0 where
+  pub least : pos 0 ≤ℤ (dual +ℤ pos (box_end table))
+  pub most : dual ≤ℤ pos (box_end table)
+
 -- each entry and each band is within its maximum, and no sum of thousandths of costs and duals passes 2^61
 pub record IsCostTable (table : CostTableSeen) : Type 0 where
   pub fly : All (λ cost. cost ≤ table.fly_max) table.fly
   pub bands : All (λ band. band.cost ≤ table.band_max) table.bands
-  pub sums : table.n * 1000 * (greatest_cost_in table + 1) + 1000 * greatest_cost_in table ≤ 2 ^ 61
+  pub sums : table.n * box_end table + cost_unit * greatest_cost_in table ≤ 2 ^ 61
 
 -- the table has the book's activities and aircraft, and an entry for each of both
 pub record IsTableFor (book : BookSeen) (table : CostTableSeen) : Type 0 where

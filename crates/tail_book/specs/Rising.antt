@@ -4,6 +4,7 @@ use Rattle.tail_book.specs.Seen.{BookSeen}
 use Rattle.tail_book.specs.declared.place.Place.{Place}
 use Rattle.tail_book.specs.declared.place.Place.TheVariants.{Carry, After}
 use Rattle.tail_book.specs.Numbers.{contains}
+use Rattle.tail_book.specs.Place.{IsBefore}
 use Rattle.tail_book.specs.Lookup.{activities, aircraft}
 use Rattle.tail_book.specs.Link.{IsLink}
 use Rattle.tail_book.specs.Route.{IsLegalRoute}
@@ -13,11 +14,6 @@ use Rattle.tail_book.specs.Sound.{IsBook}
 -- the law of links: what comes directly after an activity has a larger number
 abbrev pub LinksRise : Type 0
 LinksRise = (book : BookSeen) → IsBook book → (k x b : ℕ) → x < activities book → b < activities book → IsLink book k (After x) b → x < b
-
--- the carry-in counts as before every activity
-abbrev pub IsBefore : Place → ℕ → Type 0
-IsBefore Carry b = ⊤
-IsBefore (After x) b = x < b
 
 -- from a place on, numbers rise strictly and are below n
 abbrev pub IsRisingFrom : ℕ → Place → List ℕ → Type 0

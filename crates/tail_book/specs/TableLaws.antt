@@ -1,11 +1,14 @@
 -- What the book's own costs have to do with the book, and what a legal plan costs by a table at most.
-use Rattle.std.specs.Prelude.{ℕ, ◌<◌, ◌≤◌, ◌≡◌, List, All, length}
+use Rattle.std.specs.Prelude.{ℕ, ◌<◌, ◌≤◌, ◌≡◌, ◌↔◌, List, All, length}
 use Rattle.tail_book.specs.Seen.{BookSeen, CostTableSeen}
 use Rattle.tail_book.specs.declared.place.Place.{Place}
 use Rattle.tail_book.specs.Lookup.{activities, aircraft}
 use Rattle.tail_book.specs.Cost.{activity_cost, connection_cost, cost_from, plan_cost}
 use Rattle.tail_book.specs.CostTable.{IsCostTable, IsTableFor, activity_cost_in, connection_cost_in, cost_from_in, plan_cost_in, greatest_cost_in, costs_of}
 use Rattle.tail_book.specs.Plan.{IsLegalPlan}
+use Rattle.tail_book.specs.Truth.{IsTrueClaim, IsTrueClaimIn, IsTrueOutcome, IsTrueOutcomeIn}
+use Rattle.tail_book.specs.declared.claim.Claim.{Claim}
+use Rattle.tail_book.specs.declared.outcome.Outcome.{Outcome}
 use Rattle.tail_book.specs.Sound.{IsBook}
 
 -- the book's own costs are a table for the book
@@ -33,6 +36,13 @@ OwnCostsOfPlans = (book : BookSeen) (plan : List (List ℕ)) → length plan ≡
 -- and so does every legal plan
 abbrev pub OwnCostsOfLegalPlans : Type 0
 OwnCostsOfLegalPlans = (book : BookSeen) (plan : List (List ℕ)) → IsLegalPlan book plan → plan_cost_in (costs_of book) book plan ≡ plan_cost book plan
+
+-- a claim, and an answer, is true by the book's own costs exactly where it is true of the book
+abbrev pub OwnCostsKeepClaims : Type 0
+OwnCostsKeepClaims = (book : BookSeen) (claim : Claim) → IsTrueClaimIn (costs_of book) book claim ↔ IsTrueClaim book claim
+
+abbrev pub OwnCostsKeepOutcomes : Type 0
+OwnCostsKeepOutcomes = (book : BookSeen) (answer : Outcome) → IsTrueOutcomeIn (costs_of book) book answer ↔ IsTrueOutcome book answer
 
 -- by any table for the book a legal plan costs at most what each activity, with a connection, costs at most
 abbrev pub LegalPlansCostAtMostIn : Type 0

@@ -14,27 +14,33 @@ use Rattle.tail_book.specs.Counters.{step, WithinLimits}
 use Rattle.tail_book.specs.Route.{IsLegalRoute}
 use Rattle.tail_book.specs.Plan.{times_flown, route_of, IsLegalPlan}
 
--- the aircraft may fly the activity
-abbrev pub is_allowed : BookSeen → ℕ → ℕ → Bool
-is_allowed book k a =
+-- the aircraft may fly the activity, curfews aside
+unfoldable pub is_permitted : BookSeen → ℕ → ℕ → Bool
+is_permitted book k a =
     covers_type (types_of book a) (kind_of book k)
     && (list_all (contains (tags_had book k)) (tags_needed book a)
     && (not (contains (avoided book k) (from_port book a))
     && (not (contains (avoided book k) (to_port book a))
-    && (is_none_or (preassigned book a) k
-    && not (is_curfewed book k a)))))
+    && is_none_or (preassigned book a) k)))
+
+-- the aircraft and the activity are of the book, and the one may fly the other
+unfoldable pub is_allowed : BookSeen → ℕ → ℕ → Bool
+is_allowed book k a =
+    nat_lt k (aircraft book) && (nat_lt a (activities book) && (is_permitted book k a && not (is_curfewed book k a)))
 
 -- the aircraft may be at the place
 abbrev pub is_allowed_at : BookSeen → ℕ → Place → Bool
 is_allowed_at book k Carry = true
 is_allowed_at book k (After x) = is_allowed book k x
 
+-- the activity starts at the airport of the place, and no earlier than the turn after it
+unfoldable pub is_connected : BookSeen → ℕ → Place → ℕ → Bool
+is_connected book k x b =
+    nat_eq (port book k x) (from_port book b) && int_le (free_from book k x +ℤ turn_time book k x b) (start_of book b)
+
 -- the activity may come directly after the place
-abbrev pub is_link : BookSeen → ℕ → Place → ℕ → Bool
-is_link book k x b =
-    nat_eq (port book k x) (from_port book b)
-    && (int_le (free_from book k x +ℤ turn_time book k x b) (start_of book b)
-    && (is_allowed_at book k x && is_allowed book k b))
+unfoldable pub is_link : BookSeen → ℕ → Place → ℕ → Bool
+is_link book k x b = is_connected book k x b && (is_allowed_at book k x && is_allowed book k b)
 
 -- there is a value for each counter, and each is within its limit
 abbrev pub within_limits : List CounterSeen → List ℤ → Bool

@@ -1,41 +1,42 @@
--- When a claim, and what a planner answers, is true of a book.
-use Rattle.std.specs.Prelude.{◌≡◌, ℕ, ◌≤◌, ◌<◌, ⊤, List, Option, None, Some}
-use Rattle.tail_book.specs.Seen.{BookSeen}
+-- When a claim, and what a planner answers, is true of a book, by the costs of plans that are meant.
+use Rattle.std.specs.Prelude.{◌≡◌, ℕ, ◌≤◌, ◌<◌, ⊤, List, None, Some}
+use Rattle.tail_book.specs.Seen.{BookSeen, CostTableSeen}
 use Rattle.tail_book.specs.Plan.{IsLegalPlan}
 use Rattle.tail_book.specs.Cost.{plan_cost}
+use Rattle.tail_book.specs.CostTable.{plan_cost_in}
+use Rattle.tail_book.specs.declared.claim.Claim.{Claim}
+use Rattle.tail_book.specs.declared.claim.Claim.TheVariants.{Optimal, Infeasible, Limit}
 use Rattle.tail_book.specs.declared.outcome.Outcome.{Outcome}
 use Rattle.tail_book.specs.declared.outcome.Outcome.TheVariants as outcome
 
--- what is claimed of a book: the cost of a cheapest legal plan, that no plan is legal, or a bound, with the cost of the best plan found if there is one
-pub data Claim : Type 0 where
-  Optimal : ℕ → Claim
-  Infeasible : Claim
-  Limit : ℕ → Option ℕ → Claim
-
--- every legal plan costs at least this
-abbrev pub CostsAtLeast : BookSeen → ℕ → Type 0
-CostsAtLeast book low = (plan : List (List ℕ)) → IsLegalPlan book plan → low ≤ plan_cost book plan
+-- what each plan costs, in cost units
+abbrev pub Costs : Type 0
+Costs = List (List ℕ) → ℕ
 
 -- no plan is legal
 abbrev pub HasNoPlan : BookSeen → Type 0
 HasNoPlan book = (plan : List (List ℕ)) → ¬ IsLegalPlan book plan
 
+-- every legal plan costs at least this
+abbrev pub CostsAtLeastBy : Costs → BookSeen → ℕ → Type 0
+CostsAtLeastBy costs book low = (plan : List (List ℕ)) → IsLegalPlan book plan → low ≤ costs plan
+
 -- the plan is legal and costs this
-pub record IsPlanOf (book : BookSeen) (cost : ℕ) (plan : List (List ℕ)) : Type 0 where
+pub record IsPlanBy (cost_of : Costs) (book : BookSeen) (cost : ℕ) (plan : List (List ℕ)) : Type 0 where
   pub legal : IsLegalPlan book plan
-  pub costs : plan_cost book plan ≡ cost
+  pub costs : cost_of plan ≡ cost
 
 -- some legal plan costs this
-abbrev pub SomePlanCosts : BookSeen → ℕ → Type 0
-SomePlanCosts book cost = (plan : List (List ℕ)) × IsPlanOf book cost plan
+abbrev pub SomePlanCostsBy : Costs → BookSeen → ℕ → Type 0
+SomePlanCostsBy costs book cost = (plan : List (List ℕ)) × IsPlanBy costs book cost plan
 
 -- a claim is true: some legal plan costs this and none costs less; or no plan is legal; or the bound holds, and where a
 -- plan was found, one costs what is claimed, which lies above the bound
-abbrev pub IsTrueClaim : BookSeen → Claim → Type 0
-IsTrueClaim book (Optimal cost) = SomePlanCosts book cost × CostsAtLeast book cost
-IsTrueClaim book Infeasible = HasNoPlan book
-IsTrueClaim book (Limit low None) = CostsAtLeast book low
-IsTrueClaim book (Limit low (Some high)) = (low < high) × SomePlanCosts book high × CostsAtLeast book low
+abbrev pub IsTrueClaimBy : Costs → BookSeen → Claim → Type 0
+IsTrueClaimBy costs book (Optimal cost) = SomePlanCostsBy costs book cost × CostsAtLeastBy costs book cost
+IsTrueClaimBy costs book Infeasible = HasNoPlan book
+IsTrueClaimBy costs book (Limit low None) = CostsAtLeastBy costs book low
+IsTrueClaimBy costs book (Limit low (Some high)) = (low < high) × SomePlanCostsBy costs book high × CostsAtLeastBy costs book low
 
 -- what an answer claims
 abbrev pub claim_of : Outcome → Claim
@@ -45,13 +46,39 @@ claim_of (outcome.Between plan low high nodes) = Limit low (Some high)
 claim_of (outcome.Above low nodes) = Limit low None
 
 -- the plan of an answer, where it has one, is legal and has the cost that stands beside it
-abbrev pub HasItsPlan : BookSeen → Outcome → Type 0
-HasItsPlan book (outcome.Optimal plan cost) = IsPlanOf book cost plan
-HasItsPlan book outcome.Infeasible = ⊤
-HasItsPlan book (outcome.Between plan low high nodes) = IsPlanOf book high plan
-HasItsPlan book (outcome.Above low nodes) = ⊤
+abbrev pub HasItsPlanBy : Costs → BookSeen → Outcome → Type 0
+HasItsPlanBy costs book (outcome.Optimal plan cost) = IsPlanBy costs book cost plan
+HasItsPlanBy costs book outcome.Infeasible = ⊤
+HasItsPlanBy costs book (outcome.Between plan low high nodes) = IsPlanBy costs book high plan
+HasItsPlanBy costs book (outcome.Above low nodes) = ⊤
 
 -- an answer is true where its claim is, and its plan is what it says
-pub record IsTrueOutcome (book : BookSeen) (answer : Outcome) : Type 0 where
-  pub claim : IsTrueClaim book (claim_of answer)
-  pub plan : HasItsPlan book answer
+pub record IsTrueOutcomeBy (costs : Costs) (book : BookSeen) (answer : Outcome) : Type 0 where
+  pub claim : IsTrueClaimBy costs book (claim_of answer)
+  pub plan : HasItsPlanBy costs book answer
+
+-- the same by what the book itself says that plans cost
+abbrev pub CostsAtLeast : BookSeen → ℕ → Type 0
+CostsAtLeast book = CostsAtLeastBy (plan_cost book) book
+
+abbrev pub IsPlanOf : BookSeen → ℕ → List (List ℕ) → Type 0
+IsPlanOf book = IsPlanBy (plan_cost book) book
+
+abbrev pub IsTrueClaim : BookSeen → Claim → Type 0
+IsTrueClaim book = IsTrueClaimBy (plan_cost book) book
+
+abbrev pub IsTrueOutcome : BookSeen → Outcome → Type 0
+IsTrueOutcome book = IsTrueOutcomeBy (plan_cost book) book
+
+-- and by what a table for the book says
+abbrev pub CostsAtLeastIn : CostTableSeen → BookSeen → ℕ → Type 0
+CostsAtLeastIn table book = CostsAtLeastBy (plan_cost_in table book) book
+
+abbrev pub IsPlanIn : CostTableSeen → BookSeen → ℕ → List (List ℕ) → Type 0
+IsPlanIn table book = IsPlanBy (plan_cost_in table book) book
+
+abbrev pub IsTrueClaimIn : CostTableSeen → BookSeen → Claim → Type 0
+IsTrueClaimIn table book = IsTrueClaimBy (plan_cost_in table book) book
+
+abbrev pub IsTrueOutcomeIn : CostTableSeen → BookSeen → Outcome → Type 0
+IsTrueOutcomeIn table book = IsTrueOutcomeBy (plan_cost_in table book) book

@@ -3,10 +3,49 @@
 ghost use Rattle.tail_book.specs.Rising.{LinksRise, LegalRoutesRise, EachIsFlownOnce};
 ghost use Rattle.tail_book.specs.Bounds.{ActivitiesCostAtMost, ConnectionsCostAtMost, LegalPlansCostAtMost};
 ghost use Rattle.tail_book.specs.Sound.{IsBook};
-ghost use Rattle.tail_book.specs.TableLaws.{OwnCostsAreForBook, OwnCostsOfActivities, OwnCostsOfConnections, OwnCostsOfRoutes, OwnCostsOfPlans, OwnCostsOfLegalPlans, LegalPlansCostAtMostIn};
+ghost use Rattle.tail_book.specs.TableLaws.{OwnCostsAreForBook, OwnCostsOfActivities, OwnCostsOfConnections, OwnCostsOfRoutes, OwnCostsOfPlans, OwnCostsOfLegalPlans, OwnCostsKeepClaims, OwnCostsKeepOutcomes, LegalPlansCostAtMostIn};
+ghost use Rattle.tail_book.specs.SoundTests.{BookDecides, CostTableDecides};
 ghost use Rattle.tail_book.specs.Tests.{AllowedDecides, LinkDecides, LimitsDecide, LegalRouteDecides, LegalPlanDecides};
 
+mod along;
+mod bounds;
+mod fliers;
+mod flown;
+mod one_more;
+mod order;
+mod renumbered;
+mod sums;
+
 use crate::Book;
+pub use along::{counters_along_step, legal_is_legal_along};
+pub use bounds::{
+    reduced_costs_are_small, rising_routes_are_below, rising_routes_are_short,
+    rising_routes_cost_at_most, rising_routes_cost_at_most_in, routes_cost_at_most,
+    routes_cost_at_most_in,
+};
+pub use fliers::{
+    fliers_fly, fliers_of_their_plan, plans_by_fliers_are_legal, plans_by_fliers_partition,
+    plans_of_their_fliers, routes_by_fliers_rise,
+};
+pub use flown::{
+    flown_is_count, flown_once_decides, flown_once_is_in_one_route, flown_with_one_more,
+    least_not_once_is_least, never_flown_is_nowhere, times_with_one_more_route,
+};
+pub use one_more::{
+    cost_with_one_more, cost_with_one_more_in, counters_with_one_more, legal_with_one_more,
+    place_with_one_more, rising_with_one_more,
+};
+pub use order::{
+    each_at_most_chains, each_at_most_decides, each_at_most_itself, lower_stays_legal,
+    lower_stays_within, routes_keep_count, routes_keep_order, steps_keep_count, steps_keep_order,
+};
+pub use renumbered::{
+    renumbered_routes_are_legal, renumbered_routes_cost, renumbered_routes_count,
+};
+pub use sums::{
+    legal_plans_fly_all, legal_plans_fly_the_book, legal_plans_partition, length_of_partition,
+    total_by_number, total_of_legal_plan, total_of_partition, total_of_routes, total_of_two_lists,
+};
 
 /// What comes directly after an activity has a larger number.
 pub fn links_rise()
@@ -68,6 +107,16 @@ pub fn own_costs_of_legal_plans()
     ensures { OwnCostsOfLegalPlans }
 {}
 
+/// A claim is true by the book's own costs exactly where it is true of the book.
+pub fn own_costs_keep_claims()
+    ensures { OwnCostsKeepClaims }
+{}
+
+/// An answer is true by the book's own costs exactly where it is true of the book.
+pub fn own_costs_keep_outcomes()
+    ensures { OwnCostsKeepOutcomes }
+{}
+
 /// By a table a legal plan costs at most what its maxima say of each activity.
 pub fn legal_plans_cost_at_most_in()
     ensures { LegalPlansCostAtMostIn }
@@ -96,6 +145,16 @@ pub fn legal_route_decides()
 /// Whether a plan is legal is decided by a test.
 pub fn legal_plan_decides()
     ensures { LegalPlanDecides }
+{}
+
+/// What every book keeps is decided by a test.
+pub fn book_decides()
+    ensures { BookDecides }
+{}
+
+/// What every cost table keeps is decided by a test.
+pub fn cost_table_decides()
+    ensures { CostTableDecides }
 {}
 
 /// Every book keeps the order, the ranges and the limits of `IsBook`.

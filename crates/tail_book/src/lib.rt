@@ -4,7 +4,9 @@
 mod activity;
 mod aircraft;
 mod book;
+mod claim;
 mod cost_table;
+mod flown;
 pub mod laws;
 mod memory;
 mod name;
@@ -13,11 +15,14 @@ mod place;
 mod plan;
 mod raw_plan;
 mod rules;
+mod sound;
 
 pub use activity::Activity;
 pub use aircraft::Tail;
 pub use book::Book;
-pub use cost_table::CostTable;
+pub use claim::Claim;
+pub use cost_table::{COST_UNIT, CostTable, band_cost};
+pub use flown::Flown;
 pub use memory::Memory;
 pub use name::Name;
 pub use outcome::Outcome;

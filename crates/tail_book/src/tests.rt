@@ -1,32 +1,50 @@
-//! A small book, and what its activities cost by its table.
-
-ghost use Rattle.std.specs.Prelude.{◌≡◌, ◌≢◌, ◌≤◌, ◌≤ℤ◌, ◌+ℤ◌, pos, [], ◌∷◌, IfOk, IsTrue, None, length, All, AllPairs};
-ghost use Rattle.tail_book.specs.Name.{is_name};
-ghost use Rattle.tail_book.specs.Sound.{IsWithin, IsActivity, IsTail, IsRules, comes_before};
+//! A small book and what its activities cost by its table, and where a book or a table breaks a limit.
 
 use crate::*;
 use std::alloc::Global;
 use std::test::Fail;
 
+// What a test changes of the book: its first activity, its second aircraft, its first type and its airport.
+#[derive(Clone, Copy)]
+struct Parts {
+    id: Name,
+    start: i64,
+    end: i64,
+    tail: Option<u32>,
+    name: Name,
+    kind: u32,
+    fixed: u64,
+    rate: u64,
+    turn: i64,
+    offset: i64,
+    upto: i64,
+}
+
+fn whole_parts() -> Parts {
+    Parts {
+        id: Name::new(b"F1".as_slice()),
+        start: 360,
+        end: 420,
+        tail: None,
+        name: Name::new(b"A2".as_slice()),
+        kind: 1,
+        fixed: 0,
+        rate: 1,
+        turn: 30,
+        offset: 60,
+        upto: 60,
+    }
+}
+
 // At one airport: flights to and from it, and ground time.
 fn activity(
     alloc: Global,
-    rules: &Rules,
-    id: &[u8; 2],
+    id: Name,
     flight: bool,
     start: i64,
-    minutes: i64,
-) -> Activity
-    requires airports { length rules.now.airports ≡ 1 }
-    requires id { IsTrue (is_name id.now) }
-    requires start { IsWithin (pos 0) (pos 10_000) start }
-    requires minutes { IsWithin (pos 1) (pos 2880) minutes }
-    ensures start { result.start ≡ start }
-    ensures id { result.id ≡ id.now }
-    ensures sound { IsActivity rules.now 2 result }
-{
-    let (types, tags, resets) = (Vec::new(alloc), Vec::new(alloc), Vec::new(alloc));
-    let (id, end) = (Name::new(id.as_slice()), start + minutes);
+    end: i64,
+    tail: Option<u32>,
+) -> Activity {
     Activity {
         id,
         flight,
@@ -34,48 +52,33 @@ fn activity(
         to: 0,
         start,
         end,
-        types,
-        tags,
-        tail: None,
-        resets,
+        types: Vec::new(alloc),
+        tags: Vec::new(alloc),
+        tail,
+        resets: Vec::new(alloc),
     }
 }
 
-fn tail(alloc: Global, rules: &Rules, name: &[u8; 2], kind: u32, fixed: u64) -> Tail
-    requires airports { length rules.now.airports ≡ 1 }
-    requires kinds { length rules.now.kinds ≡ 2 }
-    requires counters { length rules.now.counters ≡ 0 }
-    requires name { IsTrue (is_name name.now) }
-    requires kind { kind ≤ 1 }
-    requires fixed { fixed ≤ 100_000 }
-    ensures name { result.name ≡ name.now }
-    ensures sound { IsTail rules.now result }
-{
-    let (tags, avoid, carry) = (Vec::new(alloc), Vec::new(alloc), Vec::new(alloc));
+fn tail(alloc: Global, name: Name, kind: u32, fixed: u64) -> Tail {
     Tail {
-        name: Name::new(name.as_slice()),
+        name,
         kind,
         at: 0,
         ready: 0,
         fixed,
-        tags,
-        avoid,
-        carry,
+        tags: Vec::new(alloc),
+        avoid: Vec::new(alloc),
+        carry: Vec::new(alloc),
     }
 }
 
 // A type that costs 1 a minute, and one that costs 3; a stop of up to an hour costs 5, a longer one 40.
-fn rules(alloc: Global) -> Result<Rules, Memory>
-    ensures sound { IfOk result IsRules }
-    ensures kinds { IfOk result (λ r. length r.kinds ≡ 2) }
-    ensures airports { IfOk result (λ r. length r.airports ≡ 1) }
-    ensures counters { IfOk result (λ r. length r.counters ≡ 0) }
-{
+fn rules(alloc: Global, parts: Parts) -> Result<Rules, Memory> {
     let kinds = vec![in alloc;
         AircraftType {
             name: Name::new(b"P".as_slice()),
-            rate: 1,
-            turn: 30
+            rate: parts.rate,
+            turn: parts.turn
         },
         AircraftType {
             name: Name::new(b"Q".as_slice()),
@@ -83,16 +86,18 @@ fn rules(alloc: Global) -> Result<Rules, Memory>
             turn: 30
         },
     ]?;
-    let arn = Name::new(b"ARN".as_slice());
     let airports = vec![in alloc;
         Airport {
-            name: arn,
-            offset: 60,
+            name: Name::new(b"ARN".as_slice()),
+            offset: parts.offset,
             turn: 30
         },
     ]?;
     let bands = vec![in alloc;
-        Band { upto: 60, cost: 5 },
+        Band {
+            upto: parts.upto,
+            cost: 5
+        },
         Band {
             upto: 10_000_000,
             cost: 40
@@ -107,51 +112,26 @@ fn rules(alloc: Global) -> Result<Rules, Memory>
     })
 }
 
-fn tails(alloc: Global, rules: &Rules) -> Result<Vec<Tail>, Memory>
-    requires airports { length rules.now.airports ≡ 1 }
-    requires kinds { length rules.now.kinds ≡ 2 }
-    requires counters { length rules.now.counters ≡ 0 }
-    ensures each { IfOk result (λ v. All (IsTail rules.now) v.items) }
-    ensures names { IfOk result (λ v. AllPairs (λ a b. a.name ≢ b.name) v.items) }
-    ensures count { IfOk result (λ v. length v.items ≡ 2) }
-{
-    let listed = vec![in alloc;
-        tail(alloc, rules, b"A1", 0, 7),
-        tail(alloc, rules, b"A2", 1, 0),
+fn book(alloc: Global, parts: Parts) -> Result<Option<Book>, Memory> {
+    let (ground, second) = (Name::new(b"G1".as_slice()), Name::new(b"F2".as_slice()));
+    let activities = vec![in alloc;
+        activity(alloc, parts.id, true, parts.start, parts.end, parts.tail),
+        activity(alloc, ground, false, 450, 550, None),
+        activity(alloc, second, true, 600, 630, None),
     ]?;
-    Ok(listed)
-}
-
-fn activities(alloc: Global, rules: &Rules) -> Result<Vec<Activity>, Memory>
-    requires airports { length rules.now.airports ≡ 1 }
-    ensures each { IfOk result (λ v. All (IsActivity rules.now 2) v.items) }
-    ensures order { IfOk result (λ v. AllPairs (λ a b. IsTrue (comes_before a b)) v.items) }
-    ensures ids { IfOk result (λ v. AllPairs (λ a b. a.id ≢ b.id) v.items) }
-    ensures count { IfOk result (λ v. length v.items ≡ 3) }
-{
-    let listed = vec![in alloc;
-        activity(alloc, rules, b"F1", true, 360, 60),
-        activity(alloc, rules, b"G1", false, 450, 100),
-        activity(alloc, rules, b"F2", true, 600, 30),
+    let tails = vec![in alloc;
+        tail(alloc, Name::new(b"A1".as_slice()), 0, 7),
+        tail(alloc, parts.name, parts.kind, parts.fixed),
     ]?;
-    Ok(listed)
-}
-
-fn book(alloc: Global) -> Result<Book, Memory> {
-    let rules = rules(alloc)?;
-    let tails = tails(alloc, &rules)?;
-    let activities = activities(alloc, &rules)?;
-    Ok(Book {
-        activities,
-        tails,
-        rules,
-    })
+    Ok(Book::new(activities, tails, rules(alloc, parts)?))
 }
 
 // An hour, ground time and half an hour: 7 for each activity beside 1 a minute, and 3 a minute alone.
 #[test]
 fn own_costs(rt: HostRuntime) -> Result<(), Fail> {
-    let book = book(rt.alloc())?;
+    let Some(book) = book(rt.alloc(), whole_parts())? else {
+        return Err(Fail::new("no book"));
+    };
     let table = CostTable::of(rt.alloc(), &book)?;
     assert_eq!(rt; (table.n, table.m), (3, 2));
     assert_eq!(rt; table.fly.as_slice(), [67, 7, 37, 180, 0, 90].as_slice());
@@ -162,5 +142,177 @@ fn own_costs(rt: HostRuntime) -> Result<(), Fail> {
         (10_000_000, 40)
     );
     assert_eq!(rt; (table.fly_max, table.band_max), (1_000_000, 1_000_000));
+    Ok(())
+}
+
+// Each limit, and a step beyond it.
+#[test]
+fn limits_of_a_book(rt: HostRuntime) -> Result<(), Fail> {
+    let whole = whole_parts();
+    for (row, (parts, kept)) in [
+        (whole, true),
+        (Parts { start: 0, ..whole }, true),
+        (Parts { start: -1, ..whole }, false),
+        (Parts { end: 361, ..whole }, true),
+        (Parts { end: 360, ..whole }, false),
+        (Parts { end: 3240, ..whole }, true),
+        (Parts { end: 3241, ..whole }, false),
+        (
+            Parts {
+                tail: Some(1),
+                ..whole
+            },
+            true,
+        ),
+        (
+            Parts {
+                tail: Some(2),
+                ..whole
+            },
+            false,
+        ),
+        (Parts { kind: 2, ..whole }, false),
+        (
+            Parts {
+                fixed: 100_000,
+                ..whole
+            },
+            true,
+        ),
+        (
+            Parts {
+                fixed: 100_001,
+                ..whole
+            },
+            false,
+        ),
+        (Parts { rate: 300, ..whole }, true),
+        (Parts { rate: 301, ..whole }, false),
+        (
+            Parts {
+                turn: 1440,
+                ..whole
+            },
+            true,
+        ),
+        (
+            Parts {
+                turn: 1441,
+                ..whole
+            },
+            false,
+        ),
+        (
+            Parts {
+                offset: -840,
+                ..whole
+            },
+            true,
+        ),
+        (
+            Parts {
+                offset: -841,
+                ..whole
+            },
+            false,
+        ),
+        (
+            Parts {
+                upto: 10_000_000,
+                ..whole
+            },
+            true,
+        ),
+        (
+            Parts {
+                upto: 10_000_001,
+                ..whole
+            },
+            false,
+        ),
+    ]
+    .into_iter()
+    .enumerate()
+    {
+        assert_eq!(rt; book(rt.alloc(), parts)?.is_some(), kept, "in row {row}");
+    }
+    Ok(())
+}
+
+// Activities stand in order of start and then id, and no name stands twice.
+#[test]
+fn order_and_names_of_a_book(rt: HostRuntime) -> Result<(), Fail> {
+    let whole = whole_parts();
+    let (before, after) = (Name::new(b"F9".as_slice()), Name::new(b"G2".as_slice()));
+    let (ground, first) = (Name::new(b"G1".as_slice()), Name::new(b"A1".as_slice()));
+    for (row, (parts, kept)) in [
+        (
+            Parts {
+                start: 451,
+                end: 500,
+                ..whole
+            },
+            false,
+        ),
+        (
+            Parts {
+                id: before,
+                start: 450,
+                end: 500,
+                ..whole
+            },
+            true,
+        ),
+        (
+            Parts {
+                id: after,
+                start: 450,
+                end: 500,
+                ..whole
+            },
+            false,
+        ),
+        (
+            Parts {
+                id: ground,
+                ..whole
+            },
+            false,
+        ),
+        (
+            Parts {
+                name: first,
+                ..whole
+            },
+            false,
+        ),
+    ]
+    .into_iter()
+    .enumerate()
+    {
+        assert_eq!(rt; book(rt.alloc(), parts)?.is_some(), kept, "in row {row}");
+    }
+    Ok(())
+}
+
+// An entry and a band at their maxima, and sums of costs up to 2^61 thousandths.
+#[test]
+fn limits_of_a_table(rt: HostRuntime) -> Result<(), Fail> {
+    for (n, fly_max, band_max, kept) in [
+        (1, 5, 7, true),
+        (1, 4, 7, false),
+        (1, 5, 6, false),
+        (1, 1_152_921_504_606_839, 7, true),
+        (1, 1_152_921_504_606_840, 7, false),
+        (1, u64::MAX, u64::MAX, false),
+        (0, u64::MAX, u64::MAX, true),
+        (2_305_843_009_213_694, 5, 7, false),
+        (usize::MAX, 5, 7, false),
+    ] {
+        let fly = vec![in rt.alloc(); 5]?;
+        let bands = vec![in rt.alloc(); Band { upto: 60, cost: 7 }]?;
+        let table = CostTable::new(n, 1, fly, bands, fly_max, band_max);
+        assert_eq!(rt; table.is_some(), kept, "with {n}, {fly_max} and {band_max}");
+    }
     Ok(())
 }

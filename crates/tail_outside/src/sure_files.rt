@@ -1,6 +1,6 @@
 //! Files in memory that never fail: each takes its room when they are made.
 //! A piece that passes its file's room is dropped, and nothing is told of that file from then on.
-//! A name that no file has is read as an empty file, and what is written under it is dropped.
+//! Under any other name there is nothing to read, and a write leaves nothing behind.
 
 ghost use Rattle.std.specs.Prelude.{◌≡◌, ◌≢◌, ◌≤◌, ◌^◌, ℕ, List, length, map, option_map, position, IfOk, IsOk};
 ghost use Rattle.std.specs.Str.{bytes_eq};

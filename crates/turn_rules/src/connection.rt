@@ -8,8 +8,8 @@ ghost use Rattle.tail_book.specs.Lookup.{activities, aircraft, kind_of, from_por
 ghost use Rattle.tail_book.specs.Numbers.{int_le};
 ghost use Rattle.tail_book.specs.Link.{IsLink, port, free_from, gap, turn_time};
 ghost use Rattle.tail_book.specs.Sound.{IsWithin, IsMoment};
-ghost use Rattle.tail_book.specs.Tests.{is_link, is_allowed_at};
-ghost use Rattle.turn_rules.specs.InRange.{IsPlaceOf};
+ghost use Rattle.tail_book.specs.Tests.{is_allowed_at, is_connected, is_link};
+ghost use Rattle.tail_book.specs.Place.{IsPlaceOf};
 ghost use Rattle.turn_rules.specs.FreeBefore.{IsFreeBefore};
 
 use crate::permission::allowed;
@@ -122,7 +122,7 @@ fn allowed_at(book: &Book, k: u32, from: Place) -> bool
 }
 
 /// Whether an activity starts at the airport of a place.
-pub fn is_there(book: &Book, k: u32, from: Place, b: u32) -> bool
+fn is_there(book: &Book, k: u32, from: Place, b: u32) -> bool
     requires aircraft { k < aircraft book.now }
     requires place { IsPlaceOf book.now from }
     requires activity { b < activities book.now }
@@ -144,7 +144,7 @@ pub fn earliest_start(book: &Book, k: u32, from: Place, b: u32) -> i64
 }
 
 /// Whether an activity starts no earlier than the turn after a place.
-pub fn is_in_time(book: &Book, k: u32, from: Place, b: u32) -> bool
+fn is_in_time(book: &Book, k: u32, from: Place, b: u32) -> bool
     requires aircraft { k < aircraft book.now }
     requires place { IsPlaceOf book.now from }
     requires activity { b < activities book.now }
@@ -154,7 +154,20 @@ pub fn is_in_time(book: &Book, k: u32, from: Place, b: u32) -> bool
     earliest_start(book, k, from, b) <= start_of(book, b)
 }
 
+/// Whether an activity starts where an aircraft is, and no earlier than the turn after its place.
+#[tactic(auto, unfolding(tail_book::specs::Tests::is_connected))]
+pub fn connected(book: &Book, k: u32, from: Place, b: u32) -> bool
+    requires aircraft { k < aircraft book.now }
+    requires place { IsPlaceOf book.now from }
+    requires activity { b < activities book.now }
+    ensures value { result ≡ is_connected book.now k from b }
+    ensures forward { IsTrue result → IsFreeBefore book.now k from b }
+{
+    is_there(book, k, from, b) && is_in_time(book, k, from, b)
+}
+
 /// Whether an activity may come directly after a place of an aircraft.
+#[tactic(auto, unfolding(tail_book::specs::Tests::is_link))]
 pub fn link(book: &Book, k: u32, from: Place, b: u32) -> bool
     requires aircraft { k < aircraft book.now }
     requires place { IsPlaceOf book.now from }
@@ -164,8 +177,5 @@ pub fn link(book: &Book, k: u32, from: Place, b: u32) -> bool
     ensures forward { IsTrue result → IsFreeBefore book.now k from b }
 {
     link_decides();
-    is_there(book, k, from, b)
-        && is_in_time(book, k, from, b)
-        && allowed_at(book, k, from)
-        && allowed(book, k, b)
+    connected(book, k, from, b) && allowed_at(book, k, from) && allowed(book, k, b)
 }

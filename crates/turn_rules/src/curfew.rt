@@ -12,7 +12,7 @@ ghost use Rattle.tail_book.specs.Curfew.{local_minute, in_window, covers_type, f
 use tail_book::{Book, Curfew};
 
 /// The minute of the airport's local day.
-fn local_minute(book: &Book, port: u32, moment: i64) -> i64
+pub fn local_minute(book: &Book, port: u32, moment: i64) -> i64
     requires port { port < length book.now.rules.airports }
     requires moment { IsMoment moment }
     ensures { result ≡ local_minute book.now port moment }
@@ -21,7 +21,7 @@ fn local_minute(book: &Book, port: u32, moment: i64) -> i64
 }
 
 /// Whether a local minute lies in the daily window.
-fn in_window(from: i64, to: i64, minute: i64) -> bool
+pub fn in_window(from: i64, to: i64, minute: i64) -> bool
     ensures { result ≡ in_window from to minute }
 {
     (from < to && from <= minute && minute < to) || (to < from && (from <= minute || minute < to))

@@ -2,7 +2,7 @@
 //!
 //! Each condition has a test of its own, so that a refusal can name the one that fails.
 //! Types, tags and avoided airports are lists of at most 20 numbers, which are searched from the front.
-//! The curfews come last, since they cost most (see the module `curfew`).
+//! The curfews come last, since they cost most (see the module `curfew`). With a table of them the cheap tests come first.
 
 ghost use Rattle.std.specs.Prelude.{◌≡◌, ◌<◌, ◌↔◌, IsTrue, not};
 ghost use Rattle.std.specs.List.{list_all};
@@ -10,14 +10,16 @@ ghost use Rattle.tail_book.specs.Numbers.{contains, is_none_or};
 ghost use Rattle.tail_book.specs.Lookup.{activities, aircraft, types_of, kind_of, tags_had, tags_needed, avoided, from_port, to_port, preassigned};
 ghost use Rattle.tail_book.specs.Curfew.{covers_type};
 ghost use Rattle.tail_book.specs.Allowed.{IsAllowed};
-ghost use Rattle.tail_book.specs.Tests.{is_allowed};
+ghost use Rattle.tail_book.specs.Tests.{is_allowed, is_permitted};
+ghost use Rattle.turn_rules.specs.CurfewTable.{AreCurfewsOf};
 
 use crate::curfew::{covers_type, curfewed};
+use crate::curfew_table::{CurfewTable, curfewed_by};
 use tail_book::Book;
 use tail_book::laws::allowed_decides;
 
 /// Whether an activity may be flown by aircraft of this one's type.
-pub fn takes_type(book: &Book, k: u32, a: u32) -> bool
+fn takes_type(book: &Book, k: u32, a: u32) -> bool
     requires aircraft { k < aircraft book.now }
     requires activity { a < activities book.now }
     ensures { result ≡ covers_type (types_of book.now a) (kind_of book.now k) }
@@ -36,7 +38,7 @@ fn covers_tags(had: &[u32], needed: &[u32]) -> bool
 }
 
 /// Whether an aircraft has every tag that an activity needs.
-pub fn has_tags(book: &Book, k: u32, a: u32) -> bool
+fn has_tags(book: &Book, k: u32, a: u32) -> bool
     requires aircraft { k < aircraft book.now }
     requires activity { a < activities book.now }
     ensures { result ≡ list_all (contains (tags_had book.now k)) (tags_needed book.now a) }
@@ -48,7 +50,7 @@ pub fn has_tags(book: &Book, k: u32, a: u32) -> bool
 }
 
 /// Whether an aircraft avoids the airport where an activity starts.
-pub fn avoids_start(book: &Book, k: u32, a: u32) -> bool
+fn avoids_start(book: &Book, k: u32, a: u32) -> bool
     requires aircraft { k < aircraft book.now }
     requires activity { a < activities book.now }
     ensures { result ≡ contains (avoided book.now k) (from_port book.now a) }
@@ -59,7 +61,7 @@ pub fn avoids_start(book: &Book, k: u32, a: u32) -> bool
 }
 
 /// Whether an aircraft avoids the airport where an activity ends.
-pub fn avoids_end(book: &Book, k: u32, a: u32) -> bool
+fn avoids_end(book: &Book, k: u32, a: u32) -> bool
     requires aircraft { k < aircraft book.now }
     requires activity { a < activities book.now }
     ensures { result ≡ contains (avoided book.now k) (to_port book.now a) }
@@ -70,7 +72,7 @@ pub fn avoids_end(book: &Book, k: u32, a: u32) -> bool
 }
 
 /// Whether an activity is preassigned to nobody else.
-pub fn is_free_for(book: &Book, k: u32, a: u32) -> bool
+fn is_free_for(book: &Book, k: u32, a: u32) -> bool
     requires aircraft { k < aircraft book.now }
     requires activity { a < activities book.now }
     ensures { result ≡ is_none_or (preassigned book.now a) k }
@@ -81,7 +83,22 @@ pub fn is_free_for(book: &Book, k: u32, a: u32) -> bool
     }
 }
 
+/// Whether an aircraft may fly an activity, curfews aside.
+#[tactic(auto, unfolding(tail_book::specs::Tests::is_permitted))]
+pub fn permitted(book: &Book, k: u32, a: u32) -> bool
+    requires aircraft { k < aircraft book.now }
+    requires activity { a < activities book.now }
+    ensures { result ≡ is_permitted book.now k a }
+{
+    takes_type(book, k, a)
+        && has_tags(book, k, a)
+        && !avoids_start(book, k, a)
+        && !avoids_end(book, k, a)
+        && is_free_for(book, k, a)
+}
+
 /// Whether an aircraft may fly an activity.
+#[tactic(auto, unfolding(tail_book::specs::Tests::is_allowed))]
 pub fn allowed(book: &Book, k: u32, a: u32) -> bool
     requires aircraft { k < aircraft book.now }
     requires activity { a < activities book.now }
@@ -89,10 +106,22 @@ pub fn allowed(book: &Book, k: u32, a: u32) -> bool
     ensures tests { result ≡ is_allowed book.now k a }
 {
     allowed_decides();
-    takes_type(book, k, a)
-        && has_tags(book, k, a)
+    permitted(book, k, a) && !curfewed(book, k, a)
+}
+
+/// Whether an aircraft may fly an activity, by the book's table of curfews.
+pub fn allowed_by(book: &Book, curfews: &CurfewTable, k: u32, a: u32) -> bool
+    requires curfews { AreCurfewsOf book.now curfews.now }
+    requires aircraft { k < aircraft book.now }
+    requires activity { a < activities book.now }
+    ensures means { IsTrue result ↔ IsAllowed book.now k a }
+    ensures tests { result ≡ is_allowed book.now k a }
+{
+    allowed_decides();
+    is_free_for(book, k, a)
+        && !curfewed_by(book, curfews, k, a)
+        && takes_type(book, k, a)
         && !avoids_start(book, k, a)
         && !avoids_end(book, k, a)
-        && is_free_for(book, k, a)
-        && !curfewed(book, k, a)
+        && has_tags(book, k, a)
 }

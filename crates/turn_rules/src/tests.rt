@@ -1,13 +1,11 @@
-//! A small book, and the rules at their edges.
-
-ghost use Rattle.std.specs.Prelude.{◌≡◌, ◌≢◌, ◌<◌, ◌≤◌, ◌≤ℤ◌, ◌+ℤ◌, pos, [], IfOk, IsTrue, true, None, length, All, AllPairs};
-ghost use Rattle.tail_book.specs.Name.{is_name};
-ghost use Rattle.tail_book.specs.Sound.{is_none_or_below, IsMoment, IsActivity, IsTail, IsRules, comes_before};
+//! A small book, and the rules at their edges; and books by chance, on which the tables say what the rules say.
 
 use crate::*;
 use std::alloc::Global;
 use std::test::Fail;
 use tail_book::*;
+
+mod chance;
 
 const ARN: u32 = 0;
 
@@ -45,19 +43,8 @@ const S2: u32 = 8;
 
 const S3: u32 = 9;
 
-fn plain(
-    alloc: Global,
-    id: &[u8; 2],
-    flight: bool,
-    from: u32,
-    to: u32,
-    time: (i64, i64),
-) -> Activity
-    requires { IsTrue (is_name id.now) }
-    ensures { result ≡ record { id = id.now; flight = flight; from = from; to = to; start = time.0; end = time.1; types = []; tags = []; tail = None; resets = [] } }
-{
-    let (types, tags, resets) = (Vec::new(alloc), Vec::new(alloc), Vec::new(alloc));
-    let (id, (start, end)) = (Name::new(id.as_slice()), time);
+fn activity(alloc: Global, id: Name, flight: bool, leg: (u32, u32), time: (i64, i64)) -> Activity {
+    let ((from, to), (start, end)) = (leg, time);
     Activity {
         id,
         flight,
@@ -65,85 +52,94 @@ fn plain(
         to,
         start,
         end,
-        types,
-        tags,
+        types: Vec::new(alloc),
+        tags: Vec::new(alloc),
         tail: None,
-        resets,
+        resets: Vec::new(alloc),
     }
 }
 
-fn flight(alloc: Global, rules: &Rules, id: &[u8; 2], leg: (u32, u32), time: (i64, i64)) -> Activity
-    requires airports { length rules.now.airports ≡ 3 }
-    requires id { IsTrue (is_name id.now) }
-    requires from { leg.0 < 3 }
-    requires to { leg.1 < 3 }
-    requires starts { IsMoment time.0 }
-    requires ends { IsMoment time.1 }
-    requires lasts { (time.0 +ℤ pos 1) ≤ℤ time.1 }
-    requires short { time.1 ≤ℤ (time.0 +ℤ pos 2880) }
-    ensures start { result.start ≡ time.0 }
-    ensures id { result.id ≡ id.now }
-    ensures sound { IsActivity rules.now 2 result }
-{
-    plain(alloc, id, true, leg.0, leg.1, time)
-}
-
-fn ground(alloc: Global, rules: &Rules, id: &[u8; 2], at: u32, time: (i64, i64)) -> Activity
-    requires airports { length rules.now.airports ≡ 3 }
-    requires id { IsTrue (is_name id.now) }
-    requires at { at < 3 }
-    requires starts { IsMoment time.0 }
-    requires ends { IsMoment time.1 }
-    requires lasts { (time.0 +ℤ pos 1) ≤ℤ time.1 }
-    requires short { time.1 ≤ℤ (time.0 +ℤ pos 2880) }
-    ensures start { result.start ≡ time.0 }
-    ensures id { result.id ≡ id.now }
-    ensures sound { IsActivity rules.now 2 result }
-{
-    plain(alloc, id, false, at, at, time)
+fn flight(alloc: Global, id: Name, leg: (u32, u32), time: (i64, i64)) -> Activity {
+    activity(alloc, id, true, leg, time)
 }
 
 // The same activity, asking for types, tags and an aircraft.
-fn asking(
-    mut activity: Activity,
-    rules: &Rules,
-    types: Vec<u32>,
-    tags: Vec<u32>,
-    tail: Option<u32>,
-) -> Activity
-    requires sound { IsActivity rules.now 2 activity }
-    requires types { All (λ t. t < length rules.now.kinds) types.items }
-    requires few_types { length types.items ≤ 20 }
-    requires few_tags { length tags.items ≤ 20 }
-    requires tail { IsTrue (is_none_or_below tail 2) }
-    ensures start { result.start ≡ activity.start }
-    ensures id { result.id ≡ activity.id }
-    ensures sound { IsActivity rules.now 2 result }
-{
+fn asking(mut activity: Activity, types: Vec<u32>, tags: Vec<u32>, tail: Option<u32>) -> Activity {
     activity.types = types;
     activity.tags = tags;
     activity.tail = tail;
     activity
 }
 
+fn tail(
+    alloc: Global,
+    name: Name,
+    kind: u32,
+    place: (u32, i64),
+    tags: Vec<u32>,
+    avoid: Vec<u32>,
+) -> Tail {
+    let (at, ready) = place;
+    Tail {
+        name,
+        kind,
+        at,
+        ready,
+        fixed: 0,
+        tags,
+        avoid,
+        carry: Vec::new(alloc),
+    }
+}
+
+fn kind(name: Name, turn: i64) -> AircraftType {
+    AircraftType {
+        name,
+        rate: 10,
+        turn,
+    }
+}
+
+fn rules(
+    alloc: Global,
+    kinds: Vec<AircraftType>,
+    airports: Vec<Airport>,
+    curfews: Vec<Curfew>,
+) -> Rules {
+    Rules {
+        kinds,
+        airports,
+        curfews,
+        counters: Vec::new(alloc),
+        bands: Vec::new(alloc),
+    }
+}
+
 // ARN is closed for landings at night, and OSL for starts of the E190 from 08:00 to 08:30 local time.
-fn rules(alloc: Global) -> Result<Rules, Memory>
-    ensures sound { IfOk result IsRules }
-    ensures kinds { IfOk result (λ r. length r.kinds ≡ 2) }
-    ensures airports { IfOk result (λ r. length r.airports ≡ 3) }
-    ensures counters { IfOk result (λ r. length r.counters ≡ 0) }
-{
+fn small_curfews(alloc: Global) -> Result<Vec<Curfew>, Memory> {
+    let night = Curfew {
+        airport: ARN,
+        from: 1380,
+        to: 360,
+        types: Vec::new(alloc),
+        starts: false,
+        landings: true,
+    };
+    let morning = Curfew {
+        airport: OSL,
+        from: 480,
+        to: 510,
+        types: vec![in alloc; E190]?,
+        starts: true,
+        landings: false,
+    };
+    Ok(vec![in alloc; night, morning]?)
+}
+
+fn small_rules(alloc: Global) -> Result<Rules, Memory> {
     let kinds = vec![in alloc;
-        AircraftType {
-            name: Name::new(b"A320".as_slice()),
-            rate: 10,
-            turn: 40
-        },
-        AircraftType {
-            name: Name::new(b"E190".as_slice()),
-            rate: 10,
-            turn: 20
-        },
+        kind(Name::new(b"A320".as_slice()), 40),
+        kind(Name::new(b"E190".as_slice()), 20),
     ]?;
     let airports = vec![in alloc;
         Airport {
@@ -162,105 +158,52 @@ fn rules(alloc: Global) -> Result<Rules, Memory>
             turn: 60
         },
     ]?;
-    let e190 = vec![in alloc; E190]?;
-    let curfews = vec![in alloc;
-        Curfew {
-            airport: ARN,
-            from: 1380,
-            to: 360,
-            types: Vec::new(alloc),
-            starts: false,
-            landings: true
-        },
-        Curfew {
-            airport: OSL,
-            from: 480,
-            to: 510,
-            types: e190,
-            starts: true,
-            landings: false
-        },
-    ]?;
-    Ok(Rules {
-        kinds,
-        airports,
-        curfews,
-        counters: Vec::new(alloc),
-        bands: Vec::new(alloc),
-    })
+    Ok(rules(alloc, kinds, airports, small_curfews(alloc)?))
 }
 
-fn tails(alloc: Global, rules: &Rules) -> Result<Vec<Tail>, Memory>
-    requires kinds { length rules.now.kinds ≡ 2 }
-    requires airports { length rules.now.airports ≡ 3 }
-    requires counters { length rules.now.counters ≡ 0 }
-    ensures each { IfOk result (λ v. All (IsTail rules.now) v.items) }
-    ensures names { IfOk result (λ v. AllPairs (λ a b. a.name ≢ b.name) v.items) }
-    ensures count { IfOk result (λ v. length v.items ≡ 2) }
-{
+fn small_tails(alloc: Global) -> Result<Vec<Tail>, Memory> {
     let (a, b) = (Name::new(b"SE-A".as_slice()), Name::new(b"SE-B".as_slice()));
     let (tags, avoid) = (vec![in alloc; 7]?, vec![in alloc; JFK]?);
     Ok(vec![in alloc;
-        Tail {
-            name: a,
-            kind: A320,
-            at: ARN,
-            ready: 360,
-            fixed: 0,
-            tags,
-            avoid,
-            carry: Vec::new(alloc)
-        },
-        Tail {
-            name: b,
-            kind: E190,
-            at: OSL,
-            ready: 450,
-            fixed: 0,
-            tags: Vec::new(alloc),
-            avoid: Vec::new(alloc),
-            carry: Vec::new(alloc)
-        },
+        tail(alloc, a, A320, (ARN, 360), tags, avoid),
+        tail(alloc, b, E190, (OSL, 450), Vec::new(alloc), Vec::new(alloc)),
     ]?)
 }
 
-fn activities(alloc: Global, rules: &Rules) -> Result<Vec<Activity>, Memory>
-    requires kinds { length rules.now.kinds ≡ 2 }
-    requires airports { length rules.now.airports ≡ 3 }
-    requires counters { length rules.now.counters ≡ 0 }
-    ensures each { IfOk result (λ v. All (IsActivity rules.now 2) v.items) }
-    ensures order { IfOk result (λ v. AllPairs (λ a b. IsTrue (comes_before a b)) v.items) }
-    ensures ids { IfOk result (λ v. AllPairs (λ a b. a.id ≢ b.id) v.items) }
-    ensures count { IfOk result (λ v. length v.items ≡ 10) }
-{
-    let s1 = flight(alloc, rules, b"S1", (OSL, ARN), (1000, 1010));
-    let s2 = flight(alloc, rules, b"S2", (OSL, ARN), (1001, 1011));
-    let s3 = flight(alloc, rules, b"S3", (OSL, ARN), (1002, 1012));
+fn small_activities(alloc: Global) -> Result<Vec<Activity>, Memory> {
+    let (s1, s2, s3) = (
+        Name::new(b"S1".as_slice()),
+        Name::new(b"S2".as_slice()),
+        Name::new(b"S3".as_slice()),
+    );
+    let s1 = flight(alloc, s1, (OSL, ARN), (1000, 1010));
+    let s2 = flight(alloc, s2, (OSL, ARN), (1001, 1011));
+    let s3 = flight(alloc, s3, (OSL, ARN), (1002, 1012));
     let both = vec![in alloc; A320, E190]?;
-    let listed = vec![in alloc;
-        flight(alloc, rules, b"F1", (ARN, OSL), (360, 420)),
-        ground(alloc, rules, b"G1", OSL, (421, 441)),
-        flight(alloc, rules, b"F2", (OSL, ARN), (449, 509)),
-        flight(alloc, rules, b"F3", (OSL, ARN), (450, 510)),
-        flight(alloc, rules, b"F4", (OSL, JFK), (460, 900)),
-        flight(alloc, rules, b"F5", (JFK, ARN), (960, 1319)),
-        flight(alloc, rules, b"F6", (JFK, ARN), (961, 1320)),
-        asking(s1, rules, vec![in alloc; E190]?, Vec::new(alloc), None),
-        asking(s2, rules, Vec::new(alloc), vec![in alloc; 7]?, None),
-        asking(s3, rules, both, Vec::new(alloc), Some(B)),
-    ]?;
-    Ok(listed)
+    Ok(vec![in alloc;
+        flight(alloc, Name::new(b"F1".as_slice()), (ARN, OSL), (360, 420)),
+        activity(
+            alloc,
+            Name::new(b"G1".as_slice()),
+            false,
+            (OSL, OSL),
+            (421, 441)
+        ),
+        flight(alloc, Name::new(b"F2".as_slice()), (OSL, ARN), (449, 509)),
+        flight(alloc, Name::new(b"F3".as_slice()), (OSL, ARN), (450, 510)),
+        flight(alloc, Name::new(b"F4".as_slice()), (OSL, JFK), (460, 900)),
+        flight(alloc, Name::new(b"F5".as_slice()), (JFK, ARN), (960, 1319)),
+        flight(alloc, Name::new(b"F6".as_slice()), (JFK, ARN), (961, 1320)),
+        asking(s1, vec![in alloc; E190]?, Vec::new(alloc), None),
+        asking(s2, Vec::new(alloc), vec![in alloc; 7]?, None),
+        asking(s3, both, Vec::new(alloc), Some(B)),
+    ]?)
 }
 
-pub fn book(alloc: Global) -> Result<Book, Memory> {
-    let rules = rules(alloc)?;
-    let tails = tails(alloc, &rules)?;
-    let activities = activities(alloc, &rules)?;
-    Ok(Book {
-        activities,
-        tails,
-        rules,
-    })
+pub fn book(alloc: Global) -> Result<Book, Fail> {
+    let (activities, tails) = (small_activities(alloc)?, small_tails(alloc)?);
+    let book = Book::new(activities, tails, small_rules(alloc)?);
+    Ok(book.ok_or("no book")?)
 }
 
 // The types first, then tags, preassignment, avoided airports at either end, and the curfews.

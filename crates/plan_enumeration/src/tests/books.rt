@@ -1,11 +1,6 @@
-//! Small books as values. Each part is looked over as it is put in, and a test that breaks a limit ends there.
-
-ghost use Rattle.std.specs.Prelude.{◌≡◌, ◌≢◌, ◌<◌, ◌≤◌, ◌≤ℤ◌, ◌+ℤ◌, pos, [], true, false, IfOk, IsTrue, length, All, AllPairs};
-ghost use Rattle.tail_book.specs.Name.{is_name};
-ghost use Rattle.tail_book.specs.Sound.{is_none_or_below, IsWithin, IsMoment, IsLimit, IsActivity, IsTail, IsKind, IsAirport, IsBand, IsRules, comes_before};
+//! Small books, made through the checked constructor: a test that breaks a limit has no book, and fails when it runs.
 
 use std::alloc::Global;
-use std::process::Abort;
 use std::test::Fail;
 use tail_book::*;
 
@@ -86,45 +81,34 @@ pub fn aircraft(kind: u32) -> TailRow {
     }
 }
 
-fn name(text: &[u8; 2]) -> Name
-    requires { IsTrue (is_name text.now) }
-{
-    Name::new(text.as_slice())
-}
-
 // The activities are called F0 to F9 in their order.
 fn id_of(a: usize) -> Name {
     match a {
-        0 => name(b"F0"),
-        1 => name(b"F1"),
-        2 => name(b"F2"),
-        3 => name(b"F3"),
-        4 => name(b"F4"),
-        5 => name(b"F5"),
-        6 => name(b"F6"),
-        7 => name(b"F7"),
-        8 => name(b"F8"),
-        _ => name(b"F9"),
+        0 => Name::new(b"F0".as_slice()),
+        1 => Name::new(b"F1".as_slice()),
+        2 => Name::new(b"F2".as_slice()),
+        3 => Name::new(b"F3".as_slice()),
+        4 => Name::new(b"F4".as_slice()),
+        5 => Name::new(b"F5".as_slice()),
+        6 => Name::new(b"F6".as_slice()),
+        7 => Name::new(b"F7".as_slice()),
+        8 => Name::new(b"F8".as_slice()),
+        _ => Name::new(b"F9".as_slice()),
     }
 }
 
 // The aircraft are called A0 to A3 in their order.
 fn name_of(k: usize) -> Name {
     match k {
-        0 => name(b"A0"),
-        1 => name(b"A1"),
-        2 => name(b"A2"),
-        _ => name(b"A3"),
+        0 => Name::new(b"A0".as_slice()),
+        1 => Name::new(b"A1".as_slice()),
+        2 => Name::new(b"A2".as_slice()),
+        _ => Name::new(b"A3".as_slice()),
     }
 }
 
 // The types, of which P has this turn.
-fn kinds(alloc: Global, turn: i64) -> Result<Vec<AircraftType>, Memory>
-    requires { IsWithin (pos 0) (pos 1440) turn }
-    ensures each { IfOk result (λ v. All IsKind v.items) }
-    ensures names { IfOk result (λ v. AllPairs (λ a b. a.name ≢ b.name) v.items) }
-    ensures count { IfOk result (λ v. length v.items ≡ 2) }
-{
+fn kinds(alloc: Global, turn: i64) -> Result<Vec<AircraftType>, Memory> {
     let (p, q) = (Name::new(b"P".as_slice()), Name::new(b"Q".as_slice()));
     let listed = vec![in alloc;
         AircraftType {
@@ -142,11 +126,7 @@ fn kinds(alloc: Global, turn: i64) -> Result<Vec<AircraftType>, Memory>
 }
 
 // The airports, an hour ahead of UTC; the turn at CPH is 50 minutes.
-fn ports(alloc: Global) -> Result<Vec<Airport>, Memory>
-    ensures each { IfOk result (λ v. All IsAirport v.items) }
-    ensures names { IfOk result (λ v. AllPairs (λ a b. a.name ≢ b.name) v.items) }
-    ensures count { IfOk result (λ v. length v.items ≡ 3) }
-{
+fn ports(alloc: Global) -> Result<Vec<Airport>, Memory> {
     let (arn, osl) = (Name::new(b"ARN".as_slice()), Name::new(b"OSL".as_slice()));
     let cph = Name::new(b"CPH".as_slice());
     let listed = vec![in alloc;
@@ -170,10 +150,7 @@ fn ports(alloc: Global) -> Result<Vec<Airport>, Memory>
 }
 
 // No curfew, no counter and no band; type P has this turn.
-pub fn plain(alloc: Global, turn: i64) -> Result<Rules, Memory>
-    requires { IsWithin (pos 0) (pos 1440) turn }
-    ensures { IfOk result IsRules }
-{
+pub fn plain(alloc: Global, turn: i64) -> Result<Rules, Memory> {
     Ok(Rules {
         kinds: kinds(alloc, turn)?,
         airports: ports(alloc)?,
@@ -184,9 +161,7 @@ pub fn plain(alloc: Global, turn: i64) -> Result<Rules, Memory>
 }
 
 // ARN is closed from 23:00 to 06:00 there, for starts or else for landings of type P.
-pub fn closed(alloc: Global, starts: bool) -> Result<Rules, Memory>
-    ensures { IfOk result IsRules }
-{
+pub fn closed(alloc: Global, starts: bool) -> Result<Rules, Memory> {
     let kinds = kinds(alloc, 30)?;
     let airports = ports(alloc)?;
     let types = vec![in alloc; P]?;
@@ -209,31 +184,13 @@ pub fn closed(alloc: Global, starts: bool) -> Result<Rules, Memory>
     })
 }
 
-// A limit; of days in minutes.
-fn limit_of(kind: CounterKind, most: i64) -> i64
-    requires { IsWithin (pos 1) (pos 10_000) most }
-    ensures { IsLimit kind result }
-{
-    match kind {
-        CounterKind::Minutes => most,
-        CounterKind::Landings => most,
-        CounterKind::Days => most * 1440,
-    }
-}
-
-// One counter, which an hour at ARN clears, and bands.
+// One counter with this limit, of days in minutes, which an hour at ARN clears, and bands.
 pub fn counted(
     alloc: Global,
     kind: CounterKind,
-    most: i64,
+    limit: i64,
     bands: Vec<Band>,
-) -> Result<Rules, Memory>
-    requires most { IsWithin (pos 1) (pos 10_000) most }
-    requires bands { All IsBand bands.items }
-    requires few { length bands.items ≤ 8 }
-    ensures { IfOk result IsRules }
-{
-    let limit = limit_of(kind, most);
+) -> Result<Rules, Memory> {
     let kinds = kinds(alloc, 30)?;
     let airports = ports(alloc)?;
     let (name, bases) = (Name::new(b"c".as_slice()), vec![in alloc; ARN]?);
@@ -263,177 +220,6 @@ fn listed(alloc: Global, number: Option<u32>) -> Result<Vec<u32>, Memory> {
     Ok(list)
 }
 
-fn is_within(low: i64, high: i64, z: i64) -> bool
-    ensures { IsTrue result → IsWithin low high z }
-{
-    low <= z && z <= high
-}
-
-fn all_below(numbers: &[u32], count: usize) -> bool
-    ensures { IsTrue result → All (λ n. n < count) numbers.now }
-{
-    for number in numbers {
-        if *number as usize >= count {
-            return false;
-        }
-    }
-    true
-}
-
-fn is_assigned_below(tail: Option<u32>, count: usize) -> bool
-    ensures { result ≡ is_none_or_below tail count }
-{
-    match tail {
-        None => true,
-        Some(k) => (k as usize) < count,
-    }
-}
-
-fn is_moment(z: i64) -> bool
-    ensures { IsTrue result → IsMoment z }
-{
-    is_within(0, 120_968_639, z)
-}
-
-fn lasts(start: i64, end: i64) -> bool
-    requires { IsMoment start }
-    ensures lasts { IsTrue result → (start +ℤ pos 1) ≤ℤ end }
-    ensures short { IsTrue result → end ≤ℤ (start +ℤ pos 2880) }
-{
-    start + 1 <= end && end <= start + 2880
-}
-
-fn is_timed(a: &Activity) -> bool
-    ensures start { IsTrue result → IsMoment a.now.start }
-    ensures end { IsTrue result → IsMoment a.now.end }
-    ensures lasts { IsTrue result → (a.now.start +ℤ pos 1) ≤ℤ a.now.end }
-    ensures short { IsTrue result → a.now.end ≤ℤ (a.now.start +ℤ pos 2880) }
-{
-    is_moment(a.start) && is_moment(a.end) && lasts(a.start, a.end)
-}
-
-fn stays_on_ground(a: &Activity) -> bool
-    ensures { IsTrue result → a.now.flight ≡ false → a.now.from ≡ a.now.to }
-{
-    a.flight || a.from == a.to
-}
-
-fn resets_on_ground(a: &Activity) -> bool
-    ensures { IsTrue result → a.now.flight ≡ true → a.now.resets ≡ [] }
-{
-    !a.flight || a.resets.is_empty()
-}
-
-fn has_numbers(rules: &Rules, count: usize, a: &Activity) -> bool
-    ensures from { IsTrue result → a.now.from < length rules.now.airports }
-    ensures to { IsTrue result → a.now.to < length rules.now.airports }
-    ensures types { IsTrue result → All (λ t. t < length rules.now.kinds) a.now.types }
-    ensures tail { IsTrue result → IsTrue (is_none_or_below a.now.tail count) }
-    ensures resets { IsTrue result → All (λ c. c < length rules.now.counters) a.now.resets }
-{
-    (a.from as usize) < rules.airports.len()
-        && (a.to as usize) < rules.airports.len()
-        && all_below(&a.types, rules.kinds.len())
-        && is_assigned_below(a.tail, count)
-        && all_below(&a.resets, rules.counters.len())
-}
-
-fn has_few(a: &Activity) -> bool
-    ensures types { IsTrue result → length a.now.types ≤ 20 }
-    ensures tags { IsTrue result → length a.now.tags ≤ 20 }
-    ensures resets { IsTrue result → length a.now.resets ≤ 20 }
-{
-    a.types.len() <= 20 && a.tags.len() <= 20 && a.resets.len() <= 20
-}
-
-fn is_activity(rules: &Rules, count: usize, a: &Activity) -> bool
-    ensures { IsTrue result → IsActivity rules.now count a.now }
-{
-    if !has_numbers(rules, count, a) {
-        return false;
-    }
-    if !is_timed(a) {
-        return false;
-    }
-    if !has_few(a) {
-        return false;
-    }
-    // A look at a name brings out what every name keeps.
-    let _ = a.id.as_bytes();
-    stays_on_ground(a) && resets_on_ground(a)
-}
-
-fn is_tail(rules: &Rules, t: &Tail) -> bool
-    ensures { IsTrue result → IsTail rules.now t.now }
-{
-    // A look at a name brings out what every name keeps.
-    let _ = t.name.as_bytes();
-    (t.kind as usize) < rules.kinds.len()
-        && (t.at as usize) < rules.airports.len()
-        && is_within(0, 120_968_639, t.ready)
-        && t.fixed <= 100_000
-        && t.tags.len() <= 20
-        && all_below(&t.avoid, rules.airports.len())
-        && t.avoid.len() <= 20
-        && are_carried(&t.carry)
-        && t.carry.len() == rules.counters.len()
-}
-
-fn are_carried(values: &[i64]) -> bool
-    ensures { IsTrue result → All (IsWithin (pos 0) (pos 10_000_000)) values.now }
-{
-    for value in values {
-        if !is_within(0, 10_000_000, *value) {
-            return false;
-        }
-    }
-    true
-}
-
-fn starts_before(a: &Activity, b: &Activity) -> bool
-    ensures { result ≡ comes_before a.now b.now }
-{
-    a.start < b.start || (a.start == b.start && a.id < b.id)
-}
-
-fn precedes(a: &Activity, b: &Activity) -> bool
-    ensures order { IsTrue result → IsTrue (comes_before a.now b.now) }
-    ensures ids { IsTrue result → a.now.id ≢ b.now.id }
-{
-    starts_before(a, b) && a.id != b.id
-}
-
-// Whether an activity stands behind all of these, with an id of its own.
-fn comes_last(before: &[Activity], b: &Activity) -> bool
-    ensures order { IsTrue result → All (λ a. IsTrue (comes_before a b.now)) before.now }
-    ensures ids { IsTrue result → All (λ a. a.id ≢ b.now.id) before.now }
-{
-    for a in before {
-        if !precedes(a, b) {
-            return false;
-        }
-    }
-    true
-}
-
-fn differs(a: &Tail, b: &Tail) -> bool
-    ensures { IsTrue result → a.now.name ≢ b.now.name }
-{
-    a.name != b.name
-}
-
-// Whether an aircraft has a name of its own.
-fn is_new(before: &[Tail], b: &Tail) -> bool
-    ensures { IsTrue result → All (λ a. a.name ≢ b.now.name) before.now }
-{
-    for a in before {
-        if !differs(a, b) {
-            return false;
-        }
-    }
-    true
-}
-
 fn activity(alloc: Global, a: usize, leg: Leg) -> Result<Activity, Memory> {
     let resets = if leg.resets { Some(0) } else { None };
     Ok(Activity {
@@ -450,7 +236,7 @@ fn activity(alloc: Global, a: usize, leg: Leg) -> Result<Activity, Memory> {
     })
 }
 
-fn tail(alloc: Global, rules: &Rules, k: usize, row: TailRow) -> Result<Tail, Memory> {
+fn tail(alloc: Global, counters: usize, k: usize, row: TailRow) -> Result<Tail, Memory> {
     Ok(Tail {
         name: name_of(k),
         kind: row.kind,
@@ -459,114 +245,34 @@ fn tail(alloc: Global, rules: &Rules, k: usize, row: TailRow) -> Result<Tail, Me
         fixed: row.fixed,
         tags: listed(alloc, row.tag)?,
         avoid: listed(alloc, row.avoid)?,
-        carry: vec![in alloc; row.carry; rules.counters.len()]?,
+        carry: vec![in alloc; row.carry; counters]?,
     })
 }
 
-// Puts an activity behind the others, if it fits there.
-fn add_activity(
-    list: &mut Vec<Activity>,
-    rules: &Rules,
-    count: usize,
-    next: Activity,
-) -> Result<bool, Memory>
-    requires each { All (IsActivity rules.now count) list.old.items }
-    requires order { AllPairs (λ a b. IsTrue (comes_before a b)) list.old.items }
-    requires ids { AllPairs (λ a b. a.id ≢ b.id) list.old.items }
-    requires few { length list.old.items ≤ 10 }
-    ensures each { IfOk result (λ _. All (IsActivity rules.now count) list.new.items) }
-    ensures order { IfOk result (λ _. AllPairs (λ a b. IsTrue (comes_before a b)) list.new.items) }
-    ensures ids { IfOk result (λ _. AllPairs (λ a b. a.id ≢ b.id) list.new.items) }
-    ensures few { IfOk result (λ _. length list.new.items ≤ 10) }
-{
-    if list.len() == 10 {
-        return Ok(false);
-    }
-    if !is_activity(rules, count, &next) {
-        return Ok(false);
-    }
-    if !comes_last(list, &next) {
-        return Ok(false);
-    }
-    list.push(next)?;
-    Ok(true)
-}
-
-// Puts an aircraft behind the others, if it fits there.
-fn add_tail(list: &mut Vec<Tail>, rules: &Rules, next: Tail) -> Result<bool, Memory>
-    requires each { All (IsTail rules.now) list.old.items }
-    requires names { AllPairs (λ a b. a.name ≢ b.name) list.old.items }
-    requires few { length list.old.items ≤ 4 }
-    ensures each { IfOk result (λ _. All (IsTail rules.now) list.new.items) }
-    ensures names { IfOk result (λ _. AllPairs (λ a b. a.name ≢ b.name) list.new.items) }
-    ensures few { IfOk result (λ _. length list.new.items ≤ 4) }
-{
-    if list.len() == 4 {
-        return Ok(false);
-    }
-    if !is_tail(rules, &next) {
-        return Ok(false);
-    }
-    if !is_new(list, &next) {
-        return Ok(false);
-    }
-    list.push(next)?;
-    Ok(true)
-}
-
-fn activities(
-    rt: &impl Abort,
-    alloc: Global,
-    rules: &Rules,
-    count: usize,
-    legs: &[Leg],
-) -> Result<Vec<Activity>, Memory>
-    ensures each { IfOk result (λ v. All (IsActivity rules.now count) v.items) }
-    ensures order { IfOk result (λ v. AllPairs (λ a b. IsTrue (comes_before a b)) v.items) }
-    ensures ids { IfOk result (λ v. AllPairs (λ a b. a.id ≢ b.id) v.items) }
-    ensures few { IfOk result (λ v. length v.items ≤ 10) }
-{
+fn activities(alloc: Global, legs: &[Leg]) -> Result<Vec<Activity>, Memory> {
     let mut list = Vec::new(alloc);
     for leg in legs {
         let next = activity(alloc, list.len(), *leg)?;
-        assert!(rt; add_activity(&mut list, rules, count, next)?);
+        list.push(next)?;
     }
     Ok(list)
 }
 
-fn tails(
-    rt: &impl Abort,
-    alloc: Global,
-    rules: &Rules,
-    rows: &[TailRow],
-) -> Result<Vec<Tail>, Memory>
-    ensures each { IfOk result (λ v. All (IsTail rules.now) v.items) }
-    ensures names { IfOk result (λ v. AllPairs (λ a b. a.name ≢ b.name) v.items) }
-    ensures few { IfOk result (λ v. length v.items ≤ 4) }
-{
+fn tails(alloc: Global, counters: usize, rows: &[TailRow]) -> Result<Vec<Tail>, Memory> {
     let mut list = Vec::new(alloc);
     for row in rows {
-        let next = tail(alloc, rules, list.len(), *row)?;
-        assert!(rt; add_tail(&mut list, rules, next)?);
+        let next = tail(alloc, counters, list.len(), *row)?;
+        list.push(next)?;
     }
     Ok(list)
 }
 
 // A book of these rules, with these aircraft and activities.
-pub fn book(
-    rt: &impl Abort,
-    alloc: Global,
-    rules: Rules,
-    rows: &[TailRow],
-    legs: &[Leg],
-) -> Result<Book, Memory>
-    requires { IsRules rules }
-{
-    let tails = tails(rt, alloc, &rules, rows)?;
-    let activities = activities(rt, alloc, &rules, tails.len(), legs)?;
-    Ok(Book {
-        activities,
-        tails,
-        rules,
-    })
+pub fn book(alloc: Global, rules: Rules, rows: &[TailRow], legs: &[Leg]) -> Result<Book, Fail> {
+    let tails = tails(alloc, rules.counters.len(), rows)?;
+    let activities = activities(alloc, legs)?;
+    match Book::new(activities, tails, rules) {
+        Some(book) => Ok(book),
+        None => Err(Fail::new("no book")),
+    }
 }

@@ -18,7 +18,7 @@ returns-in-Ok-table_from_str c =
     let small : nat_le (length c.args.bytes.now) SIZE_LIMIT ≡ true = search rules in
     let (same, utf8) = c.in-Ok.ensures.cases in
     let good = is_utf8-from_IsUtf8 _ utf8 in
-    rw (small, good, ← same, c.in-Ok-table_from_str.ensures.ok) c.rules_in.ensures
+    rw (small, good, ← same, c.in-Ok-table_from_str.ensures.ok) c.rules_in-rules.ensures
 
 -- what toml refuses for another cause than memory is no TOML
 pub returns-else-is_memory : goal.returns-else-is_memory

@@ -1,4 +1,4 @@
-use Rattle.turn_rules.specs.InRange.{IsPlaceOf}
+use Rattle.tail_book.specs.Place.{IsPlaceOf}
 use Rattle.maint_counters.specs.Counts.{AreCounts}
 use Rattle.maint_counters.proofs.tests.walk.Given as goal
 

@@ -1,6 +1,6 @@
 use Rattle.std.proofs.Common.{◌≡◌, drop, length}
 use Rattle.tail_book.specs.Tests.{is_legal_route, is_legal_from}
-use Rattle.turn_rules.specs.InRange.{IsPlaceOf}
+use Rattle.tail_book.specs.Place.{IsPlaceOf}
 use Rattle.maint_counters.specs.Counts.{AreCounts}
 use Rattle.plan_audit.proofs.legal_plan.is_legal_route.Given as goal
 

@@ -1,6 +1,6 @@
 use Rattle.std.proofs.Common.{◌≡◌, ◌+◌, drop}
 use Rattle.tail_book.specs.CostTable.{route_cost_in, cost_from_in}
-use Rattle.turn_rules.specs.InRange.{IsPlaceOf}
+use Rattle.tail_book.specs.Place.{IsPlaceOf}
 use Rattle.plan_audit.proofs.table_costs.route_cost.Given as goal
 
 -- the cost so far, and that of the rest of the route

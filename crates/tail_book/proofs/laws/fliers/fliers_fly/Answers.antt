@@ -1,0 +1,5 @@
+use Rattle.tail_book.proofs.Fliers.{fliers_fly}
+use Rattle.tail_book.proofs.laws.fliers.fliers_fly.Goals as goal
+
+pub returns : goal.returns
+returns c book plan legal a lt = fliers_fly book plan legal a lt

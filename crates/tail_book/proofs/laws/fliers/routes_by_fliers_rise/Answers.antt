@@ -1,0 +1,5 @@
+use Rattle.tail_book.proofs.Fliers.{route_rises}
+use Rattle.tail_book.proofs.laws.fliers.routes_by_fliers_rise.Goals as goal
+
+pub returns : goal.returns
+returns c fliers k = route_rises fliers k

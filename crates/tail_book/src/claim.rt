@@ -1,0 +1,12 @@
+//! What is claimed of a book.
+
+/// What is claimed of a book: the cost of a cheapest legal plan, that no plan is legal, or a bound. Costs are in cost units.
+#[derive(Clone, Copy, PartialEq, Eq, Debug)]
+pub enum Claim {
+    /// Some legal plan costs this, and none costs less.
+    Optimal(u64),
+    /// No plan is legal.
+    Infeasible,
+    /// Every legal plan costs at least `low`, and the best plan that was found, if any, costs `high`.
+    Limit { low: u64, high: Option<u64> },
+}

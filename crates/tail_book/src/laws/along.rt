@@ -1,0 +1,13 @@
+//! Laws of legality by the counters after the first activities of a route.
+
+ghost use Rattle.tail_book.specs.Along.{CountersAlongStep, LegalIsLegalAlong};
+
+/// The counters after the first activities of a route take its steps one by one.
+pub fn counters_along_step()
+    ensures { CountersAlongStep }
+{}
+
+/// A route is legal exactly where it is linked and the counters are within their limits after each of its first activities.
+pub fn legal_is_legal_along()
+    ensures { LegalIsLegalAlong }
+{}

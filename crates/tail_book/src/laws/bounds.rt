@@ -1,0 +1,38 @@
+//! Laws of what routes cost at most.
+
+ghost use Rattle.tail_book.specs.RouteBounds.{RisingRoutesAreShort, RisingRoutesAreBelow, RoutesCostAtMost, RisingRoutesCostAtMost, RoutesCostAtMostIn, RisingRoutesCostAtMostIn, ReducedCostsAreSmall};
+
+/// Numbers that rise below n are at most n.
+pub fn rising_routes_are_short()
+    ensures { RisingRoutesAreShort }
+{}
+
+/// Each number of a route that rises below n is below n.
+pub fn rising_routes_are_below()
+    ensures { RisingRoutesAreBelow }
+{}
+
+/// A route costs at most two million for each of its activities.
+pub fn routes_cost_at_most()
+    ensures { RoutesCostAtMost }
+{}
+
+/// A route whose numbers rise costs at most what bounds every legal plan.
+pub fn rising_routes_cost_at_most()
+    ensures { RisingRoutesCostAtMost }
+{}
+
+/// By a table a route costs at most the two maxima for each of its activities.
+pub fn routes_cost_at_most_in()
+    ensures { RoutesCostAtMostIn }
+{}
+
+/// By a table a route whose numbers rise costs at most what bounds every legal plan.
+pub fn rising_routes_cost_at_most_in()
+    ensures { RisingRoutesCostAtMostIn }
+{}
+
+/// With duals in the box the reduced cost of a route whose numbers rise lies within 2^61 of 0.
+pub fn reduced_costs_are_small()
+    ensures { ReducedCostsAreSmall }
+{}

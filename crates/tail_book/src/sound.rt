@@ -1,0 +1,411 @@
+//! Whether the parts of a book keep its limits: each test here has the name of the definition that it computes.
+
+ghost use Rattle.std.specs.Prelude.{◌≡◌, ℕ, List, pos, not, bytes_eq, length, IsTrue};
+ghost use Rattle.std.specs.List.{list_all};
+ghost use Rattle.tail_book.specs.Sound.{is_none_or_below, comes_before};
+ghost use Rattle.tail_book.specs.SoundTests.{is_within, is_moment, are_below, each_pair, lasts, is_timed, names_of_book, has_short_lists, is_activity, comes_in, has_short_marks, carries_each, is_tail, is_kind, is_airport, is_curfew, is_limit, is_counter, is_band, are_kinds, are_airports, are_counters, are_curfews, are_bands, are_rules, are_activities, are_tails, is_book};
+
+use crate::{
+    Activity, AircraftType, Airport, Band, Counter, CounterKind, Curfew, Name, Rules, Tail,
+};
+
+// How many of each a book has at most.
+const MOST_ACTIVITIES: usize = 4000;
+
+const MOST_TAILS: usize = 200;
+
+const MOST_KINDS: usize = 20;
+
+const MOST_AIRPORTS: usize = 200;
+
+const MOST_CURFEWS: usize = 400;
+
+const MOST_COUNTERS: usize = 6;
+
+const MOST_BANDS: usize = 8;
+
+// The longest list of types, tags, avoided airports or counters, and of a counter's bases.
+const MOST_IN_LIST: usize = 20;
+
+const MOST_BASES: usize = 200;
+
+// The last minute of 2199, counted from 1970-01-01T00:00, and the minutes of a day.
+const LAST_MOMENT: i64 = 120_968_639;
+
+const DAY: i64 = 1440;
+
+// The longest activity, the longest stop, and the most that a counter, a limit and a band reach, in minutes.
+const LONGEST_ACTIVITY: i64 = 2880;
+
+const LONGEST_STOP: i64 = 100_000;
+
+const MOST_MINUTES: i64 = 10_000_000;
+
+const MOST_DAYS: i64 = 10_000;
+
+// The farthest that local time is from UTC, in minutes.
+const MOST_OFFSET: i64 = 840;
+
+// What a minute flown, an activity beside its minutes, and a band cost at most.
+const MOST_RATE: u64 = 300;
+
+const MOST_FIXED: u64 = 100_000;
+
+const MOST_BAND_COST: u64 = 1_000_000;
+
+fn is_within(low: i64, high: i64, z: i64) -> bool
+    ensures { result ≡ is_within low high z }
+{
+    low <= z && z <= high
+}
+
+fn is_moment(z: i64) -> bool
+    ensures { result ≡ is_moment z }
+{
+    is_within(0, LAST_MOMENT, z)
+}
+
+fn are_below(count: usize, numbers: &[u32]) -> bool
+    ensures { result ≡ are_below count numbers.now }
+{
+    numbers.iter().all(|number| (*number as usize) < count)
+}
+
+fn is_none_or_below(tail: Option<u32>, count: usize) -> bool
+    ensures { result ≡ is_none_or_below tail count }
+{
+    match tail {
+        None => true,
+        Some(k) => (k as usize) < count,
+    }
+}
+
+fn lasts(start: i64, end: i64) -> bool
+    requires { IsTrue (is_moment start) }
+    ensures { result ≡ lasts start end }
+{
+    start + 1 <= end && end <= start + LONGEST_ACTIVITY
+}
+
+fn is_timed(a: &Activity) -> bool
+    ensures { result ≡ is_timed a.now }
+{
+    is_moment(a.start) && is_moment(a.end) && lasts(a.start, a.end)
+}
+
+fn names_of_book(rules: &Rules, aircraft: usize, a: &Activity) -> bool
+    ensures { result ≡ names_of_book rules.now aircraft a.now }
+{
+    (a.from as usize) < rules.airports.len()
+        && (a.to as usize) < rules.airports.len()
+        && are_below(rules.kinds.len(), &a.types)
+        && is_none_or_below(a.tail, aircraft)
+        && are_below(rules.counters.len(), &a.resets)
+}
+
+fn has_short_lists(a: &Activity) -> bool
+    ensures { result ≡ has_short_lists a.now }
+{
+    a.types.len() <= MOST_IN_LIST && a.tags.len() <= MOST_IN_LIST && a.resets.len() <= MOST_IN_LIST
+}
+
+fn is_activity(rules: &Rules, aircraft: usize, a: &Activity) -> bool
+    ensures { result ≡ is_activity rules.now aircraft a.now }
+{
+    // A look at a name brings out what every name keeps.
+    let _ = a.id.as_bytes();
+    is_timed(a) && names_of_book(rules, aircraft, a) && has_short_lists(a)
+}
+
+fn comes_in(rules: &Rules, t: &Tail) -> bool
+    ensures { result ≡ comes_in rules.now t.now }
+{
+    (t.kind as usize) < rules.kinds.len()
+        && (t.at as usize) < rules.airports.len()
+        && is_moment(t.ready)
+        && t.fixed <= MOST_FIXED
+}
+
+fn has_short_marks(rules: &Rules, t: &Tail) -> bool
+    ensures { result ≡ has_short_marks rules.now t.now }
+{
+    t.tags.len() <= MOST_IN_LIST
+        && are_below(rules.airports.len(), &t.avoid)
+        && t.avoid.len() <= MOST_IN_LIST
+}
+
+fn are_carried(values: &[i64]) -> bool
+    ensures { result ≡ list_all (is_within (pos 0) (pos 10_000_000)) values.now }
+{
+    values
+        .iter()
+        .all(|value| is_within(0, MOST_MINUTES, *value))
+}
+
+fn carries_each(rules: &Rules, t: &Tail) -> bool
+    ensures { result ≡ carries_each rules.now t.now }
+{
+    are_carried(&t.carry) && t.carry.len() == rules.counters.len()
+}
+
+fn is_tail(rules: &Rules, t: &Tail) -> bool
+    ensures { result ≡ is_tail rules.now t.now }
+{
+    // A look at a name brings out what every name keeps.
+    let _ = t.name.as_bytes();
+    comes_in(rules, t) && has_short_marks(rules, t) && carries_each(rules, t)
+}
+
+fn is_kind(t: &AircraftType) -> bool
+    ensures { result ≡ is_kind t.now }
+{
+    let _ = t.name.as_bytes();
+    t.rate <= MOST_RATE && is_within(0, DAY, t.turn)
+}
+
+fn is_airport(p: &Airport) -> bool
+    ensures { result ≡ is_airport p.now }
+{
+    let _ = p.name.as_bytes();
+    is_within(-MOST_OFFSET, MOST_OFFSET, p.offset) && is_within(0, DAY, p.turn)
+}
+
+fn is_curfew(rules: &Rules, c: &Curfew) -> bool
+    ensures { result ≡ is_curfew rules.now c.now }
+{
+    (c.airport as usize) < rules.airports.len()
+        && is_within(0, DAY - 1, c.from)
+        && is_within(0, DAY - 1, c.to)
+        && are_below(rules.kinds.len(), &c.types)
+        && c.types.len() <= MOST_IN_LIST
+}
+
+fn is_limit(kind: CounterKind, limit: i64) -> bool
+    ensures { result ≡ is_limit kind limit }
+{
+    match kind {
+        CounterKind::Minutes => is_within(1, MOST_MINUTES, limit),
+        CounterKind::Landings => is_within(1, MOST_MINUTES, limit),
+        CounterKind::Days => {
+            is_within(DAY, MOST_DAYS * DAY, limit) && limit.unsigned_abs() % 1440 == 0
+        }
+    }
+}
+
+fn is_counter(rules: &Rules, c: &Counter) -> bool
+    ensures { result ≡ is_counter rules.now c.now }
+{
+    let _ = c.name.as_bytes();
+    is_limit(c.kind, c.limit)
+        && are_below(rules.airports.len(), &c.bases)
+        && c.bases.len() <= MOST_BASES
+        && is_within(1, LONGEST_STOP, c.stop)
+}
+
+fn is_band(b: &Band) -> bool
+    ensures { result ≡ is_band b.now }
+{
+    is_within(0, MOST_MINUTES, b.upto) && b.cost <= MOST_BAND_COST
+}
+
+// What has a name of its own.
+trait Named {
+    ghost name_of: { Self → List ℕ };
+
+    fn name(&self) -> &Name
+        ensures { result.now ≡ name_of self.now };
+}
+
+impl Named for AircraftType {
+    ghost name_of = { λ t. t.name };
+
+    fn name(&self) -> &Name {
+        &self.name
+    }
+}
+
+impl Named for Airport {
+    ghost name_of = { λ p. p.name };
+
+    fn name(&self) -> &Name {
+        &self.name
+    }
+}
+
+impl Named for Counter {
+    ghost name_of = { λ c. c.name };
+
+    fn name(&self) -> &Name {
+        &self.name
+    }
+}
+
+impl Named for Tail {
+    ghost name_of = { λ t. t.name };
+
+    fn name(&self) -> &Name {
+        &self.name
+    }
+}
+
+impl Named for Activity {
+    ghost name_of = { λ a. a.id };
+
+    fn name(&self) -> &Name {
+        &self.id
+    }
+}
+
+fn is_new<T: Named>(first: &T, others: &[T]) -> bool
+    ensures { result ≡ list_all (λ b. not (bytes_eq (T.name_of first.now) (T.name_of b))) others.now }
+{
+    others.iter().all(|other| first.name() != other.name())
+}
+
+// Whether no two of them have the same name.
+fn names_differ<T: Named>(items: &[T]) -> bool
+    ensures { result ≡ each_pair (λ a b. not (bytes_eq (T.name_of a) (T.name_of b))) items.now }
+{
+    let mut rest = items;
+    while let Some((first, others)) = rest.split_first() {
+        if !is_new(first, others) {
+            return false;
+        }
+        rest = others;
+    }
+    true
+}
+
+// Whether the first stands before each of the others.
+fn comes_before(a: &Activity, b: &Activity) -> bool
+    ensures { result ≡ comes_before a.now b.now }
+{
+    a.start < b.start || (a.start == b.start && a.id < b.id)
+}
+
+fn comes_first(first: &Activity, others: &[Activity]) -> bool
+    ensures { result ≡ list_all (comes_before first.now) others.now }
+{
+    others.iter().all(|other| comes_before(first, other))
+}
+
+fn are_ordered(activities: &[Activity]) -> bool
+    ensures { result ≡ each_pair comes_before activities.now }
+{
+    let mut rest = activities;
+    while let Some((first, others)) = rest.split_first() {
+        if !comes_first(first, others) {
+            return false;
+        }
+        rest = others;
+    }
+    true
+}
+
+fn each_kind(kinds: &[AircraftType]) -> bool
+    ensures { result ≡ list_all is_kind kinds.now }
+{
+    kinds.iter().all(|kind| is_kind(kind))
+}
+
+fn are_kinds(kinds: &[AircraftType]) -> bool
+    ensures { result ≡ are_kinds kinds.now }
+{
+    kinds.len() <= MOST_KINDS && each_kind(kinds) && names_differ(kinds)
+}
+
+fn each_airport(airports: &[Airport]) -> bool
+    ensures { result ≡ list_all is_airport airports.now }
+{
+    airports.iter().all(|airport| is_airport(airport))
+}
+
+fn are_airports(airports: &[Airport]) -> bool
+    ensures { result ≡ are_airports airports.now }
+{
+    airports.len() <= MOST_AIRPORTS && each_airport(airports) && names_differ(airports)
+}
+
+fn each_curfew(rules: &Rules, curfews: &[Curfew]) -> bool
+    ensures { result ≡ list_all (is_curfew rules.now) curfews.now }
+{
+    curfews.iter().all(|curfew| is_curfew(rules, curfew))
+}
+
+fn are_curfews(rules: &Rules) -> bool
+    ensures { result ≡ are_curfews rules.now }
+{
+    rules.curfews.len() <= MOST_CURFEWS && each_curfew(rules, &rules.curfews)
+}
+
+fn each_counter(rules: &Rules, counters: &[Counter]) -> bool
+    ensures { result ≡ list_all (is_counter rules.now) counters.now }
+{
+    counters.iter().all(|counter| is_counter(rules, counter))
+}
+
+fn are_counters(rules: &Rules) -> bool
+    ensures { result ≡ are_counters rules.now }
+{
+    rules.counters.len() <= MOST_COUNTERS
+        && each_counter(rules, &rules.counters)
+        && names_differ(&rules.counters)
+}
+
+fn each_band(bands: &[Band]) -> bool
+    ensures { result ≡ list_all is_band bands.now }
+{
+    bands.iter().all(|band| is_band(band))
+}
+
+fn are_bands(bands: &[Band]) -> bool
+    ensures { result ≡ are_bands bands.now }
+{
+    bands.len() <= MOST_BANDS && each_band(bands)
+}
+
+fn are_rules(rules: &Rules) -> bool
+    ensures { result ≡ are_rules rules.now }
+{
+    are_kinds(&rules.kinds)
+        && are_airports(&rules.airports)
+        && are_curfews(rules)
+        && are_counters(rules)
+        && are_bands(&rules.bands)
+}
+
+fn each_activity(rules: &Rules, aircraft: usize, activities: &[Activity]) -> bool
+    ensures { result ≡ list_all (is_activity rules.now aircraft) activities.now }
+{
+    activities
+        .iter()
+        .all(|activity| is_activity(rules, aircraft, activity))
+}
+
+fn are_activities(rules: &Rules, aircraft: usize, activities: &[Activity]) -> bool
+    ensures { result ≡ are_activities rules.now aircraft activities.now }
+{
+    activities.len() <= MOST_ACTIVITIES
+        && each_activity(rules, aircraft, activities)
+        && are_ordered(activities)
+        && names_differ(activities)
+}
+
+fn each_tail(rules: &Rules, tails: &[Tail]) -> bool
+    ensures { result ≡ list_all (is_tail rules.now) tails.now }
+{
+    tails.iter().all(|tail| is_tail(rules, tail))
+}
+
+fn are_tails(rules: &Rules, tails: &[Tail]) -> bool
+    ensures { result ≡ are_tails rules.now tails.now }
+{
+    tails.len() <= MOST_TAILS && each_tail(rules, tails) && names_differ(tails)
+}
+
+/// Whether these activities, aircraft and rules are a book.
+pub(crate) fn is_book(activities: &[Activity], tails: &[Tail], rules: &Rules) -> bool
+    ensures { result ≡ is_book (record { activities = activities.now; tails = tails.now; rules = rules.now }) }
+{
+    are_rules(rules) && are_tails(rules, tails) && are_activities(rules, tails.len(), activities)
+}

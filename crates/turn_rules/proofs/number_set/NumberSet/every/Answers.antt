@@ -1,0 +1,7 @@
+use Rattle.turn_rules.specs.NumberSet.{has}
+use Rattle.turn_rules.proofs.NumberSets.{every_bit}
+use Rattle.turn_rules.proofs.number_set.NumberSet.every.Goals as goal
+
+pub returns : goal.returns
+unfolding has
+returns c = λ i lt. every_bit i lt
