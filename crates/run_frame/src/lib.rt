@@ -1,5 +1,5 @@
 //! The frame of a run, which both programs share: the words and the tables that they name, what a run answers, how that
-//! is printed, and the status that it ends with. What is asked of the tables, and what that answers, is each program's own.
+//! is printed, and the status that it ends with. What is found in the tables is each program's own.
 #![tactic(auto)]
 
 mod answer;

@@ -54,8 +54,10 @@ fn write_answer<T: Finding, S: Sink>(
     out: &mut S,
 ) -> Result<(), ReportFail>
     requires { IsPrintable T.is_printable answer.now }
-    ensures taken { OnOk result (Takes (S.shows out.old) (S.shows out.new) (text_of (lines_of usage.now T.lines answer.now))) }
-    ensures front { OnErr result (TakesFront (S.shows out.old) (S.shows out.new) (text_of (lines_of usage.now T.lines answer.now))) }
+    ensures taken { OnOk result (Takes (S.shows out.old) (S.shows out.new)
+        (text_of (lines_of usage.now T.lines answer.now))) }
+    ensures front { OnErr result (TakesFront (S.shows out.old) (S.shows out.new)
+        (text_of (lines_of usage.now T.lines answer.now))) }
     ensures beside { S.beside out.old out.new }
     ensures ceases { (S.shows out.new).ceased ≡ false → (S.shows out.old).ceased ≡ false }
     ensures counts { (S.shows out.old).faults ≤ (S.shows out.new).faults }

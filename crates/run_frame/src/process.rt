@@ -17,7 +17,7 @@ pub struct Process<R: Runtime> {
     pub out: RealOut<R>,
 }
 
-/// The process that the runtime is of, under the program's name. Where one of its words is not UTF-8, there are no words.
+/// The process that the runtime is of, under the program's name. Where another word is not UTF-8, there are none.
 pub fn process_of<R: Runtime>(alloc: Global, program: &str, runtime: R) -> io::Result<Process<R>> {
     let words = words_of(alloc, program, &runtime)?;
     Ok(Process {

@@ -18,7 +18,8 @@ pub fn read_tables<F: Files>(
     names: &TableNames<'_>,
 ) -> Result<Tables, ReadFail>
     requires { MayReadTables (F.shows files.old) (names_seen names.now) }
-    ensures tables { IfOk result (λ tables. IfSome (tables_held (F.shows files.old) (names_seen names.now)) (λ whole. tables ≡ fronts whole)) }
+    ensures tables { IfOk result (λ tables. IfSome (tables_held (F.shows files.old) (names_seen names.now))
+        (λ whole. tables ≡ fronts whole)) }
     ensures only_read { OnlyRead (F.shows files.old) (F.shows files.new) }
     ensures cause { IsErrOf result ReadFail.Failed → ReadHasFailed (F.shows files.old) (F.shows files.new) }
 {

@@ -12,7 +12,7 @@ use crate::TableNames;
 use clap::{Arg, ArgMatches, Command};
 use std::alloc::{AllocError, Global};
 
-/// The command of a program: three words that have to stand in their places, and no flag for help. Options may be added.
+/// The command of a program: three words that have to stand in their places, and no flag for help.
 pub fn tables_command<'a>(alloc: Global, program: &'a str) -> Result<Command<'a>, AllocError>
     ensures { IfOk result (λ c. app_of c ≡ tables_command program.now) }
 {

@@ -59,7 +59,8 @@ pub trait Files {
             (shows self.new).write_faults ≡ (shows self.old).write_faults };
 
     /// Of a name that has ceased nothing is told.
-    ghost ceased_tells_nothing: { (f : Self) (name : List ℕ) → (shows f).ceased name ≡ true → (shows f).holds name ≡ None };
+    ghost ceased_tells_nothing: { (f : Self) (name : List ℕ) → (shows f).ceased name ≡ true →
+        (shows f).holds name ≡ None };
 }
 
 /// What takes bytes, piece by piece.

@@ -38,7 +38,8 @@ pub fn read_all<F: Files>(
 ) -> Result<Vec<u8>, ReadFail>
     requires named { IsTrue ((F.shows files.old).lets_read name.now) }
     requires near { limit ≤ 2 ^ 40 }
-    ensures bytes { IfOk result (λ v. IfSome ((F.shows files.old).holds name.now) (λ bytes. v.items ≡ take limit bytes)) }
+    ensures bytes { IfOk result (λ v. IfSome ((F.shows files.old).holds name.now)
+        (λ bytes. v.items ≡ take limit bytes)) }
     ensures within { IfOk result (λ v. length v.items ≤ limit) }
     ensures only_read { OnlyRead (F.shows files.old) (F.shows files.new) }
     ensures cause { IsErrOf result ReadFail.Failed → ReadHasFailed (F.shows files.old) (F.shows files.new) }
@@ -61,7 +62,8 @@ fn read_pieces<F: Files>(
     requires named { IsTrue ((F.shows files.old).lets_read name.now) }
     requires near { limit ≤ 2 ^ 40 }
     requires room { 0 < length buffer.old }
-    ensures bytes { IfOk result (λ v. IfSome ((F.shows files.old).holds name.now) (λ bytes. v.items ≡ take limit bytes)) }
+    ensures bytes { IfOk result (λ v. IfSome ((F.shows files.old).holds name.now)
+        (λ bytes. v.items ≡ take limit bytes)) }
     ensures within { IfOk result (λ v. length v.items ≤ limit) }
     ensures only_read { OnlyRead (F.shows files.old) (F.shows files.new) }
     ensures cause { IsErrOf result ReadFail.Failed → ReadHasFailed (F.shows files.old) (F.shows files.new) }

@@ -13,6 +13,7 @@ use Rattle.plan_audit.specs.declared.broken.Broken.{Broken as BrokenRule}
 use Rattle.plan_report.specs.AuditText.{AreOfBook, audit_lines, audit_text, broken_lines, legal_line}
 use Rattle.plan_report.specs.Lines.{text_of}
 use Rattle.plan_report.specs.PlanText.{plan_in, refused as refused_plan}
+use Rattle.book_maker.specs.Made.{book_of}
 use Rattle.run_frame.proofs.Ending as ending
 use Rattle.run_frame.proofs.Fronts.{book_of-fronts, front-limited}
 use Rattle.run_frame.proofs.Held.{OfHeld-map}
@@ -38,22 +39,33 @@ case_of-fronts texts =
     ap₂ (λ (b : Result BookSeen Refusal) (p : Result RawPlanSeen Refusal). look b (λ book. look p (λ plan. Ok (record { book = book; plan = plan }))))
     (book_of-fronts texts.tables) (plan_in-front texts.plan)
 
+abbrev Same : TextsSeen → TextsSeen → Type 0
+Same a b = a ≡ b
+
 -- tables and a plan's file that were read up to the limit are the fronts of the files
 pub texts-read : (files : FilesShown) (names : CheckNamesSeen) (read : TextsSeen) → IfSome (tables_held files names.tables) (λ whole. read.tables ≡ fronts whole)
     → IfSome (files.holds names.plan) (λ bytes. read.plan ≡ front bytes) → IfSome (texts_held files names) (λ whole. read ≡ text_fronts whole)
 texts-read files names read h k = each (tables_held files names.tables) (files.holds names.plan) h k
   where
+    alike : {t u : TablesSeen} {p q : List ℕ} → t ≡ u → p ≡ q → Same (record { tables = t; plan = p }) (record { tables = u; plan = q })
+    alike same_t same_p = rw (same_t, same_p) refl
+
     each : (t : Option TablesSeen) (p : Option (List ℕ)) → IfSome t (λ whole. read.tables ≡ fronts whole) → IfSome p (λ bytes. read.plan ≡ front bytes)
         → IfSome (option_and_then (λ tables. option_map (λ plan. record { tables = tables; plan = plan }) p) t) (λ whole. read ≡ text_fronts whole)
     each None p a b = tt
     each (Some tables) None a b = tt
-    each (Some tables) (Some plan) a b = cc
+    each (Some tables) (Some plan) a b = alike a b
 
 -- an answer to the files that were read is a true answer to the words
 pub true_answer : (words : List (List ℕ)) (files : FilesShown) (names : CheckNamesSeen) (read : TextsSeen) (answer : Answer) → check_of words ≡ Some names
     → IfSome (texts_held files names) (λ texts. read ≡ text_fronts texts) → IsAnswerTo AreRefused AreJudged read answer → IsTrueAnswer words files answer
 true_answer words files = ending.true_answer (check_of words) (texts_held files) AreRefused AreJudged text_fronts
     (λ texts refusal h. sym (case_of-fronts texts) ∙ h) (λ texts judged h. (h.0, sym (case_of-fronts texts) ∙ h.1, h.2))
+
+-- a book and a plan that are read are a case
+pub case_of-both : (texts : TextsSeen) (book : BookSeen) (plan : RawPlanSeen) → book_of texts.tables.timetable texts.tables.fleet texts.tables.rules ≡ Ok book → plan_in texts.plan ≡ Ok plan
+    → case_of texts ≡ Ok (record { book = book; plan = plan })
+case_of-both texts book plan is_book is_plan = rw (is_book, is_plan) refl
 
 -- a case is no refusal
 apart : (texts : TextsSeen) (case : Case) (refusal : Refusal) → case_of texts ≡ Ok case → AreRefused texts refusal → ⊥
@@ -83,12 +95,17 @@ module _ (words : List (List ℕ)) (files : FilesShown) (before after : SinkShow
       → OfTexts words files (λ texts. (plan : RawPlanSeen) × (case_of texts ≡ Ok (record { book = book; plan = plan })) × IsAuditOf book plan found)
       → Takes before after (audit_text book found) → Promise words files before after (audit_status found)
   found_promises book (Legal cost) k took = OfHeld-map (check_of words) (texts_held files) _ _ (λ texts own. record {
-    case = record { book = book; plan = own.0 }; cost = cost;
-    is = own.1; unbroken = own.2.0; legal = own.2.1; printed = ending.one_line before after (legal_line cost) took;
+    case = record { book = book; plan = own.0 };
+    cost = cost;
+    is = own.1;
+    unbroken = own.2.0;
+    legal = own.2.1;
+    printed = ending.one_line before after (legal_line cost) took;
   }) k
   found_promises book (Broken rules) k took = OfHeld-map (check_of words) (texts_held files) _ _ (λ texts own. record {
     case = record { book = book; plan = own.0 };
-    is = own.1; some = own.2.0;
+    is = own.1;
+    some = own.2.0;
     printed = subst (λ (list : List BrokenRule). Takes before after (text_of (broken_lines book list))) own.2.1 took;
   }) k
 

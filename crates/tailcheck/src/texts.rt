@@ -32,7 +32,8 @@ pub fn read_texts<F: Files>(
     names: &CheckNames<'_>,
 ) -> Result<Texts, ReadFail>
     requires { MayReadTexts (F.shows files.old) (check_names_seen names.now) }
-    ensures texts { IfOk result (λ texts. IfSome (texts_held (F.shows files.old) (check_names_seen names.now)) (λ whole. texts ≡ text_fronts whole)) }
+    ensures texts { IfOk result (λ texts. IfSome (texts_held (F.shows files.old) (check_names_seen names.now))
+        (λ whole. texts ≡ text_fronts whole)) }
     ensures only_read { OnlyRead (F.shows files.old) (F.shows files.new) }
     ensures cause { IsErrOf result ReadFail.Failed → ReadHasFailed (F.shows files.old) (F.shows files.new) }
 {

@@ -69,14 +69,18 @@ module _ (words : List (List ℕ)) (files : FilesShown) (before after : SinkShow
       → OfTables words files (λ tables. (small_book_of tables.timetable tables.fleet tables.rules ≡ Ok book) × IsTrueOutcome book outcome)
       → Takes before after (report book outcome) → Promise words files before after (outcome_status outcome)
   found book (Optimal plan cost) fit k took = OfHeld-map (run_of words) (tables_held files) _ _ (λ tables own. record {
-    book = book; plan = plan; cost = cost;
+    book = book;
+    plan = plan;
+    cost = cost;
     is = small_books_are_books tables.timetable tables.fleet tables.rules book own.0;
-    truth = own.1; printed = took;
+    truth = own.1;
+    printed = took;
   }) k
   found book Infeasible fit k took = OfHeld-map (run_of words) (tables_held files) _ _ (λ tables own. record {
     book = book;
     is = small_books_are_books tables.timetable tables.fleet tables.rules book own.0;
-    truth = own.1.claim; printed = took;
+    truth = own.1.claim;
+    printed = took;
   }) k
   found book (Between plan low high nodes) fit k took = absurd fit.1
   found book (Above low nodes) fit k took = absurd fit.1

@@ -1,21 +1,30 @@
 //! The reading of the words: which tables a run is over.
 
 ghost use Rattle.std.specs.Prelude.{◌≡◌, IfOk, option_map};
+ghost use Rattle.clap.specs.Words.{app_of};
 ghost use Rattle.run_frame.specs.Reading.{names_seen};
 ghost use Rattle.run_frame.specs.Spelled.{spelled};
-ghost use Rattle.tailplan.specs.Words.{run_of};
+ghost use Rattle.tailplan.specs.Words.{command, run_of};
 
+use clap::Command;
 use clap::error::ErrorKind;
 use run_frame::{TableNames, tables_command, tables_in};
-use std::alloc::Global;
+use std::alloc::{AllocError, Global};
 use tail_book::Memory;
+
+// The command: three words that have to stand in their places.
+fn command<'a>(alloc: Global) -> Result<Command<'a>, AllocError>
+    ensures { IfOk result (λ c. app_of c ≡ command) }
+{
+    tables_command(alloc, "tailplan")
+}
 
 /// The names of the tables, or nothing where the words are refused. The words begin with the program's name.
 #[tactic(auto, unfolding(crate::specs::Words::run_of))]
 pub fn run_of<'a>(alloc: Global, words: &'a [String]) -> Result<Option<TableNames<'a>>, Memory>
     ensures { IfOk result (λ names. option_map names_seen names ≡ run_of (spelled words.now)) }
 {
-    let command = tables_command(alloc, "tailplan")?;
+    let command = command(alloc)?;
     match command.try_get_matches_from(words) {
         Ok(matches) => Ok(tables_in(&matches)),
         Err(error) if error.kind() == ErrorKind::OutOfMemory => Err(Memory),

@@ -1,33 +1,43 @@
-use Rattle.std.proofs.Common.{map, string_bytes}
-use Rattle.tailcheck.proofs.Promised.{answered, broken_rules, judged, legal, never_six, read_failed, refused, texts_refused, usage, words_refused, write_failed}
+use Rattle.tail_outside.specs.Outside.{ReadHasFailed}
+use Rattle.run_frame.specs.Answer.{IsPrinted, status_of}
+use Rattle.run_frame.specs.Spelled.{spelled}
+use Rattle.tailcheck.specs.Answers.{answer_text}
+use Rattle.tailcheck.specs.Audits.{audit_status}
+use Rattle.tailcheck.proofs.Promised.{judged, piece_failed, promise, read_failed, texts_refused, words_refused}
 use Rattle.tailcheck.proofs.run.check_run.Goals as goal
 
-pub returns-clause-legal : goal.returns-clause-legal
-returns-clause-legal g c = legal (map string_bytes c.args.words.now) (g.F.Files.holds c.args.files) (g.F.Files.read_faults c.args.files) (g.F.Files.read_faults c.answer_of-answer.new.files) _ _ c.answer_of-answer.result c.answer_of-answer.ensures.answer c.print-status.ensures.printed
-
-pub returns-clause-broken : goal.returns-clause-broken
-returns-clause-broken g c = broken_rules (map string_bytes c.args.words.now) (g.F.Files.holds c.args.files) (g.F.Files.read_faults c.args.files) (g.F.Files.read_faults c.answer_of-answer.new.files) _ _ c.answer_of-answer.result c.answer_of-answer.ensures.answer c.print-status.ensures.printed
-
-pub returns-clause-usage : goal.returns-clause-usage
-returns-clause-usage g c = usage (map string_bytes c.args.words.now) (g.F.Files.holds c.args.files) (g.F.Files.read_faults c.args.files) (g.F.Files.read_faults c.answer_of-answer.new.files) _ _ c.answer_of-answer.result c.answer_of-answer.ensures.answer c.print-status.ensures.printed
-
-pub returns-clause-refused : goal.returns-clause-refused
-returns-clause-refused g c = refused (map string_bytes c.args.words.now) (g.F.Files.holds c.args.files) (g.F.Files.read_faults c.args.files) (g.F.Files.read_faults c.answer_of-answer.new.files) _ _ c.answer_of-answer.result c.answer_of-answer.ensures.answer c.print-status.ensures.printed
+pub returns-clause-promised : goal.returns-clause-promised
+returns-clause-promised g c =
+    let printed : IsPrinted (answer_text c.answer_of-answer.result) (status_of (λ judged. audit_status judged.found) c.answer_of-answer.result) (g.S.Sink.shows c.args.out.now) (g.S.Sink.shows c.print-status.new.out) c.print-status.result.0 =
+    rw c.usage_line.ensures at c.print-status.ensures.printed in
+    promise (spelled c.args.words.now) (g.F.Files.shows c.args.files) (g.S.Sink.shows c.args.out.now) (g.S.Sink.shows c.print-status.new.out) c.print-status.result.0 c.answer_of-answer.result c.answer_of-answer.ensures.answer printed c.answer_of-answer.ensures.printable
 
 pub returns-clause-read_failed : goal.returns-clause-read_failed
-returns-clause-read_failed g c = read_failed (map string_bytes c.args.words.now) (g.F.Files.holds c.args.files) (g.F.Files.read_faults c.args.files) (g.F.Files.read_faults c.answer_of-answer.new.files) _ _ c.answer_of-answer.result c.answer_of-answer.ensures.answer c.print-status.ensures.printed
+returns-clause-read_failed g c =
+    let printed : IsPrinted (answer_text c.answer_of-answer.result) (status_of (λ judged. audit_status judged.found) c.answer_of-answer.result) (g.S.Sink.shows c.args.out.now) (g.S.Sink.shows c.print-status.new.out) c.print-status.result.0 =
+    rw c.usage_line.ensures at c.print-status.ensures.printed in
+    read_failed (spelled c.args.words.now) (g.F.Files.shows c.args.files) (g.S.Sink.shows c.args.out.now) (g.S.Sink.shows c.print-status.new.out) c.print-status.result.0 c.answer_of-answer.result c.answer_of-answer.ensures.answer printed (ReadHasFailed (g.F.Files.shows c.args.files) (g.F.Files.shows c.answer_of-answer.new.files)) c.answer_of-answer.ensures.cause
 
 pub returns-clause-write_failed : goal.returns-clause-write_failed
-returns-clause-write_failed g c = write_failed _ _ _ _ (never_six c.answer_of-answer.result) c.print-status.ensures.printed
+returns-clause-write_failed g c =
+    let printed : IsPrinted (answer_text c.answer_of-answer.result) (status_of (λ judged. audit_status judged.found) c.answer_of-answer.result) (g.S.Sink.shows c.args.out.now) (g.S.Sink.shows c.print-status.new.out) c.print-status.result.0 =
+    rw c.usage_line.ensures at c.print-status.ensures.printed in
+    piece_failed (spelled c.args.words.now) (g.F.Files.shows c.args.files) (g.S.Sink.shows c.args.out.now) (g.S.Sink.shows c.print-status.new.out) c.print-status.result.0 c.answer_of-answer.result c.answer_of-answer.ensures.answer printed
 
 pub returns-clause-words_refused : goal.returns-clause-words_refused
-returns-clause-words_refused g c = words_refused (map string_bytes c.args.words.now) (g.F.Files.holds c.args.files) (g.F.Files.read_faults c.args.files) (g.F.Files.read_faults c.answer_of-answer.new.files) _ _ c.answer_of-answer.result c.answer_of-answer.ensures.answer c.print-status.ensures.printed
+returns-clause-words_refused g c =
+    let printed : IsPrinted (answer_text c.answer_of-answer.result) (status_of (λ judged. audit_status judged.found) c.answer_of-answer.result) (g.S.Sink.shows c.args.out.now) (g.S.Sink.shows c.print-status.new.out) c.print-status.result.0 =
+    rw c.usage_line.ensures at c.print-status.ensures.printed in
+    words_refused (spelled c.args.words.now) (g.F.Files.shows c.args.files) (g.S.Sink.shows c.args.out.now) (g.S.Sink.shows c.print-status.new.out) c.print-status.result.0 c.answer_of-answer.result c.answer_of-answer.ensures.answer printed
 
 pub returns-clause-texts_refused : goal.returns-clause-texts_refused
-returns-clause-texts_refused g c = texts_refused (map string_bytes c.args.words.now) (g.F.Files.holds c.args.files) (g.F.Files.read_faults c.args.files) (g.F.Files.read_faults c.answer_of-answer.new.files) _ _ c.answer_of-answer.result c.answer_of-answer.ensures.answer c.print-status.ensures.printed
+returns-clause-texts_refused g c =
+    let printed : IsPrinted (answer_text c.answer_of-answer.result) (status_of (λ judged. audit_status judged.found) c.answer_of-answer.result) (g.S.Sink.shows c.args.out.now) (g.S.Sink.shows c.print-status.new.out) c.print-status.result.0 =
+    rw c.usage_line.ensures at c.print-status.ensures.printed in
+    texts_refused (spelled c.args.words.now) (g.F.Files.shows c.args.files) (g.S.Sink.shows c.args.out.now) (g.S.Sink.shows c.print-status.new.out) c.print-status.result.0 c.answer_of-answer.result c.answer_of-answer.ensures.answer printed
 
 pub returns-clause-judged : goal.returns-clause-judged
-returns-clause-judged g c = judged (map string_bytes c.args.words.now) (g.F.Files.holds c.args.files) (g.F.Files.read_faults c.args.files) (g.F.Files.read_faults c.answer_of-answer.new.files) _ _ c.answer_of-answer.result c.answer_of-answer.ensures.answer c.print-status.ensures.printed
-
-pub returns-clause-answers : goal.returns-clause-answers
-returns-clause-answers g c = answered (map string_bytes c.args.words.now) (g.F.Files.holds c.args.files) (g.F.Files.read_faults c.args.files) (g.F.Files.read_faults c.answer_of-answer.new.files) _ _ c.answer_of-answer.result c.answer_of-answer.ensures.answer c.print-status.ensures.printed
+returns-clause-judged g c =
+    let printed : IsPrinted (answer_text c.answer_of-answer.result) (status_of (λ judged. audit_status judged.found) c.answer_of-answer.result) (g.S.Sink.shows c.args.out.now) (g.S.Sink.shows c.print-status.new.out) c.print-status.result.0 =
+    rw c.usage_line.ensures at c.print-status.ensures.printed in
+    judged (spelled c.args.words.now) (g.F.Files.shows c.args.files) (g.S.Sink.shows c.args.out.now) (g.S.Sink.shows c.print-status.new.out) c.print-status.result.0 c.answer_of-answer.result c.answer_of-answer.ensures.answer printed c.answer_of-answer.ensures.printable

@@ -1,5 +1,13 @@
-use Rattle.std.proofs.Common.{refl}
+use Rattle.std.proofs.Common.{◌≡◌, Ok, rules}
+use Rattle.book_maker.specs.Made.{book_of}
+use Rattle.plan_report.specs.PlanText.{plan_in}
+use Rattle.tailcheck.proofs.Promised.{case_of-both}
 use Rattle.tailcheck.proofs.run.judged.Goals as goal
 
+-- the book of the tables and the plan of its file are what was read
 pub returns-in-Ok-audit-clause-answer : goal.returns-in-Ok-audit-clause-answer
-returns-in-Ok-audit-clause-answer c = (c.in-Ok-read_plan.raw, rw (c.in-Ok.ensures, c.in-Ok-read_plan.ensures.plan) refl, c.in-Ok-audit.ensures)
+returns-in-Ok-audit-clause-answer c =
+    let texts = c.args.texts.now in
+    let book : book_of texts.tables.timetable texts.tables.fleet texts.tables.rules ≡ Ok c.in-Ok.book = search rules in
+    let plan : plan_in texts.plan ≡ Ok c.in-Ok-read_plan.raw = search rules in
+    (c.in-Ok-read_plan.raw, case_of-both texts c.in-Ok.book c.in-Ok-read_plan.raw book plan, c.in-Ok-audit.ensures)
