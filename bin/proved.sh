@@ -11,8 +11,6 @@ first_run=()
 read_options=()
 # How long the build may be silent, in seconds.
 silence=20
-# The memory that the check of one crate may take, in KiB.
-check_memory=1500000
 
 say() {
     printf 'bin/%s: %s\n' "$name" "$*" >&2
@@ -59,49 +57,20 @@ is_built() {
     [ "$(sum_of_sources; sha256sum <"$program")" = "$(cat "$stamp")" ]
 }
 
-# How many crates are checked side by side: some only wait for those below them, so twice as many as there are processors.
-side_by_side() {
-    local free most
-    most=$((2 * $(nproc)))
-    free=$(awk '/^MemAvailable:/ { print $2 }' /proc/meminfo 2>/dev/null)
-    free=$((${free:-0} / check_memory))
-    [ "$free" -ge "$most" ] || most=$free
-    [ "$most" -ge 1 ] || most=1
-    printf '%s' "$most"
-}
-
-# The crates that can be worked on: they are not done, and those that they stand on are.
-at_work() {
-    local crate below
-    for crate in "${needed[@]}"; do
-        [[ "$are_done" != *" $crate "* ]] || continue
-        for below in ${uses[$crate]}; do
-            [ -z "${uses[$below]+ours}" ] || [[ "$are_done" = *" $below "* ]] || continue 2
-        done
-        printf ' %s' "$crate"
-    done
-}
-
-# Runs a command in a crate's folder, logs what it prints, and says how far the build is. A command that checks several
-# crates is ended once only the program is left, since `rt run` gives the program all processors.
+# Runs a command of rt in the program's folder, logs what it prints, and says how far it is: each crate that it is
+# through with, and every while how long it has been at work.
 follow() {
-    local folder=$1 from_rt rt_pid line
-    shift
-    exec {from_rt}< <(cd "$top/crates/$folder" && exec "$@" </dev/null 2>&1)
+    local from_rt rt_pid line
+    exec {from_rt}< <(cd "$top/crates/$name" && exec "$@" </dev/null 2>&1)
     rt_pid=$!
     while :; do
         if IFS= read -r -t "$silence" -u "$from_rt" line; then
             printf '%s\n' "$line" >>"$log"
-            [[ "$line" = "== "* && " ${needed[*]} " = *" ${line#== } "* ]] || continue
-            finished "${line#== }"
-            if [ "$(at_work)" = " $name" ]; then
-                kill "$rt_pid"
-                wait "$rt_pid"
-                exec {from_rt}<&-
-                return 0
-            fi
+            case $line in
+                "== "*) say "$((SECONDS - began)) seconds, through with ${line#== }" ;;
+            esac
         elif [ "$?" -gt 128 ]; then
-            say "$((SECONDS - began)) seconds, at work on$(at_work)"
+            say "$((SECONDS - began)) seconds, still at work"
         else
             break
         fi
@@ -110,30 +79,9 @@ follow() {
     wait "$rt_pid"
 }
 
-finished() {
-    [[ "$are_done" != *" $1 "* ]] || return 0
-    are_done+="$1 "
-    count=$((count + 1))
-    say "$((SECONDS - began)) seconds, through with $1, $count of ${#needed[@]} crates"
-}
-
-# The lowest crates first, each with all processors, then the others side by side, and at last the program.
-build_all() {
-    local crate below
-    for crate in "${needed[@]}"; do
-        for below in ${uses[$crate]}; do
-            [ -z "${uses[$below]+ours}" ] || continue 2
-        done
-        follow "$crate" rt lib || return
-        finished "$crate"
-    done
-    follow "$name" rt all check --jobs "$(side_by_side)" || return
-    # Once it is built, rt also runs it.
-    follow "$name" rt run -- "${first_run[@]}" && finished "$name"
-}
-
+# Proves the crates that the program stands on, as many side by side as there are processors, and then builds the program.
 build() {
-    local are_done=" " count=0 began=$SECONDS log sources status
+    local began=$SECONDS log sources status
     if ! command -v rt >/dev/null; then
         say "the command rt of the Rattle kit is not on the PATH"
         return 1
@@ -141,7 +89,8 @@ build() {
     log=$(mktemp) && mkdir -p "$top/bin/out" || return 1
     say "building the program. The first build proves the ${#needed[@]} crates that it is made of, which takes minutes."
     sources=$(sum_of_sources)
-    build_all && keep "$sources"
+    # Once the program is built, rt also runs it.
+    follow rt all check --jobs "$(nproc)" && follow rt run -- "${first_run[@]}" && keep "$sources"
     status=$?
     if [ "$status" -eq 0 ]; then
         say "built."
