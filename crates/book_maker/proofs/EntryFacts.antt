@@ -13,7 +13,8 @@ use Rattle.tail_text.specs.declared.refusal.Refusal.{Refusal}
 use Rattle.tail_text.specs.declared.refusal.Table.{Table}
 use Rattle.table_records.specs.Layout.{row_then}
 use Rattle.book_maker.specs.Names.{is_among}
-use Rattle.book_maker.specs.Entries.{entries_from, entries_in, is_new, names_after, with_own}
+use Rattle.book_maker.specs.Entries.{entries_from, entries_in, is_new, with_own}
+use Rattle.book_maker.specs.inside.Entries.{names_after}
 
 -- the first entry gave something, and so did those behind it
 pub record Gave {B : Type 0} (new : Bool) (one : Result B ℕ) (others : Result (List B) Refusal) (found : List B) : Type 0 where

@@ -6,7 +6,8 @@ use Rattle.tail_text.specs.Reading.{refusal_at}
 use Rattle.tail_text.specs.declared.refusal.Refusal.{Refusal}
 use Rattle.tail_text.specs.declared.refusal.Table.{Table}
 use Rattle.table_records.specs.Layout.{row_then}
-use Rattle.book_maker.specs.Entries.{entries_from, entries_in, is_new, names_after, with_own}
+use Rattle.book_maker.specs.Entries.{entries_from, entries_in, is_new, with_own}
+use Rattle.book_maker.specs.inside.Entries.{names_after}
 
 -- what is found before what a result gives
 abbrev pub joined : {B : Type 0} → List B → Result (List B) Refusal → Result (List B) Refusal

@@ -9,10 +9,13 @@ use Rattle.std.proofs.lemmas.List.{length-map, length-set, length-replicate}
 use Rattle.std.proofs.lemmas.List.Elements.{All-cons, All-head, All-nil, All-replicate, All-set, All-tail}
 use Rattle.tail_text.specs.Checks.{look, must}
 use Rattle.tail_book.specs.Seen.{ActivitySeen, CounterSeen, CurfewSeen, RulesSeen, TailSeen}
-use Rattle.tail_book.specs.Sound.{IsActivity, IsCounter, IsCurfew, IsTail, IsWithin, is_none_or_below}
-use Rattle.timetable_reader.specs.Activity.{IsRawActivity, RawActivitySeen}
-use Rattle.fleet_rules.specs.RawRules.{IsRawCounter, IsRawCurfew, RawCounterSeen, RawCurfewSeen}
-use Rattle.fleet_rules.specs.Tail.{IsRawCarry, IsRawTail, RawTailSeen}
+use Rattle.tail_book.specs.inside.Sound.{IsActivity, IsCounter, IsCurfew, IsTail, IsWithin, is_none_or_below}
+use Rattle.timetable_reader.specs.inside.Activity.{IsRawActivity}
+use Rattle.timetable_reader.specs.Activity.{RawActivitySeen}
+use Rattle.fleet_rules.specs.inside.RawRules.{IsRawCounter, IsRawCurfew}
+use Rattle.fleet_rules.specs.RawRules.{RawCounterSeen, RawCurfewSeen}
+use Rattle.fleet_rules.specs.inside.Tail.{IsRawCarry, IsRawTail}
+use Rattle.fleet_rules.specs.Tail.{RawTailSeen}
 use Rattle.fleet_rules.specs.declared.tail.RawCarry.{RawCarry}
 use Rattle.book_maker.specs.Names.{number_in, numbers_in, optional_number_in, place_in}
 use Rattle.book_maker.specs.RulesFound.{counter_in, curfew_in}

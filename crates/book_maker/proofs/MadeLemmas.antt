@@ -7,14 +7,17 @@ use Rattle.std.proofs.lemmas.List.{length-map}
 use Rattle.std.proofs.lemmas.List.Sorted.{All-permutation, length_permutation}
 use Rattle.tail_text.specs.declared.refusal.Table.TheVariants.{Fleet, Rules, Timetable}
 use Rattle.tail_book.specs.Seen.{ActivitySeen, AirportSeen, BookSeen, CounterSeen, CurfewSeen, RulesSeen, TailSeen}
-use Rattle.tail_book.specs.Sound.{IsActivity, IsBook, IsCounter, IsCurfew, IsRules, IsTail}
+use Rattle.tail_book.specs.inside.Sound.{IsActivity, IsBook, IsCounter, IsCurfew, IsRules, IsTail}
 use Rattle.tail_book.specs.declared.rules.AircraftType.{AircraftType}
-use Rattle.timetable_reader.specs.Activity.{IsRawActivity, RawActivitySeen}
+use Rattle.timetable_reader.specs.inside.Activity.{IsRawActivity}
+use Rattle.timetable_reader.specs.Activity.{RawActivitySeen}
 use Rattle.timetable_reader.specs.declared.timetable.TheConstants.{ACTIVITY_LIMIT}
-use Rattle.fleet_rules.specs.RawRules.{AreRawRules, IsRawCounter, IsRawCurfew, RawRulesSeen}
-use Rattle.fleet_rules.specs.Tail.{IsRawTail, RawTailSeen}
+use Rattle.fleet_rules.specs.inside.RawRules.{AreRawRules, IsRawCounter, IsRawCurfew}
+use Rattle.fleet_rules.specs.RawRules.{RawRulesSeen}
+use Rattle.fleet_rules.specs.inside.Tail.{IsRawTail}
+use Rattle.fleet_rules.specs.Tail.{RawTailSeen}
 use Rattle.fleet_rules.specs.declared.fleet.TheConstants.{TAIL_LIMIT}
-use Rattle.book_maker.specs.Known.{HasAsMany, KnownNames, with_rules}
+use Rattle.book_maker.specs.inside.Known.{HasAsMany, KnownNames, with_rules}
 use Rattle.book_maker.specs.Entries.{entries_in}
 use Rattle.book_maker.specs.RulesFound.{airport_names, counter_in, counter_names, curfew_in, kind_names, rules_in}
 use Rattle.book_maker.specs.TailFound.{tail_in}

@@ -27,8 +27,3 @@ entries_from table own_name uses place before (entry ∷ more) =
 -- what the entries of one kind give, of which the first stands at that place
 abbrev pub entries_in : {A B : Type 0} → Table → ℕ → (A → Option (List ℕ)) → (A → Result B ℕ) → List A → Result (List B) Refusal
 entries_in table first own_name uses entries = entries_from table own_name uses first [] entries
-
--- the names, and then the own names of entries
-unfoldable pub names_after : {A : Type 0} → (A → Option (List ℕ)) → List (List ℕ) → List A → List (List ℕ)
-names_after own_name names [] = names
-names_after own_name names (entry ∷ more) = names_after own_name (with_own names (own_name entry)) more

@@ -1,9 +1,8 @@
 pub mod Names
-pub mod Known
-pub mod KnownParts
 pub mod Entries
 pub mod RulesFound
 pub mod TailFound
 pub mod ActivityFound
 pub mod Order
 pub mod Made
+pub mod inside

@@ -2,7 +2,7 @@
 
 ghost use Rattle.std.specs.Prelude.{Some};
 ghost use Rattle.book_maker.specs.ActivityFound.{activity_in};
-ghost use Rattle.timetable_reader.specs.Activity.{IsRawActivity};
+ghost use Rattle.timetable_reader.specs.inside.Activity.{IsRawActivity};
 
 use crate::entries::Entry;
 use crate::known::Known;

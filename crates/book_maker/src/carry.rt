@@ -1,7 +1,7 @@
 //! The carry values of an aircraft, one for each counter.
 
 ghost use Rattle.std.specs.Prelude.{◌≡◌, ◌<◌, ◌^◌, length, slice_set};
-ghost use Rattle.table_records.specs.NoRow.{Judges};
+ghost use Rattle.table_records.specs.inside.NoRow.{Judges};
 ghost use Rattle.book_maker.specs.TailFound.{carry_in, is_named};
 
 use crate::names::number_in;

@@ -1,13 +1,13 @@
 //! The entries of each table in their order, whose names become known one kind after the other.
 
 ghost use Rattle.std.specs.Prelude.{◌≡◌, ◌+◌, ◌≤◌, ◌<◌, ◌^◌, length, map, All, None, Ok, Some, OnOk};
-ghost use Rattle.tail_text.specs.Reading.{Answers};
+ghost use Rattle.tail_text.specs.inside.Reading.{Answers};
 ghost use Rattle.tail_text.specs.declared.refusal.Table.TheVariants.{Fleet, Rules as RulesTable, Timetable};
-ghost use Rattle.timetable_reader.specs.Activity.{IsRawActivity};
+ghost use Rattle.timetable_reader.specs.inside.Activity.{IsRawActivity};
 ghost use Rattle.timetable_reader.specs.declared.timetable.TheConstants.{ACTIVITY_LIMIT};
-ghost use Rattle.fleet_rules.specs.Tail.{IsRawTail};
+ghost use Rattle.fleet_rules.specs.inside.Tail.{IsRawTail};
 ghost use Rattle.fleet_rules.specs.declared.fleet.TheConstants.{TAIL_LIMIT};
-ghost use Rattle.book_maker.specs.Known.{with_airports, with_counters, with_kinds, with_tails};
+ghost use Rattle.book_maker.specs.inside.Known.{with_airports, with_counters, with_kinds, with_tails};
 ghost use Rattle.book_maker.specs.Entries.{entries_in};
 ghost use Rattle.book_maker.specs.RulesFound.{counter_in, curfew_in};
 ghost use Rattle.book_maker.specs.TailFound.{tail_in};

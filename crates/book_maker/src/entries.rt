@@ -2,10 +2,11 @@
 
 ghost use Rattle.std.specs.Prelude.{ℕ, ◌≡◌, ◌+◌, ◌<◌, ◌^◌, [], List, length, All, Option, Result, IfOk, OnOk};
 ghost use Rattle.tail_text.specs.Checks.{must};
-ghost use Rattle.tail_text.specs.Reading.{Answers};
-ghost use Rattle.table_records.specs.NoRow.{Judges};
-ghost use Rattle.book_maker.specs.Known.{KnownNames};
-ghost use Rattle.book_maker.specs.Entries.{entries_in, is_new, names_after, with_own};
+ghost use Rattle.tail_text.specs.inside.Reading.{Answers};
+ghost use Rattle.table_records.specs.inside.NoRow.{Judges};
+ghost use Rattle.book_maker.specs.inside.Known.{KnownNames};
+ghost use Rattle.book_maker.specs.Entries.{entries_in, is_new, with_own};
+ghost use Rattle.book_maker.specs.inside.Entries.{names_after};
 
 use crate::known::Known;
 use indexmap::IndexSet;

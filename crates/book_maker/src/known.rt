@@ -16,11 +16,11 @@ pub struct Known {
 }
 
 impl Model for Known {
-    ghost use Rattle.book_maker.specs.Known.{KnownNames, AreNumbered};
+    ghost use Rattle.book_maker.specs.inside.Known.{KnownNames, AreNumbered};
 
     ghost Value = { KnownNames };
 
-    ghost use Rattle.book_maker.specs.KnownParts.{names_in};
+    ghost use Rattle.book_maker.specs.inside.KnownParts.{names_in};
 
     ghost view = { names_in };
 

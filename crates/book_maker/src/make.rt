@@ -1,11 +1,11 @@
 //! The book of the three tables' records.
 
 ghost use Rattle.std.specs.Prelude.{◌≡◌, ◌≤◌, ◌<◌, ◌^◌, [], length, IfOk, OnOk};
-ghost use Rattle.tail_text.specs.Reading.{Answers};
+ghost use Rattle.tail_text.specs.inside.Reading.{Answers};
 ghost use Rattle.timetable_reader.specs.declared.timetable.TheConstants.{ACTIVITY_LIMIT};
-ghost use Rattle.fleet_rules.specs.RawRules.{AreRawRules};
+ghost use Rattle.fleet_rules.specs.inside.RawRules.{AreRawRules};
 ghost use Rattle.fleet_rules.specs.declared.fleet.TheConstants.{TAIL_LIMIT};
-ghost use Rattle.book_maker.specs.Known.{with_rules};
+ghost use Rattle.book_maker.specs.inside.Known.{with_rules};
 ghost use Rattle.book_maker.specs.Made.{made_of, tags_of};
 ghost use Rattle.book_maker.specs.RulesFound.{rules_in};
 

@@ -2,7 +2,7 @@
 //! A set that keeps the order of insertion finds a name at once, so each list of names is passed over once.
 
 ghost use Rattle.std.specs.Prelude.{◌≡◌, ◌<◌, ◌≤◌, ◌^◌, length, map, IfOk};
-ghost use Rattle.table_records.specs.NoRow.{Judges};
+ghost use Rattle.table_records.specs.inside.NoRow.{Judges};
 ghost use Rattle.book_maker.specs.Names.{distinct_names, number_in, numbers_in, optional_number_in, place_in};
 
 use indexmap::IndexSet;

@@ -1,6 +1,6 @@
 //! The book of the three tables' texts.
 
-ghost use Rattle.tail_text.specs.Reading.{Answers};
+ghost use Rattle.tail_text.specs.inside.Reading.{Answers};
 ghost use Rattle.book_maker.specs.Made.{book_of};
 
 use crate::make_book;

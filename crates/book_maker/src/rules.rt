@@ -2,7 +2,7 @@
 
 ghost use Rattle.std.specs.Prelude.{None, Ok, Some, ⊤};
 ghost use Rattle.book_maker.specs.RulesFound.{counter_in, curfew_in};
-ghost use Rattle.fleet_rules.specs.RawRules.{IsRawCounter, IsRawCurfew};
+ghost use Rattle.fleet_rules.specs.inside.RawRules.{IsRawCounter, IsRawCurfew};
 
 use crate::entries::Entry;
 use crate::known::Known;

@@ -2,7 +2,7 @@
 
 ghost use Rattle.std.specs.Prelude.{Some};
 ghost use Rattle.book_maker.specs.TailFound.{tail_in};
-ghost use Rattle.fleet_rules.specs.Tail.{IsRawTail};
+ghost use Rattle.fleet_rules.specs.inside.Tail.{IsRawTail};
 
 use crate::carry::carry_in;
 use crate::entries::Entry;

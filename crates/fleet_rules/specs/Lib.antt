@@ -6,9 +6,8 @@ pub mod CurfewEntry
 pub mod Entries
 pub mod Fleet
 pub mod RawRules
-pub mod RawRulesParts
 pub mod RulesTable
 pub mod Tail
-pub mod TailParts
 pub mod TomlValues
 pub mod TypeEntry
+pub mod inside

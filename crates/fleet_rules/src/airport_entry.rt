@@ -2,7 +2,7 @@
 
 ghost use Rattle.std.specs.Prelude.{◌≡◌, IfOk};
 ghost use Rattle.toml.specs.View.{table_view};
-ghost use Rattle.tail_book.specs.Sound.{IsAirport};
+ghost use Rattle.tail_book.specs.inside.Sound.{IsAirport};
 ghost use Rattle.fleet_rules.specs.AirportEntry.{airport_in, airports};
 
 use crate::entries::Entry;

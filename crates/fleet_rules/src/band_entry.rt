@@ -2,7 +2,7 @@
 
 ghost use Rattle.std.specs.Prelude.{◌≡◌, IfOk};
 ghost use Rattle.toml.specs.View.{table_view};
-ghost use Rattle.tail_book.specs.Sound.{IsBand};
+ghost use Rattle.tail_book.specs.inside.Sound.{IsBand};
 ghost use Rattle.fleet_rules.specs.BandEntry.{band_in, bands};
 
 use crate::entries::Entry;

@@ -1,9 +1,9 @@
 //! The values with which an aircraft comes in, in one field.
 
 ghost use Rattle.std.specs.Prelude.{◌≡◌, ◌<◌, length, IfOk, IfSome};
-ghost use Rattle.table_records.specs.NoRow.{Judges};
+ghost use Rattle.table_records.specs.inside.NoRow.{Judges};
 ghost use Rattle.fleet_rules.specs.Carry.{carry_in, cut_of, item_in};
-ghost use Rattle.fleet_rules.specs.Tail.{AreCarried, IsRawCarry};
+ghost use Rattle.fleet_rules.specs.inside.Tail.{AreCarried, IsRawCarry};
 
 use crate::RawCarry;
 use std::alloc::Global;

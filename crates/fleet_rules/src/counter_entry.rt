@@ -2,10 +2,10 @@
 
 ghost use Rattle.std.specs.Prelude.{◌≡◌, IfOk};
 ghost use Rattle.toml.specs.View.{table_view};
-ghost use Rattle.tail_book.specs.Sound.{IsLimit};
-ghost use Rattle.table_records.specs.NoRow.{Judges};
+ghost use Rattle.tail_book.specs.inside.Sound.{IsLimit};
+ghost use Rattle.table_records.specs.inside.NoRow.{Judges};
 ghost use Rattle.fleet_rules.specs.CounterEntry.{counter_in, counters, kind_at, kind_of, limit_at};
-ghost use Rattle.fleet_rules.specs.RawRules.{IsRawCounter};
+ghost use Rattle.fleet_rules.specs.inside.RawRules.{IsRawCounter};
 
 use crate::RawCounter;
 use crate::entries::Entry;

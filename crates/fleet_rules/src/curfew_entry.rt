@@ -2,9 +2,9 @@
 
 ghost use Rattle.std.specs.Prelude.{◌≡◌, IfOk};
 ghost use Rattle.toml.specs.View.{table_view};
-ghost use Rattle.table_records.specs.NoRow.{Judges};
+ghost use Rattle.table_records.specs.inside.NoRow.{Judges};
 ghost use Rattle.fleet_rules.specs.CurfewEntry.{curfew_in, curfews};
-ghost use Rattle.fleet_rules.specs.RawRules.{IsRawCurfew};
+ghost use Rattle.fleet_rules.specs.inside.RawRules.{IsRawCurfew};
 
 use crate::RawCurfew;
 use crate::entries::Entry;

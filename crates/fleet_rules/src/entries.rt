@@ -6,9 +6,10 @@
 ghost use Rattle.std.specs.Prelude.{◌≡◌, ◌≤◌, ◌+◌, ◌-◌, length, map, All, IfOk, option_map};
 ghost use Rattle.toml.specs.View.{table_view, view};
 ghost use Rattle.tail_text.specs.Checks.{look_each};
-ghost use Rattle.tail_text.specs.Reading.{Answers, refusal_at};
+ghost use Rattle.tail_text.specs.inside.Reading.{Answers};
+ghost use Rattle.tail_text.specs.Reading.{refusal_at};
 ghost use Rattle.tail_text.specs.declared.refusal.Stopped.TheVariants.{Refused};
-ghost use Rattle.table_records.specs.NoRow.{Judges};
+ghost use Rattle.table_records.specs.inside.NoRow.{Judges};
 ghost use Rattle.fleet_rules.specs.Entries.{Section, entries_at, entries_from, entry_in, refused, entry_table, tables_in};
 ghost use Rattle.fleet_rules.specs.TomlValues.{has_only};
 

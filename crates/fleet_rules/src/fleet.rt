@@ -1,8 +1,8 @@
 //! The fleet, record by record.
 
 ghost use Rattle.std.specs.Prelude.{◌≡◌, ◌≤◌, length, IfOk};
-ghost use Rattle.tail_text.specs.Reading.{Answers};
-ghost use Rattle.table_records.specs.NoRow.{Judges};
+ghost use Rattle.tail_text.specs.inside.Reading.{Answers};
+ghost use Rattle.table_records.specs.inside.NoRow.{Judges};
 ghost use Rattle.fleet_rules.specs.Fleet.{fleet, fleet_of, tail_of};
 ghost use Rattle.fleet_rules.specs.declared.fleet.TheConstants.{TAIL_LIMIT};
 

@@ -16,11 +16,12 @@ pub struct RawCurfew {
 }
 
 impl Model for RawCurfew {
-    ghost use Rattle.fleet_rules.specs.RawRules.{RawCurfewSeen, IsRawCurfew};
+    ghost use Rattle.fleet_rules.specs.RawRules.{RawCurfewSeen};
+    ghost use Rattle.fleet_rules.specs.inside.RawRules.{IsRawCurfew};
 
     ghost Value = { RawCurfewSeen };
 
-    ghost use Rattle.fleet_rules.specs.RawRulesParts.{curfew_seen};
+    ghost use Rattle.fleet_rules.specs.inside.RawRulesParts.{curfew_seen};
 
     ghost view = { curfew_seen };
 
@@ -39,11 +40,12 @@ pub struct RawCounter {
 }
 
 impl Model for RawCounter {
-    ghost use Rattle.fleet_rules.specs.RawRules.{RawCounterSeen, IsRawCounter};
+    ghost use Rattle.fleet_rules.specs.RawRules.{RawCounterSeen};
+    ghost use Rattle.fleet_rules.specs.inside.RawRules.{IsRawCounter};
 
     ghost Value = { RawCounterSeen };
 
-    ghost use Rattle.fleet_rules.specs.RawRulesParts.{counter_seen};
+    ghost use Rattle.fleet_rules.specs.inside.RawRulesParts.{counter_seen};
 
     ghost view = { counter_seen };
 
@@ -62,11 +64,12 @@ pub struct RawRules {
 }
 
 impl Model for RawRules {
-    ghost use Rattle.fleet_rules.specs.RawRules.{RawRulesSeen, AreRawRules};
+    ghost use Rattle.fleet_rules.specs.RawRules.{RawRulesSeen};
+    ghost use Rattle.fleet_rules.specs.inside.RawRules.{AreRawRules};
 
     ghost Value = { RawRulesSeen };
 
-    ghost use Rattle.fleet_rules.specs.RawRulesParts.{rules_seen};
+    ghost use Rattle.fleet_rules.specs.inside.RawRulesParts.{rules_seen};
 
     ghost view = { rules_seen };
 

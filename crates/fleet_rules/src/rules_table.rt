@@ -5,7 +5,7 @@
 
 ghost use Rattle.std.specs.Prelude.{◌≡◌};
 ghost use Rattle.toml.specs.View.{table_view};
-ghost use Rattle.tail_text.specs.Reading.{Answers};
+ghost use Rattle.tail_text.specs.inside.Reading.{Answers};
 ghost use Rattle.fleet_rules.specs.RulesTable.{rules_in, rules_of};
 
 use crate::RawRules;

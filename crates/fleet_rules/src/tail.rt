@@ -25,11 +25,12 @@ pub struct RawTail {
 }
 
 impl Model for RawTail {
-    ghost use Rattle.fleet_rules.specs.Tail.{RawTailSeen, IsRawTail};
+    ghost use Rattle.fleet_rules.specs.Tail.{RawTailSeen};
+    ghost use Rattle.fleet_rules.specs.inside.Tail.{IsRawTail};
 
     ghost Value = { RawTailSeen };
 
-    ghost use Rattle.fleet_rules.specs.TailParts.{seen_of};
+    ghost use Rattle.fleet_rules.specs.inside.TailParts.{seen_of};
 
     ghost view = { seen_of };
 

@@ -2,7 +2,7 @@
 
 ghost use Rattle.std.specs.Prelude.{◌≡◌, IfOk};
 ghost use Rattle.toml.specs.View.{table_view};
-ghost use Rattle.tail_book.specs.Sound.{IsKind};
+ghost use Rattle.tail_book.specs.inside.Sound.{IsKind};
 ghost use Rattle.fleet_rules.specs.TypeEntry.{type_in, types};
 
 use crate::entries::Entry;

@@ -10,13 +10,13 @@ ghost use Rattle.tail_book.specs.Lookup.{activities, aircraft, from_port, resets
 ghost use Rattle.tail_book.specs.Link.{free_from};
 ghost use Rattle.tail_book.specs.Numbers.{contains, int_le};
 ghost use Rattle.tail_book.specs.Counters.{step, WithinLimits};
-ghost use Rattle.tail_book.specs.Sound.{IsWithin, IsMoment};
-ghost use Rattle.tail_book.specs.Tests.{within_limits};
-ghost use Rattle.tail_book.specs.Place.{IsPlaceOf};
-ghost use Rattle.turn_rules.specs.FreeBefore.{IsFreeBefore};
-ghost use Rattle.turn_rules.specs.NumberSet.{has};
-ghost use Rattle.maint_counters.specs.Counts.{AreCounts, AreCountable, GrowByAStep};
-ghost use Rattle.maint_counters.specs.StepTable.{IsActivityRow, IsCounterRow, IsInRange, IsStepTableOf, added_in, clears_in, counter_of, no_activity_row, no_counter, no_counter_row, stepped_in};
+ghost use Rattle.tail_book.specs.inside.Sound.{IsWithin, IsMoment};
+ghost use Rattle.tail_book.specs.inside.Tests.{within_limits};
+ghost use Rattle.tail_book.specs.inside.Place.{IsPlaceOf};
+ghost use Rattle.turn_rules.specs.inside.FreeBefore.{IsFreeBefore};
+ghost use Rattle.turn_rules.specs.inside.NumberSet.{has};
+ghost use Rattle.maint_counters.specs.inside.Counts.{AreCounts, AreCountable, GrowByAStep};
+ghost use Rattle.maint_counters.specs.inside.StepTable.{IsActivityRow, IsCounterRow, IsInRange, IsStepTableOf, added_in, clears_in, counter_of, no_activity_row, no_counter, no_counter_row, stepped_in};
 
 use crate::counting::{end_of, flown, landed, start_of};
 use std::alloc::Global;

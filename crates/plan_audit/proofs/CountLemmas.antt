@@ -3,14 +3,14 @@ use Rattle.std.proofs.Common.{◌≡◌, ℕ, ◌+◌, ◌<◌, ℤ, pos, arith,
 use Rattle.std.proofs.lemmas.List.{drop_more, take_more_set}
 use Rattle.tail_book.specs.Seen.{CounterSeen, BookSeen}
 use Rattle.tail_book.specs.Lookup.{aircraft, carry_of, no_tail}
-use Rattle.tail_book.specs.Sound.{IsBook}
+use Rattle.tail_book.specs.inside.Sound.{IsBook}
 use Rattle.tail_book.specs.declared.place.Place.{Place}
 use Rattle.tail_book.specs.declared.place.Place.TheVariants.{Carry, After}
 use Rattle.tail_book.specs.Counters.{step_one, step_from}
 use Rattle.std.proofs.lemmas.Int.{ints}
 use Rattle.std.specs.Prelude.{◌≤◌, ◌^◌, FitsSigned}
 use mir.Syntax.{w128}
-use Rattle.plan_audit.specs.Counted.{value_before, IsWithinLegs}
+use Rattle.plan_audit.specs.inside.Counted.{value_before, IsWithinLegs}
 use Rattle.plan_audit.specs.Rules.{values_before}
 
 -- a counter before the leg, among all of them

@@ -15,7 +15,8 @@ use Rattle.plan_audit.specs.declared.leg.Leg.{Leg}
 use Rattle.plan_audit.specs.declared.met.Met.{Met}
 use Rattle.plan_audit.specs.declared.met.Met.TheVariants.{Unknown, Twice, Tail, Activity}
 use Rattle.plan_audit.specs.Met.{tails_met, names_met}
-use Rattle.plan_audit.specs.Kept.{next_route, route_met, kept, legs_from, legs_met, route_in}
+use Rattle.plan_audit.specs.Kept.{next_route, route_met, kept, legs_from, legs_met}
+use Rattle.plan_audit.specs.inside.Kept.{route_in}
 use Rattle.plan_audit.proofs.WellMet.{names_well_met}
 use Rattle.plan_audit.proofs.KeptLegs.{route_behind}
 

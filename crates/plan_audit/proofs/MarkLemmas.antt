@@ -11,7 +11,7 @@ use Rattle.std.specs.List.{range_with_len, filter}
 use Rattle.std.specs.Prelude.{not, cond}
 use Rattle.plan_audit.specs.declared.broken.Broken.{Broken}
 use Rattle.plan_audit.specs.declared.broken.Broken.TheVariants as rule
-use Rattle.plan_audit.specs.Marks.{AreMarks}
+use Rattle.plan_audit.specs.inside.Marks.{AreMarks}
 
 or_last : (p q : Bool) → (p || (q || false)) ≡ (q || p)
 or_last p q = grind arith

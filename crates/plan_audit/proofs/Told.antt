@@ -13,17 +13,19 @@ use Rattle.tail_book.specs.Lookup.{activities, aircraft}
 use Rattle.tail_book.specs.declared.place.Place.TheVariants.{Carry}
 use Rattle.tail_book.specs.Curfew.{is_curfewed}
 use Rattle.tail_book.specs.Plan.{times_flown, route_of}
-use Rattle.tail_book.specs.Route.{place_after}
-use Rattle.tail_book.specs.Tests.{is_permitted, is_connected}
+use Rattle.tail_book.specs.inside.Route.{place_after}
+use Rattle.tail_book.specs.Allowed.{is_permitted}
+use Rattle.tail_book.specs.Link.{is_connected}
 use Rattle.plan_audit.specs.declared.leg.Leg.{Leg}
 use Rattle.plan_audit.specs.declared.met.Met.{Met}
 use Rattle.plan_audit.specs.declared.met.Met.TheVariants.{Unknown, Twice, Tail, Activity}
 use Rattle.plan_audit.specs.declared.broken.Broken.{Broken}
 use Rattle.plan_audit.specs.declared.broken.Broken.TheVariants as rule
 use Rattle.plan_audit.specs.Met.{tails_met, activities_met, names_met}
-use Rattle.plan_audit.specs.Kept.{route_met, kept, legs_met, IsLegOf}
+use Rattle.plan_audit.specs.Kept.{route_met, kept, legs_met}
+use Rattle.plan_audit.specs.inside.Kept.{IsLegOf}
 use Rattle.plan_audit.specs.Rules.{unknown, twice, uncovered, not_allowed, curfews, no_links, past_limits}
-use Rattle.plan_audit.specs.Told.{IsTold, IsInNoRoute, ComesBehind, UncoveredAreInNoRoute, NotAllowedAreNotPermitted, CurfewsAreInTheWay, NoLinksAreNotConnected, CountersArePastLimits}
+use Rattle.plan_audit.specs.inside.Told.{IsTold, IsInNoRoute, ComesBehind, UncoveredAreInNoRoute, NotAllowedAreNotPermitted, CurfewsAreInTheWay, NoLinksAreNotConnected, CountersArePastLimits}
 use Rattle.plan_audit.proofs.CountLemmas.{carry_width}
 use Rattle.plan_audit.proofs.WellMet.{IsWellMet, names_well_met}
 use Rattle.plan_audit.proofs.Along.{legs_are_of_book, no_route, tails_within, kept_times, count_none}

@@ -11,16 +11,17 @@ use Rattle.tail_book.specs.Lookup.{aircraft, carry_of}
 use Rattle.tail_book.specs.declared.place.Place.{Place}
 use Rattle.tail_book.specs.declared.place.Place.TheVariants.{Carry, After}
 use Rattle.tail_book.specs.Counters.{step}
-use Rattle.tail_book.specs.Route.{counters_from}
-use Rattle.tail_book.specs.Sound.{IsBook}
+use Rattle.tail_book.specs.inside.Route.{counters_from}
+use Rattle.tail_book.specs.inside.Sound.{IsBook}
 use Rattle.plan_audit.specs.declared.leg.Leg.{Leg}
 use Rattle.plan_audit.specs.declared.met.Met.{Met}
 use Rattle.plan_audit.specs.declared.met.Met.TheVariants.{Unknown, Twice, Tail, Activity}
 use Rattle.plan_audit.specs.declared.broken.Broken.TheVariants as rule
-use Rattle.plan_audit.specs.Met.{IsMetOf, tails_met}
+use Rattle.plan_audit.specs.inside.Met.{IsMetOf}
+use Rattle.plan_audit.specs.Met.{tails_met}
 use Rattle.plan_audit.specs.Kept.{next_route, route_met, legs_from}
 use Rattle.plan_audit.specs.Rules.{past_limits_at, values_before, values_after, past_limits}
-use Rattle.plan_audit.specs.Told.{no_counter, IsPastLimit}
+use Rattle.plan_audit.specs.inside.Told.{no_counter, IsPastLimit}
 use Rattle.plan_audit.proofs.CountLemmas.{carry_width}
 use Rattle.plan_audit.proofs.Legality.{step_width}
 use Rattle.plan_audit.proofs.ToldLemmas.{empty_has, cons_cases, cons_here, order_of, AreOf}

@@ -4,10 +4,11 @@
 
 ghost use Rattle.std.specs.Prelude.{◌≡◌, IfOk, All};
 ghost use Rattle.tail_book.specs.Plan.{IsLegalPlan};
-ghost use Rattle.tail_book.specs.CostTable.{IsCostTable, IsTableFor, plan_cost_in};
-ghost use Rattle.plan_audit.specs.PlanCost.{IsPlanCost};
-ghost use Rattle.plan_audit.specs.Reading.{IsReadingOf};
-ghost use Rattle.plan_audit.specs.Kept.{legs_met, IsLegOf};
+ghost use Rattle.tail_book.specs.inside.CostTable.{IsCostTable, IsTableFor, plan_cost_in};
+ghost use Rattle.plan_audit.specs.inside.PlanCost.{IsPlanCost};
+ghost use Rattle.plan_audit.specs.inside.Reading.{IsReadingOf};
+ghost use Rattle.plan_audit.specs.Kept.{legs_met};
+ghost use Rattle.plan_audit.specs.inside.Kept.{IsLegOf};
 ghost use Rattle.plan_audit.specs.Broken.{broken_by, IsAuditOf};
 
 use crate::broken::{Audit, Broken};

@@ -3,9 +3,9 @@
 ghost use Rattle.std.specs.Prelude.{◌≡◌, ◌<◌, ◌≤◌, ◌^◌, All};
 ghost use Rattle.tail_book.specs.Lookup.{activities, aircraft};
 ghost use Rattle.tail_book.specs.Cost.{activity_cost, connection_cost};
-ghost use Rattle.tail_book.specs.Place.{IsPlaceOf};
-ghost use Rattle.plan_audit.specs.Kept.{IsLegOf};
-ghost use Rattle.plan_audit.specs.LegCost.{leg_cost, legs_cost};
+ghost use Rattle.tail_book.specs.inside.Place.{IsPlaceOf};
+ghost use Rattle.plan_audit.specs.inside.Kept.{IsLegOf};
+ghost use Rattle.plan_audit.specs.inside.LegCost.{leg_cost, legs_cost};
 
 use crate::leg::Leg;
 use maint_counters::flown;

@@ -4,10 +4,10 @@ ghost use Rattle.std.specs.Prelude.{◌≡◌, ◌<◌, ◌++◌, ◌∷◌, [],
 ghost use Rattle.std.specs.List.{flat_map, list_all};
 ghost use Rattle.tail_book.specs.Lookup.{activities, aircraft};
 ghost use Rattle.tail_book.specs.Counters.{step};
-ghost use Rattle.tail_book.specs.Tests.{is_link, within_limits, is_legal_route, are_legal_below, are_flown_once_below, is_legal_plan};
-ghost use Rattle.tail_book.specs.Place.{IsPlaceOf};
-ghost use Rattle.maint_counters.specs.Counts.{AreCounts};
-ghost use Rattle.plan_audit.specs.Times.{AreTimes};
+ghost use Rattle.tail_book.specs.inside.Tests.{is_link, within_limits, is_legal_route, are_legal_below, are_flown_once_below, is_legal_plan};
+ghost use Rattle.tail_book.specs.inside.Place.{IsPlaceOf};
+ghost use Rattle.maint_counters.specs.inside.Counts.{AreCounts};
+ghost use Rattle.plan_audit.specs.inside.Times.{AreTimes};
 
 use maint_counters::{start, step};
 use std::alloc::Global;

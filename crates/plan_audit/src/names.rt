@@ -4,7 +4,7 @@
 
 ghost use Rattle.std.specs.Prelude.{◌≡◌, ◌≢◌, ◌<◌, ◌^◌, length, map, position, AllPairs, IfOk, IfSome};
 ghost use Rattle.std.specs.Str.{bytes_eq};
-ghost use Rattle.plan_audit.specs.Names.{AreNames};
+ghost use Rattle.plan_audit.specs.inside.Names.{AreNames};
 
 use indexmap::IndexSet;
 use std::alloc::Global;

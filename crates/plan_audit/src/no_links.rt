@@ -1,7 +1,7 @@
 //! Legs that do not connect: the aircraft is elsewhere, or not free in time.
 
 ghost use Rattle.std.specs.Prelude.{◌≡◌, ◌++◌, IfOk, All};
-ghost use Rattle.plan_audit.specs.Kept.{IsLegOf};
+ghost use Rattle.plan_audit.specs.inside.Kept.{IsLegOf};
 ghost use Rattle.plan_audit.specs.Rules.{no_links};
 
 use crate::broken::Broken;

@@ -7,9 +7,9 @@ ghost use Rattle.std.specs.Prelude.{◌≡◌, ◌<◌, ◌≤◌, ◌+◌, ◌^
 ghost use Rattle.tail_book.specs.Numbers.{contains, int_le};
 ghost use Rattle.tail_book.specs.Lookup.{activities, resets_of};
 ghost use Rattle.tail_book.specs.Counters.{step_one, step_from};
-ghost use Rattle.tail_book.specs.Sound.{IsWithin};
-ghost use Rattle.plan_audit.specs.Kept.{IsLegOf};
-ghost use Rattle.plan_audit.specs.Counted.{value_before, IsWithinLegs};
+ghost use Rattle.tail_book.specs.inside.Sound.{IsWithin};
+ghost use Rattle.plan_audit.specs.inside.Kept.{IsLegOf};
+ghost use Rattle.plan_audit.specs.inside.Counted.{value_before, IsWithinLegs};
 ghost use Rattle.plan_audit.specs.Rules.{values_before, values_after, past_limits_at, past_limits};
 
 use crate::broken::Broken;

@@ -3,10 +3,11 @@
 //! Each name is looked up once, and marks tell at once whether its number was met before.
 
 ghost use Rattle.std.specs.Prelude.{◌≡◌, ◌<◌, ◌++◌, ◌∷◌, [], length, set, true, IfOk};
-ghost use Rattle.plan_audit.specs.Names.{AreNames};
-ghost use Rattle.plan_audit.specs.Reading.{IsReadingOf};
+ghost use Rattle.plan_audit.specs.inside.Names.{AreNames};
+ghost use Rattle.plan_audit.specs.inside.Reading.{IsReadingOf};
 ghost use Rattle.tail_book.specs.Lookup.{activities, aircraft};
-ghost use Rattle.plan_audit.specs.Met.{IsMetOf, IsDropped, as_tail, as_activity, activity_named, tail_named, with_ids, with_line, with_lines, names_met};
+ghost use Rattle.plan_audit.specs.inside.Met.{IsMetOf, IsDropped};
+ghost use Rattle.plan_audit.specs.Met.{as_tail, as_activity, activity_named, tail_named, with_ids, with_line, with_lines, names_met};
 
 use crate::met::Met;
 use crate::names::{Names, names_of, number_of};

@@ -2,8 +2,8 @@
 
 ghost use Rattle.std.specs.Prelude.{◌≡◌, ◌<◌, ◌^◌, length, All};
 ghost use Rattle.tail_book.specs.Lookup.{activities, aircraft};
-ghost use Rattle.tail_book.specs.CostTable.{IsTableFor, connection_cost_in, route_cost_in, plan_cost_in};
-ghost use Rattle.tail_book.specs.Place.{IsPlaceOf};
+ghost use Rattle.tail_book.specs.inside.CostTable.{IsTableFor, connection_cost_in, route_cost_in, plan_cost_in};
+ghost use Rattle.tail_book.specs.inside.Place.{IsPlaceOf};
 
 use tail_book::laws::every_book_is_sound;
 use tail_book::{Book, CostTable, Place, Route};

@@ -4,7 +4,7 @@ ghost use Rattle.std.specs.Prelude.{◌≡◌, ◌<◌, ◌++◌, ◌∷◌, [],
 ghost use Rattle.tail_book.specs.Lookup.{activities};
 ghost use Rattle.tail_book.specs.Numbers.{contains};
 ghost use Rattle.plan_audit.specs.Met.{activities_met};
-ghost use Rattle.plan_audit.specs.Reading.{IsReadingOf};
+ghost use Rattle.plan_audit.specs.inside.Reading.{IsReadingOf};
 ghost use Rattle.plan_audit.specs.Rules.{unknown, twice, uncovered};
 
 use crate::broken::Broken;

@@ -7,7 +7,7 @@ use Rattle.std.specs.List.{flat_map}
 use Rattle.tail_book.specs.Seen.{BookSeen}
 use Rattle.tail_book.specs.Lookup.{aircraft}
 use Rattle.tail_book.specs.Plan.{route_of, times_flown, IsLegalPlan}
-use Rattle.plan_enumeration.specs.Assignment.{flown_from, flown_by, routes_from, plan_of, IsLegalAssignment}
+use Rattle.plan_enumeration.specs.inside.Assignment.{flown_from, flown_by, routes_from, plan_of, IsLegalAssignment}
 
 -- an aircraft more at the end
 pub flown_from-push : (k i j : ℕ) (who : List ℕ) → flown_from k i (who ++ j ∷ []) ≡ flown_from k i who ++ (if nat_eq j k then (i + length who) ∷ [] else [])

@@ -2,7 +2,7 @@
 use Rattle.std.proofs.Common.{◌≡◌, ◌∙◌, ℕ, suc, ◌+◌, ◌-◌, ◌<◌, arith, List, [], ◌∷◌, ◌++◌, length, get_or, drop, refl, sym, ap, append_assoc}
 use Rattle.std.proofs.lemmas.List.{drop_more}
 use Rattle.std.proofs.lemmas.Bool.{eq-eqb, ne_eqb}
-use Rattle.plan_enumeration.specs.Assignment.{flown_by, flown_from, routes_from}
+use Rattle.plan_enumeration.specs.inside.Assignment.{flown_by, flown_from, routes_from}
 
 -- a turn of the loop over the fliers
 module _ (k a : ℕ) (fliers done : List ℕ) (j : ℕ) (lt : a < length fliers) (here : j ≡ get_or fliers a 0) where

@@ -10,10 +10,11 @@ use Rattle.tail_book.specs.declared.place.Place.TheVariants.{Carry, After}
 use Rattle.tail_book.specs.Lookup.{activities, aircraft, carry_of}
 use Rattle.tail_book.specs.Link.{IsLink}
 use Rattle.tail_book.specs.Counters.{step, WithinLimits}
-use Rattle.tail_book.specs.Route.{IsLegalFrom, IsLegalRoute, counters_from, place_after}
+use Rattle.tail_book.specs.Route.{IsLegalFrom, IsLegalRoute}
+use Rattle.tail_book.specs.inside.Route.{counters_from, place_after}
 use Rattle.tail_book.specs.Cost.{activity_cost, connection_cost, cost_from, route_cost, cost_of_routes}
-use Rattle.plan_enumeration.specs.Assignment.{flown_from, flown_by, routes_from, IsLegalSoFar, IsLegalAssignment, assignment_cost}
-use Rattle.plan_enumeration.specs.Enumeration.{GoesOn, next_cost}
+use Rattle.plan_enumeration.specs.inside.Assignment.{flown_from, flown_by, routes_from, IsLegalSoFar, IsLegalAssignment, assignment_cost}
+use Rattle.plan_enumeration.specs.inside.Enumeration.{GoesOn, next_cost}
 use Rattle.plan_enumeration.proofs.Assigned.{flown_from-push}
 
 -- a route and what follows it

@@ -7,9 +7,9 @@ use Rattle.tail_book.specs.declared.place.Place.TheVariants.{Carry, After}
 use Rattle.tail_book.specs.Lookup.{activities, aircraft}
 use Rattle.tail_book.specs.Numbers.{contains}
 use Rattle.tail_book.specs.Plan.{route_of, IsLegalPlan}
-use Rattle.tail_book.specs.Rising.{IsRisingFrom, LegalRoutesRise, EachIsFlownOnce}
-use Rattle.tail_book.specs.Sound.{IsBook}
-use Rattle.plan_enumeration.specs.Assignment.{flown_from, flown_by, routes_from, plan_of, IsLegalAssignment}
+use Rattle.tail_book.specs.inside.Rising.{IsRisingFrom, LegalRoutesRise, EachIsFlownOnce}
+use Rattle.tail_book.specs.inside.Sound.{IsBook}
+use Rattle.plan_enumeration.specs.inside.Assignment.{flown_from, flown_by, routes_from, plan_of, IsLegalAssignment}
 
 -- the first aircraft whose route has the activity
 abbrev flier_of : List (List ℕ) → ℕ → ℕ

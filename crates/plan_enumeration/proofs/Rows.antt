@@ -6,7 +6,7 @@ use Rattle.std.proofs.lemmas.List.{drop-append-le, take-append-le, take-append-d
 use Rattle.tail_book.specs.Seen.{BookSeen}
 use Rattle.tail_book.specs.declared.place.Place.{Place}
 use Rattle.tail_book.specs.declared.place.Place.TheVariants.{Carry, After}
-use Rattle.plan_enumeration.specs.Enumeration.{IsPlaceBefore, IsRowBefore, row_of, values_at, width_of, with_row}
+use Rattle.plan_enumeration.specs.inside.Enumeration.{IsPlaceBefore, IsRowBefore, row_of, values_at, width_of, with_row}
 
 -- a row before another one ends where that one begins
 pub row_below : (w x a : ℕ) → x < a → x * w + w ≤ a * w

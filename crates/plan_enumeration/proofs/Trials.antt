@@ -13,15 +13,15 @@ use Rattle.tail_book.specs.declared.place.Place.TheVariants.{Carry, After}
 use Rattle.tail_book.specs.Lookup.{activities, aircraft, carry_of, no_tail}
 use Rattle.tail_book.specs.Link.{IsLink}
 use Rattle.tail_book.specs.Counters.{step, WithinLimits}
-use Rattle.tail_book.specs.Route.{counters_after, place_after}
-use Rattle.tail_book.specs.Sound.{IsBook, IsWithin}
+use Rattle.tail_book.specs.inside.Route.{counters_after, place_after}
+use Rattle.tail_book.specs.inside.Sound.{IsBook, IsWithin}
 use Rattle.plan_enumeration.specs.declared.enumerate.Trial.{Trial}
 use Rattle.plan_enumeration.specs.declared.enumerate.Best.{Best}
 use Rattle.plan_enumeration.specs.declared.enumerate.Advance.{Advance}
 use Rattle.tail_book.specs.Cost.{activity_cost, connection_cost}
-use Rattle.plan_enumeration.specs.Assignment.{flown_from, flown_by, IsLegalAssignment, assignment_cost}
-use Rattle.plan_enumeration.specs.Enumeration.{Advances, AgreesBelow, GoesOn, HasRow, HasTried, IsCount, IsPlaceBefore, IsTrial, end_of_route, row_of, values_after, values_at, width_of, with_row}
-use Rattle.tail_book.specs.Place.{IsPlaceOf}
+use Rattle.plan_enumeration.specs.inside.Assignment.{flown_from, flown_by, IsLegalAssignment, assignment_cost}
+use Rattle.plan_enumeration.specs.inside.Enumeration.{Advances, AgreesBelow, GoesOn, HasRow, HasTried, IsCount, IsPlaceBefore, IsTrial, end_of_route, row_of, values_after, values_at, width_of, with_row}
+use Rattle.tail_book.specs.inside.Place.{IsPlaceOf}
 use Rattle.plan_enumeration.proofs.Extended.{completed, cost_more, counters_push, flown_by-other, flown_by-same, legal_more, place_push}
 use Rattle.plan_enumeration.proofs.Rows.{row_below, row_of_front, with_row-front, with_row-row, with_row-through, length-with_row}
 

@@ -3,8 +3,8 @@
 ghost use Rattle.std.specs.Prelude.{◌≡◌, ◌<◌, ◌≤◌, ◌+◌};
 ghost use Rattle.tail_book.specs.Lookup.{activities, aircraft};
 ghost use Rattle.tail_book.specs.Cost.{activity_cost, connection_cost};
-ghost use Rattle.tail_book.specs.CostTable.{connection_cost_in, costs_of};
-ghost use Rattle.tail_book.specs.Place.{IsPlaceOf};
+ghost use Rattle.tail_book.specs.inside.CostTable.{connection_cost_in, costs_of};
+ghost use Rattle.tail_book.specs.inside.Place.{IsPlaceOf};
 
 use tail_book::{Book, CostTable, Place, laws};
 use turn_rules::gap;

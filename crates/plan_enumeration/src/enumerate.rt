@@ -11,13 +11,13 @@
 ghost use Rattle.std.specs.Prelude.{◌≡◌, ◌<◌, ◌≤◌, ◌+◌, ◌*◌, ◌++◌, [], ◌∷◌, ℕ, List, IsTrue, ◌↔◌, IfOk, IfSome, IfNone, length, take, drop, All, ◌^◌, slice_set, slice_index_or};
 ghost use Rattle.tail_book.specs.Lookup.{activities, aircraft, carry_of};
 ghost use Rattle.tail_book.specs.Counters.{step, WithinLimits};
-ghost use Rattle.plan_enumeration.specs.Assignment.{IsLegalAssignment, assignment_cost, flown_by, routes_from};
+ghost use Rattle.plan_enumeration.specs.inside.Assignment.{IsLegalAssignment, assignment_cost, flown_by, routes_from};
 ghost use Rattle.tail_book.specs.Truth.{IsTrueOutcome};
-ghost use Rattle.plan_enumeration.specs.Enumeration.{Advances, AgreesBelow, HasRow, GoesOn, HasTried, IsBest, IsCount, IsNoBetter, IsTrial, KeepsBest, IsPlaceBefore, IsRowBefore, next_cost, row_of, values_at, width_of, with_row};
-ghost use Rattle.plan_enumeration.specs.Decided.{IsDecided};
-ghost use Rattle.plan_enumeration.specs.Tables.{AreTablesOf};
-ghost use Rattle.turn_rules.specs.FreeBefore.{IsFreeBefore};
-ghost use Rattle.tail_book.specs.Place.{IsPlaceOf};
+ghost use Rattle.plan_enumeration.specs.inside.Enumeration.{Advances, AgreesBelow, HasRow, GoesOn, HasTried, IsBest, IsCount, IsNoBetter, IsTrial, KeepsBest, IsPlaceBefore, IsRowBefore, next_cost, row_of, values_at, width_of, with_row};
+ghost use Rattle.plan_enumeration.specs.inside.Decided.{IsDecided};
+ghost use Rattle.plan_enumeration.specs.inside.Tables.{AreTablesOf};
+ghost use Rattle.turn_rules.specs.inside.FreeBefore.{IsFreeBefore};
+ghost use Rattle.tail_book.specs.inside.Place.{IsPlaceOf};
 
 use crate::cost::going_cost;
 use crate::tables::{Tables, tables_of};

@@ -1,7 +1,7 @@
 //! What the enumeration asks of the book once.
 
 ghost use Rattle.std.specs.Prelude.{IfOk};
-ghost use Rattle.plan_enumeration.specs.Tables.{AreTablesOf};
+ghost use Rattle.plan_enumeration.specs.inside.Tables.{AreTablesOf};
 
 use std::alloc::Global;
 use tail_book::{Book, CostTable, Memory};

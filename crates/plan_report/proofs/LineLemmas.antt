@@ -4,7 +4,7 @@ use Rattle.std.proofs.lemmas.Bool.Decides.{nat_tests}
 use Rattle.std.proofs.lemmas.List.{append-nil}
 use Rattle.tail_book.specs.Seen.{RawLineSeen}
 use Rattle.tail_text.specs.Checks.{look}
-use Rattle.tail_text.specs.Reading.{Answers}
+use Rattle.tail_text.specs.inside.Reading.{Answers}
 use Rattle.tail_text.specs.declared.refusal.Refusal.{Refusal}
 use Rattle.tail_text.specs.declared.refusal.Stopped.{Stopped}
 use Rattle.tail_text.specs.declared.refusal.Stopped.TheVariants.{Refused, Memory}

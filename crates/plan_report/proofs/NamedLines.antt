@@ -10,8 +10,8 @@ use Rattle.std.specs.Prelude.{codes}
 use Rattle.tail_book.specs.Lookup.{activities, activity_of, aircraft, no_activity, no_tail, tail_of}
 use Rattle.tail_book.specs.Name.{is_name, is_name_byte}
 use Rattle.tail_book.specs.Seen.{BookSeen}
-use Rattle.tail_book.specs.Sound.{IsBook}
-use Rattle.plan_report.specs.Laws.{names_from}
+use Rattle.tail_book.specs.inside.Sound.{IsBook}
+use Rattle.plan_report.specs.inside.Laws.{names_from}
 use Rattle.plan_report.specs.Lines.{newline}
 use Rattle.plan_report.specs.Parts.{parts_of, whole_line}
 use Rattle.plan_report.specs.PlanText.{line_in, lines_from, tail_in}

@@ -8,7 +8,7 @@ use Rattle.std.specs.List.{position, position_or_len}
 use Rattle.std.specs.Borrow.{Bor}
 use Rattle.std.specs.Prelude.{is_none}
 use Rattle.plan_report.specs.Parts.{parts_of}
-use Rattle.plan_report.specs.PartsLeft.{parts_left}
+use Rattle.plan_report.specs.inside.PartsLeft.{parts_left}
 
 module _ (byte : ℕ) (text : List ℕ) where
   abbrev is_byte : ℕ → Bool

@@ -11,13 +11,14 @@ use Rattle.std.specs.List.{All, AllByRecursion, flat_map, list_all}
 use Rattle.std.specs.Prelude.{codes, ◌==◌}
 use Rattle.tail_book.specs.Lookup.{activities, aircraft}
 use Rattle.tail_book.specs.Seen.{BookSeen}
-use Rattle.tail_book.specs.Sound.{IsBook}
+use Rattle.tail_book.specs.inside.Sound.{IsBook}
 use Rattle.tail_book.specs.declared.outcome.Outcome.TheVariants as outcome
-use Rattle.plan_report.specs.Laws.{HasNoRepeats, ReportIsReadBack, names_from, names_of_plan}
+use Rattle.plan_report.specs.inside.Laws.{HasNoRepeats, ReportIsReadBack, names_from, names_of_plan}
 use Rattle.plan_report.specs.Lines.{newline, text_of}
 use Rattle.plan_report.specs.Parts.{lines_of, parts_of, whole_line}
 use Rattle.plan_report.specs.PlanText.{is_cost, is_heading, lines_from, plan_in, without_mark}
-use Rattle.plan_report.specs.Report.{IsPlanFor, aircraft_line, aircraft_lines}
+use Rattle.plan_report.specs.inside.Report.{IsPlanFor}
+use Rattle.plan_report.specs.Report.{aircraft_line, aircraft_lines}
 use Rattle.plan_report.specs.declared.plan_text.TheConstants.{ID_LIMIT, LINE_LIMIT, SIZE_LIMIT}
 use Rattle.plan_report.proofs.CountLemmas.{at_most}
 use Rattle.plan_report.proofs.DecimalLemmas.{decimal-digits, number_of-decimal}

@@ -1,5 +1,5 @@
 -- How a plan file is read, up to its first refusal: its size, its first line, and its later lines one by one.
-use Rattle.std.specs.Prelude.{ℕ, ◌+◌, ◌-◌, ◌≤◌, Bool, false, ◌&&◌, List, [], ◌∷◌, length, take, drop, slice_index, ◌==◌, nat_le, nat_lt, All, if◌then◌else◌, Result, Ok, Err, codes}
+use Rattle.std.specs.Prelude.{ℕ, ◌+◌, ◌-◌, Bool, false, ◌&&◌, List, [], ◌∷◌, length, take, drop, slice_index, ◌==◌, nat_le, nat_lt, if◌then◌else◌, Result, Ok, Err, codes}
 use Rattle.std.specs.List.{list_all}
 use Rattle.std.specs.Result.{is_ok}
 use Rattle.std.specs.Str.{bytes_eq}
@@ -91,8 +91,3 @@ abbrev pub plan_in : List ℕ → Result RawPlanSeen Refusal
 plan_in bytes =
     must (nat_le (length bytes) SIZE_LIMIT) (refused 1 0) (
     plan_of (lines_of (without_mark bytes)))
-
--- a plan of at most 200 lines, with at most 4,000 ids each
-pub record IsSmallPlan (plan : RawPlanSeen) : Type 0 where
-  pub lines : length plan.lines ≤ LINE_LIMIT
-  pub ids : All (λ line. length line.ids ≤ ID_LIMIT) plan.lines

@@ -4,7 +4,8 @@ ghost use Rattle.std.specs.Prelude.{◌≡◌, ◌++◌, ◌<◌, ◌≤◌, fal
 ghost use Rattle.tail_book.specs.Lookup.{activities, activity_of, aircraft};
 ghost use Rattle.tail_outside.specs.Outside.{PieceHasFailed, Takes, TakesFront};
 ghost use Rattle.plan_report.specs.Lines.{newline};
-ghost use Rattle.plan_report.specs.AuditText.{AreOfBook, IsOfBook, audit_lines, audit_text, broken_line, broken_text, pair_names};
+ghost use Rattle.plan_report.specs.inside.AuditText.{AreOfBook, IsOfBook, audit_text};
+ghost use Rattle.plan_report.specs.AuditText.{audit_lines, broken_line, broken_text, pair_names};
 
 use crate::writing::{ReportFail, write_lines};
 use plan_audit::{Audit, Broken};

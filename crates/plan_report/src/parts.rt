@@ -14,7 +14,7 @@ pub struct Parts<'a> {
 
 impl<'a> Model for Parts<'a> {
     ghost use Rattle.std.specs.Prelude.{ℕ, List};
-    ghost use Rattle.plan_report.specs.PartsLeft.{parts_left};
+    ghost use Rattle.plan_report.specs.inside.PartsLeft.{parts_left};
 
     ghost Value = { List (List ℕ) };
 

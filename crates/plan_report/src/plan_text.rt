@@ -4,10 +4,11 @@
 //! Names are kept as they stand, since no book is at hand to look them up.
 
 ghost use Rattle.std.specs.Prelude.{◌≡◌, ◌≤◌, length, IfOk};
-ghost use Rattle.tail_text.specs.Reading.{Answers};
+ghost use Rattle.tail_text.specs.inside.Reading.{Answers};
 ghost use Rattle.tail_text.specs.declared.refusal.Stopped.TheVariants.{Refused};
 ghost use Rattle.plan_report.specs.declared.plan_text.TheConstants.{ID_LIMIT, LINE_LIMIT};
-ghost use Rattle.plan_report.specs.PlanText.{IsSmallPlan, ids_in, is_cost, is_first_line, is_heading, line_in, line_of, lines_from, plan_in, plan_of, refused, tail_in, without_mark};
+ghost use Rattle.plan_report.specs.inside.PlanText.{IsSmallPlan};
+ghost use Rattle.plan_report.specs.PlanText.{ids_in, is_cost, is_first_line, is_heading, line_in, line_of, lines_from, plan_in, plan_of, refused, tail_in, without_mark};
 
 use crate::parts::Parts;
 use crate::text_lines::{TextLine, TextLines};

@@ -3,7 +3,8 @@
 ghost use Rattle.std.specs.Prelude.{◌≡◌, ◌++◌, ◌<◌, ◌≤◌, false, IfOk, OnOk, OnErr, IsErrOf, All, codes};
 ghost use Rattle.tail_book.specs.Lookup.{activities, activity_of, aircraft};
 ghost use Rattle.tail_outside.specs.Outside.{PieceHasFailed, Takes, TakesFront};
-ghost use Rattle.plan_report.specs.Report.{HasPlanFor, IsPlanFor, aircraft_line, aircraft_lines, first_line, ids_of, report, report_lines};
+ghost use Rattle.plan_report.specs.inside.Report.{HasPlanFor, IsPlanFor};
+ghost use Rattle.plan_report.specs.Report.{aircraft_line, aircraft_lines, first_line, ids_of, report, report_lines};
 
 use crate::writing::{ReportFail, write_lines};
 use std::alloc::Global;

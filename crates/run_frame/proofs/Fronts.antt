@@ -16,7 +16,7 @@ use Rattle.fleet_rules.specs.RawRules.{RawRulesSeen}
 use Rattle.fleet_rules.specs.RulesTable.{rules_of}
 use Rattle.fleet_rules.specs.Tail.{RawTailSeen}
 use Rattle.book_maker.specs.Made.{book_of, made_of}
-use Rattle.run_frame.specs.Reading.{front, fronts}
+use Rattle.run_frame.specs.inside.Reading.{front, fronts}
 use Rattle.run_frame.specs.Tables.{TablesSeen}
 use Rattle.run_frame.specs.declared.reading.TheConstants.{READ_LIMIT}
 

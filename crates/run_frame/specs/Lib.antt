@@ -4,3 +4,4 @@ pub mod Reading
 pub mod Words
 pub mod Answer
 pub mod Promise
+pub mod inside

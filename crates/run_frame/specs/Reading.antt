@@ -1,13 +1,7 @@
 -- What is read of the files that words name.
-use Rattle.std.specs.Prelude.{ℕ, Bool, ◌≡◌, List, take, Option, Some, None, IfSome, IsTrue, option_and_then, option_map}
+use Rattle.std.specs.Prelude.{◌≡◌, Option, Some, IfSome, IsTrue, option_and_then, option_map}
 use Rattle.tail_outside.specs.Shown.{FilesShown}
 use Rattle.run_frame.specs.Tables.{NamesSeen, TablesSeen}
-use Rattle.run_frame.specs.declared.reading.TheConstants.{READ_LIMIT}
-use Rattle.run_frame.specs.declared.tables.TableNames.{TableNames}
-
--- the names, as bytes
-abbrev pub names_seen : TableNames → NamesSeen
-names_seen names = record { timetable = names.timetable.now; fleet = names.fleet.now; rules = names.rules.now }
 
 -- the tables of these names may be read
 abbrev pub MayReadTables : FilesShown → NamesSeen → Type 0
@@ -19,14 +13,6 @@ tables_held files names =
     option_and_then (λ timetable. option_and_then (λ fleet. option_map (λ rules.
     record { timetable = timetable; fleet = fleet; rules = rules })
     (files.holds names.rules)) (files.holds names.fleet)) (files.holds names.timetable)
-
--- as much of a file as is read
-abbrev pub front : List ℕ → List ℕ
-front bytes = take READ_LIMIT bytes
-
--- as much of the tables as is read
-abbrev pub fronts : TablesSeen → TablesSeen
-fronts tables = record { timetable = front tables.timetable; fleet = front tables.fleet; rules = front tables.rules }
 
 -- the words give names, and P holds of what is held under them, where that is told
 abbrev pub OfHeld : {N X : Type 0} → Option N → (N → Option X) → (X → Type 0) → Type 0

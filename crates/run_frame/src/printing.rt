@@ -3,7 +3,8 @@
 ghost use Rattle.std.specs.Prelude.{◌≡◌, ◌≤◌, false, IfOk, OnErr, OnOk, IsErrOf};
 ghost use Rattle.tail_outside.specs.Outside.{PieceHasFailed, Takes, TakesFront};
 ghost use Rattle.plan_report.specs.Lines.{text_of};
-ghost use Rattle.run_frame.specs.Answer.{IsPrintable, IsPrinted, lines_of, status_of};
+ghost use Rattle.run_frame.specs.inside.Answer.{IsPrintable, IsPrinted, status_of};
+ghost use Rattle.run_frame.specs.Answer.{lines_of};
 
 use crate::{Answer, Finding, NO_MEMORY, READ_FAILED, REFUSED, Status, USAGE, WRITE_FAILED};
 use plan_report::{ReportFail, refusal_line, write_lines};

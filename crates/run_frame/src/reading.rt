@@ -2,7 +2,8 @@
 
 ghost use Rattle.std.specs.Prelude.{◌≡◌, IfOk, IfSome, IsErrOf};
 ghost use Rattle.tail_outside.specs.Outside.{OnlyRead, ReadHasFailed};
-ghost use Rattle.run_frame.specs.Reading.{MayReadTables, fronts, names_seen, tables_held};
+ghost use Rattle.run_frame.specs.Reading.{MayReadTables, tables_held};
+ghost use Rattle.run_frame.specs.inside.Reading.{fronts, names_seen};
 
 use crate::{TableNames, Tables};
 use std::alloc::Global;

@@ -14,7 +14,7 @@ use Rattle.csv.specs.Reading.{Ready, is_flexible, reader_trim, took_first}
 use Rattle.std.specs.Bool.{MatchBool}
 use Rattle.csv.specs.declared.reader.Trim.TheVariants as trim
 use Rattle.std.specs.Borrow.{Bor}
-use Rattle.table_records.specs.RecordsParts.{rest_of, left_of, IsReading}
+use Rattle.table_records.specs.inside.RecordsParts.{rest_of, left_of, IsReading}
 
 -- a step that ends a record leaves the machine between two records
 abbrev Ends : State × Action → Type 0

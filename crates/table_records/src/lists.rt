@@ -2,7 +2,7 @@
 
 ghost use Rattle.std.specs.Prelude.{◌≡◌, ◌≤◌, ℕ, List, Result, length, All, IfOk};
 ghost use Rattle.table_records.specs.Lists.{items_of, list_of, words_of};
-ghost use Rattle.table_records.specs.NoRow.{Judges};
+ghost use Rattle.table_records.specs.inside.NoRow.{Judges};
 ghost use Rattle.table_records.specs.declared.lists.TheConstants.{ITEM_LIMIT};
 
 use crate::NoRow;

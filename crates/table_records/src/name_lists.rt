@@ -2,8 +2,9 @@
 
 ghost use Rattle.std.specs.Prelude.{◌≡◌, true, IfOk};
 ghost use Rattle.tail_book.specs.Name.{is_name};
-ghost use Rattle.table_records.specs.NameLists.{AreNames, names_of};
-ghost use Rattle.table_records.specs.NoRow.{Judges};
+ghost use Rattle.table_records.specs.inside.NameLists.{AreNames};
+ghost use Rattle.table_records.specs.NameLists.{names_of};
+ghost use Rattle.table_records.specs.inside.NoRow.{Judges};
 ghost use Rattle.table_records.specs.Values as values;
 ghost use Rattle.table_records.specs.declared.name_lists.TheConstants.{NAME_LIMIT};
 

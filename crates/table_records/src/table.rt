@@ -5,11 +5,12 @@
 
 ghost use Rattle.std.specs.Str.{is_utf8};
 ghost use Rattle.std.specs.Prelude.{◌≡◌, ◌-◌, ◌≤◌, length, true, IfOk};
-ghost use Rattle.tail_text.specs.Reading.{Answers, refusal_at};
+ghost use Rattle.tail_text.specs.inside.Reading.{Answers};
+ghost use Rattle.tail_text.specs.Reading.{refusal_at};
 ghost use Rattle.tail_text.specs.declared.refusal.Stopped.TheVariants.{Refused};
 ghost use Rattle.table_records.specs.Fields.{are_same};
 ghost use Rattle.table_records.specs.Layout.{Layout, is_headed, record_of, rows_from, rows_of, table_of, under};
-ghost use Rattle.table_records.specs.NoRow.{Judges};
+ghost use Rattle.table_records.specs.inside.NoRow.{Judges};
 
 use crate::{Fields, Records};
 use std::alloc::Global;

@@ -2,7 +2,7 @@
 
 ghost use Rattle.std.specs.Prelude.{◌≡◌, ◌≤◌, true, IfOk, IfSome};
 ghost use Rattle.tail_book.specs.Name.{is_name};
-ghost use Rattle.tail_book.specs.Sound.{IsMoment};
+ghost use Rattle.tail_book.specs.inside.Sound.{IsMoment};
 ghost use Rattle.table_records.specs.Values.{name_in, number_in, optional_name_in, stamp_in};
 
 use tail_book::Name;

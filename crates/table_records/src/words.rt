@@ -3,7 +3,7 @@
 ghost use Rattle.std.specs.Prelude.{◌≡◌, ◌∷◌, ◌<◌, [], length, position, IfSome};
 ghost use Rattle.std.specs.Option.{MatchOption};
 ghost use Rattle.table_records.specs.Lists.{is_space, words_of};
-ghost use Rattle.table_records.specs.WordsParts.{words_behind};
+ghost use Rattle.table_records.specs.inside.WordsParts.{words_behind};
 
 use std::marker::Model;
 
@@ -15,7 +15,7 @@ pub(crate) struct Words<'a> {
 
 impl<'a> Model for Words<'a> {
     ghost use Rattle.std.specs.Prelude.{ℕ, List};
-    ghost use Rattle.table_records.specs.WordsParts.{words_behind};
+    ghost use Rattle.table_records.specs.inside.WordsParts.{words_behind};
 
     ghost Value = { List (List ℕ) };
 

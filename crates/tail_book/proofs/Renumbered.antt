@@ -12,9 +12,10 @@ use Rattle.tail_book.specs.Curfew.{covers_type, is_curfewed}
 use Rattle.tail_book.specs.Allowed.{IsAllowed}
 use Rattle.tail_book.specs.Link.{port, free_from, turn_time, IsLink}
 use Rattle.tail_book.specs.Counters.{step, WithinLimits}
-use Rattle.tail_book.specs.Route.{IsLegalFrom, IsLegalRoute, counters_from, counters_after}
+use Rattle.tail_book.specs.Route.{IsLegalFrom, IsLegalRoute}
+use Rattle.tail_book.specs.inside.Route.{counters_from, counters_after}
 use Rattle.tail_book.specs.Cost.{activity_cost, connection_cost, cost_from, route_cost}
-use Rattle.tail_book.specs.Renumbered.{HaveSameFleet, IsSameActivity, AreSameActivities}
+use Rattle.tail_book.specs.inside.Renumbered.{HaveSameFleet, IsSameActivity, AreSameActivities}
 
 same_again : (book other : BookSeen) (a b : ℕ) → IsSameActivity book other a b → IsSameActivity other book b a
 same_again book other a b same = record { of_book = same.of_other; of_other = same.of_book; alike = sym same.alike }

@@ -1,7 +1,7 @@
 //! How often routes fly an activity.
 
 ghost use Rattle.std.specs.Prelude.{◌≡◌};
-ghost use Rattle.tail_book.specs.Flown.{flown_one_more};
+ghost use Rattle.tail_book.specs.inside.Flown.{flown_one_more};
 
 /// How often routes fly an activity: not at all, once, or more often.
 #[derive(Clone, Copy, PartialEq, Eq, Debug)]

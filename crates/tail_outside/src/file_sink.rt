@@ -34,8 +34,8 @@ impl<'a, F: Files> FileSink<'a, F> {
 impl<'a, F: Files> Sink for FileSink<'a, F> {
     ghost use Rattle.std.specs.Prelude.{◌≡◌, refl};
     ghost use Rattle.std.proofs.Common.{◌∙◌, ap};
-    ghost use Rattle.tail_outside.specs.OverFile.{shown_over, told_over-ceased};
-    ghost use Rattle.tail_outside.specs.Outside.{OnlyWritten, only_written_same, only_written_chains};
+    ghost use Rattle.tail_outside.specs.inside.OverFile.{shown_over, told_over-ceased};
+    ghost use Rattle.tail_outside.specs.inside.Outside.{OnlyWritten, only_written_same, only_written_chains};
 
     ghost shows = { λ s. shown_over (F.shows s.files) s.name.now };
 

@@ -2,8 +2,9 @@
 
 ghost use Rattle.std.specs.Prelude.{◌≡◌, ◌≤◌, ◌^◌, ◌↔◌, ◌⊎◌, ◌++◌, [], ◌∷◌, length, option_map, position, IsTrue, IsOk, IfOk, IfSome, IsErr, OnOk, OnErr, IsErrOf};
 ghost use Rattle.std.specs.Str.{bytes_eq};
-ghost use Rattle.tail_outside.specs.Held.{bytes_under, fails_next, one_more, files_at_first};
-ghost use Rattle.tail_outside.specs.Outside.{HasRisen, IsRead, SameOthers, with_piece};
+ghost use Rattle.tail_outside.specs.inside.Held.{bytes_under, fails_next, one_more, files_at_first};
+ghost use Rattle.tail_outside.specs.Outside.{HasRisen};
+ghost use Rattle.tail_outside.specs.inside.Outside.{IsRead, SameOthers, with_piece};
 
 use crate::calls::Calls;
 use crate::{Failed, Fault, Files};
@@ -20,7 +21,7 @@ pub struct MemFile {
 
 impl Model for MemFile {
     ghost use Rattle.std.specs.Prelude.{string_bytes};
-    ghost use Rattle.tail_outside.specs.Seen.{FileSeen};
+    ghost use Rattle.tail_outside.specs.inside.Seen.{FileSeen};
 
     ghost Value = { FileSeen };
 
@@ -47,7 +48,7 @@ pub struct MemFiles {
 }
 
 impl Model for MemFiles {
-    ghost use Rattle.tail_outside.specs.Seen.{MemFilesSeen};
+    ghost use Rattle.tail_outside.specs.inside.Seen.{MemFilesSeen};
 
     ghost Value = { MemFilesSeen };
 

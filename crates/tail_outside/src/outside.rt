@@ -4,7 +4,8 @@
 //! So what a run promises of bytes and of failures can be said of any files and any sink.
 
 ghost use Rattle.std.specs.Prelude.{◌≡◌, ◌≤◌, ◌^◌, ℕ, Bool, true, false, List, [], Some, None, length, IsTrue, IfOk, IfSome, IsErr, OnOk, OnErr, IsErrOf};
-ghost use Rattle.tail_outside.specs.Outside.{HoldsFront, IsRead, OnlyRead, OnlyWritten, PieceHasFailed, ReadHasFailed, Takes, TakesFront, WriteHasFailed, with_piece};
+ghost use Rattle.tail_outside.specs.inside.Outside.{HoldsFront, IsRead, OnlyWritten, WriteHasFailed, with_piece};
+ghost use Rattle.tail_outside.specs.Outside.{OnlyRead, PieceHasFailed, ReadHasFailed, Takes, TakesFront};
 ghost use Rattle.tail_outside.specs.Shown.{FilesShown, SinkShown};
 
 /// A read that failed.

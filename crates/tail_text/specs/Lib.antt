@@ -6,3 +6,4 @@ pub mod Number
 pub mod Pair
 pub mod Reading
 pub mod Stamp
+pub mod inside

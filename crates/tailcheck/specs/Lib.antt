@@ -3,6 +3,6 @@ pub mod Texts
 pub mod Reading
 pub mod Words
 pub mod Cases
-pub mod Audits
 pub mod Answers
 pub mod Promises
+pub mod inside

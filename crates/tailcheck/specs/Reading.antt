@@ -1,13 +1,8 @@
 -- What is read of the files that the words name.
-use Rattle.std.specs.Prelude.{ℕ, ◌≡◌, List, Option, IsTrue, option_and_then, option_map}
+use Rattle.std.specs.Prelude.{Option, IsTrue, option_and_then, option_map}
 use Rattle.tail_outside.specs.Shown.{FilesShown}
-use Rattle.run_frame.specs.Reading.{MayReadTables, front, fronts, names_seen, tables_held}
+use Rattle.run_frame.specs.Reading.{MayReadTables, tables_held}
 use Rattle.tailcheck.specs.Texts.{CheckNamesSeen, TextsSeen}
-use Rattle.tailcheck.specs.declared.words.CheckNames.{CheckNames}
-
--- the names, as bytes
-abbrev pub check_names_seen : CheckNames → CheckNamesSeen
-check_names_seen names = record { tables = names_seen names.tables; plan = names.plan.now }
 
 -- the four names may be read
 abbrev pub MayReadTexts : FilesShown → CheckNamesSeen → Type 0
@@ -18,7 +13,3 @@ abbrev pub texts_held : FilesShown → CheckNamesSeen → Option TextsSeen
 texts_held files names =
     option_and_then (λ tables. option_map (λ plan. record { tables = tables; plan = plan }) (files.holds names.plan))
     (tables_held files names.tables)
-
--- as much of the tables and of the plan's file as is read
-abbrev pub text_fronts : TextsSeen → TextsSeen
-text_fronts texts = record { tables = fronts texts.tables; plan = front texts.plan }

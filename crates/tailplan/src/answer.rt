@@ -2,7 +2,7 @@
 
 ghost use Rattle.std.specs.Prelude.{◌≡◌, ◌≤◌, ℕ, false, List, OnErr, OnOk, IsErrOf};
 ghost use Rattle.plan_report.specs.Report.{report_lines};
-ghost use Rattle.tailplan.specs.Outcomes.{IsPrintable, outcome_status};
+ghost use Rattle.tailplan.specs.inside.Outcomes.{IsPrintable, outcome_status};
 
 use plan_report::{ReportFail, write_report};
 use run_frame::{Finding, Status};

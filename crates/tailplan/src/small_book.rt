@@ -1,7 +1,7 @@
 //! The book that a run plans: each table is read by itself, then two looks at how long they are, then the names.
 
 ghost use Rattle.std.specs.Prelude.{◌≡◌, length};
-ghost use Rattle.tail_text.specs.Reading.{Answers};
+ghost use Rattle.tail_text.specs.inside.Reading.{Answers};
 ghost use Rattle.tailplan.specs.SmallBook.{small_book_of, small_made_of, too_many_activities, too_many_aircraft};
 
 use book_maker::make_book;

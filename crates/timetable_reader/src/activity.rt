@@ -20,11 +20,12 @@ pub struct RawActivity {
 }
 
 impl Model for RawActivity {
-    ghost use Rattle.timetable_reader.specs.Activity.{RawActivitySeen, IsRawActivity};
+    ghost use Rattle.timetable_reader.specs.Activity.{RawActivitySeen};
+    ghost use Rattle.timetable_reader.specs.inside.Activity.{IsRawActivity};
 
     ghost Value = { RawActivitySeen };
 
-    ghost use Rattle.timetable_reader.specs.ActivityParts.{seen_of};
+    ghost use Rattle.timetable_reader.specs.inside.ActivityParts.{seen_of};
 
     ghost view = { seen_of };
 

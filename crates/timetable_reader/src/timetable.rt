@@ -1,9 +1,9 @@
 //! The timetable, record by record.
 
 ghost use Rattle.std.specs.Prelude.{◌≡◌, ◌≤◌, length, ◌+ℤ◌, ◌≤ℤ◌, pos, IfOk};
-ghost use Rattle.tail_book.specs.Sound.{IsMoment};
-ghost use Rattle.tail_text.specs.Reading.{Answers};
-ghost use Rattle.table_records.specs.NoRow.{Judges};
+ghost use Rattle.tail_book.specs.inside.Sound.{IsMoment};
+ghost use Rattle.tail_text.specs.inside.Reading.{Answers};
+ghost use Rattle.table_records.specs.inside.NoRow.{Judges};
 ghost use Rattle.timetable_reader.specs.Timetable.{activity_of, end_of, is_span, is_whole, kind_of, timetable, timetable_of};
 ghost use Rattle.timetable_reader.specs.declared.timetable.TheConstants.{ACTIVITY_LIMIT};
 

@@ -7,10 +7,11 @@ ghost use Rattle.std.specs.Prelude.{◌≡◌, ◌<◌, ◌↔◌, ◌+ℤ◌, �
 ghost use Rattle.tail_book.specs.Lookup.{activities, aircraft, kind_of, from_port, to_port, start_of, type_turn, port_turn};
 ghost use Rattle.tail_book.specs.Numbers.{int_le};
 ghost use Rattle.tail_book.specs.Link.{IsLink, port, free_from, gap, turn_time};
-ghost use Rattle.tail_book.specs.Sound.{IsWithin, IsMoment};
-ghost use Rattle.tail_book.specs.Tests.{is_allowed_at, is_connected, is_link};
-ghost use Rattle.tail_book.specs.Place.{IsPlaceOf};
-ghost use Rattle.turn_rules.specs.FreeBefore.{IsFreeBefore};
+ghost use Rattle.tail_book.specs.inside.Sound.{IsWithin, IsMoment};
+ghost use Rattle.tail_book.specs.inside.Tests.{is_allowed_at, is_link};
+ghost use Rattle.tail_book.specs.Link.{is_connected};
+ghost use Rattle.tail_book.specs.inside.Place.{IsPlaceOf};
+ghost use Rattle.turn_rules.specs.inside.FreeBefore.{IsFreeBefore};
 
 use crate::permission::allowed;
 use tail_book::laws::link_decides;
@@ -155,7 +156,7 @@ fn is_in_time(book: &Book, k: u32, from: Place, b: u32) -> bool
 }
 
 /// Whether an activity starts where an aircraft is, and no earlier than the turn after its place.
-#[tactic(auto, unfolding(tail_book::specs::Tests::is_connected))]
+#[tactic(auto, unfolding(tail_book::specs::Link::is_connected))]
 pub fn connected(book: &Book, k: u32, from: Place, b: u32) -> bool
     requires aircraft { k < aircraft book.now }
     requires place { IsPlaceOf book.now from }
@@ -167,7 +168,7 @@ pub fn connected(book: &Book, k: u32, from: Place, b: u32) -> bool
 }
 
 /// Whether an activity may come directly after a place of an aircraft.
-#[tactic(auto, unfolding(tail_book::specs::Tests::is_link))]
+#[tactic(auto, unfolding(tail_book::specs::inside::Tests::is_link))]
 pub fn link(book: &Book, k: u32, from: Place, b: u32) -> bool
     requires aircraft { k < aircraft book.now }
     requires place { IsPlaceOf book.now from }

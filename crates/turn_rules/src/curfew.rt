@@ -6,7 +6,7 @@
 ghost use Rattle.std.specs.Prelude.{◌≡◌, ◌<◌, length};
 ghost use Rattle.std.specs.List.{list_any};
 ghost use Rattle.tail_book.specs.Lookup.{activities, aircraft, kind_of, from_port, to_port, start_of, end_of};
-ghost use Rattle.tail_book.specs.Sound.{IsMoment};
+ghost use Rattle.tail_book.specs.inside.Sound.{IsMoment};
 ghost use Rattle.tail_book.specs.Curfew.{local_minute, in_window, covers_type, forbids, stops, is_curfewed};
 
 use tail_book::{Book, Curfew};

@@ -1,5 +1,6 @@
 use Rattle.std.proofs.Common.{◌≡◌, ◌+◌, [], All, drop, take}
-use Rattle.book_maker.specs.Entries.{entries_from, entries_in, names_after}
+use Rattle.book_maker.specs.Entries.{entries_from, entries_in}
+use Rattle.book_maker.specs.inside.Entries.{names_after}
 use Rattle.book_maker.proofs.EntryLemmas.{joined}
 use Rattle.book_maker.proofs.entries.look_up.Given as goal
 

@@ -1,6 +1,6 @@
 use Rattle.std.proofs.Common.{subst}
 use Rattle.tail_book.specs.Seen.{BookSeen}
-use Rattle.tail_text.specs.Reading.{Answers}
+use Rattle.tail_text.specs.inside.Reading.{Answers}
 use Rattle.book_maker.specs.Made.{made_of}
 use Rattle.book_maker.proofs.make.make_book.Goals as goal
 

@@ -2,7 +2,7 @@ use Rattle.std.proofs.Common.{◌≡◌, ◌∙◌, sym, ap, arith, rules, []}
 use Rattle.std.proofs.lemmas.Grind.{common_steps}
 use Rattle.plan_audit.specs.Met.{names_met}
 use Rattle.plan_audit.specs.Kept.{legs_met}
-use Rattle.plan_audit.specs.LegCost.{legs_cost}
+use Rattle.plan_audit.specs.inside.LegCost.{legs_cost}
 use Rattle.plan_audit.specs.Broken.{broken, broken_by}
 use Rattle.plan_audit.proofs.auditing.audit.Goals as goal
 

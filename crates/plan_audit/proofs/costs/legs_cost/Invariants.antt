@@ -1,5 +1,5 @@
 use Rattle.std.proofs.Common.{◌≡◌, ◌+◌, drop}
-use Rattle.plan_audit.specs.LegCost.{legs_cost}
+use Rattle.plan_audit.specs.inside.LegCost.{legs_cost}
 use Rattle.plan_audit.proofs.costs.legs_cost.Given as goal
 
 -- the cost so far, and that of the legs that are left

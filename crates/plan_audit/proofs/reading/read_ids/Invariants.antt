@@ -1,6 +1,6 @@
 use Rattle.std.proofs.Common.{◌≡◌, drop}
 use Rattle.plan_audit.specs.Met.{with_ids}
-use Rattle.plan_audit.specs.Reading.{IsReadingOf}
+use Rattle.plan_audit.specs.inside.Reading.{IsReadingOf}
 use Rattle.plan_audit.proofs.reading.read_ids.Given as goal
 
 -- what is left decides

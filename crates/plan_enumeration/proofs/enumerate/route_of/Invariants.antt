@@ -1,5 +1,5 @@
 use Rattle.std.proofs.Common.{◌≡◌, ◌++◌, drop}
-use Rattle.plan_enumeration.specs.Assignment.{flown_by, flown_from}
+use Rattle.plan_enumeration.specs.inside.Assignment.{flown_by, flown_from}
 use Rattle.plan_enumeration.proofs.enumerate.route_of.Given as goal
 
 -- what was found so far, and what is left

@@ -1,5 +1,5 @@
 use Rattle.std.proofs.Common.{◌≡◌, ℕ, Err, Global, Ok, Vec, refl, subst}
-use Rattle.table_records.specs.NoRow.{Judges}
+use Rattle.table_records.specs.inside.NoRow.{Judges}
 use Rattle.book_maker.specs.Names.{numbers_in}
 use Rattle.book_maker.proofs.JudgeLemmas.{judges-code, judges-list}
 use Rattle.book_maker.proofs.activities.RawActivityEntry.found.Goals as goal

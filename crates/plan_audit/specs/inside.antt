@@ -1,0 +1,12 @@
+-- What only proofs, and calls further in, cite.
+pub mod Met
+pub mod Names
+pub mod Marks
+pub mod Times
+pub mod Reading
+pub mod Kept
+pub mod LegCost
+pub mod Counted
+pub mod Told
+pub mod PlanCost
+pub mod Laws

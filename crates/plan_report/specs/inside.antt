@@ -1,0 +1,6 @@
+-- What only proofs, and calls further in, cite.
+pub mod PartsLeft
+pub mod Report
+pub mod AuditText
+pub mod Laws
+pub mod PlanText
