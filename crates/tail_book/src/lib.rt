@@ -8,6 +8,7 @@ mod claim;
 mod cost_table;
 mod flown;
 pub mod laws;
+pub mod limits;
 mod memory;
 mod name;
 mod outcome;

@@ -1,7 +1,8 @@
 -- The words of what every book keeps, and of what every cost table keeps, as tests that compute.
-use Rattle.std.specs.Prelude.{ℕ, ℤ, pos, negsuc, ◌+ℤ◌, ◌*◌, ◌+◌, ◌^◌, ◌%◌, ◌==◌, Bool, true, ◌&&◌, not, List, [], ◌∷◌, length, nat_lt, nat_le, unsigned_abs, bytes_eq}
+use Rattle.std.specs.Prelude.{ℕ, ℤ, pos, ◌+ℤ◌, ◌-ℤ◌, ◌*◌, ◌+◌, ◌^◌, ◌%◌, ◌==◌, Bool, true, ◌&&◌, not, List, [], ◌∷◌, length, nat_lt, nat_le, unsigned_abs, bytes_eq}
 use Rattle.std.specs.Bool.{Decides}
 use Rattle.std.specs.List.{list_all}
+use Rattle.tail_book.specs.declared.limits.TheConstants.{ACTIVITY_LIMIT, TAIL_LIMIT, TYPE_LIMIT, AIRPORT_LIMIT, CURFEW_LIMIT, COUNTER_LIMIT, BAND_LIMIT, ITEM_LIMIT, BASE_LIMIT, LAST_MOMENT, DAY, SPAN_LIMIT, OFFSET_LIMIT, STOP_LIMIT, VALUE_LIMIT, COUNT_LIMIT, RATE_LIMIT, FIXED_LIMIT, BAND_COST_LIMIT}
 use Rattle.tail_book.specs.Name.{is_name}
 use Rattle.tail_book.specs.Numbers.{int_le}
 use Rattle.tail_book.specs.Seen.{ActivitySeen, TailSeen, CurfewSeen, CounterSeen, AirportSeen, RulesSeen, BookSeen}
@@ -20,7 +21,7 @@ is_within low high z = int_le low z && int_le z high
 
 -- the moment lies between the first and the last minute of a book
 abbrev pub is_moment : ℤ → Bool
-is_moment z = is_within (pos 0) (pos 120_968_639) z
+is_moment z = is_within (pos 0) LAST_MOMENT z
 
 -- each number is below n
 abbrev pub are_below : ℕ → List ℕ → Bool
@@ -33,7 +34,7 @@ each_pair test (x ∷ xs) = list_all (test x) xs && each_pair test xs
 
 -- an activity with these ends lasts from 1 to 2,880 minutes
 abbrev pub lasts : ℤ → ℤ → Bool
-lasts start end = int_le (start +ℤ pos 1) end && int_le end (start +ℤ pos 2880)
+lasts start end = int_le (start +ℤ pos 1) end && int_le end (start +ℤ SPAN_LIMIT)
 
 -- an activity begins and ends at moments of a book, and lasts as long as it may
 abbrev pub is_timed : ActivitySeen → Bool
@@ -49,7 +50,7 @@ names_of_book rules aircraft a =
 
 -- none of an activity's lists has more than 20 entries
 abbrev pub has_short_lists : ActivitySeen → Bool
-has_short_lists a = nat_le (length a.types) 20 && (nat_le (length a.tags) 20 && nat_le (length a.resets) 20)
+has_short_lists a = nat_le (length a.types) ITEM_LIMIT && (nat_le (length a.tags) ITEM_LIMIT && nat_le (length a.resets) ITEM_LIMIT)
 
 -- an activity of a book with these rules and so many aircraft
 abbrev pub is_activity : RulesSeen → ℕ → ActivitySeen → Bool
@@ -60,17 +61,17 @@ abbrev pub comes_in : RulesSeen → TailSeen → Bool
 comes_in rules t =
     nat_lt t.kind (length rules.kinds)
     && (nat_lt t.at (length rules.airports)
-    && (is_moment t.ready && nat_le t.fixed 100_000))
+    && (is_moment t.ready && nat_le t.fixed FIXED_LIMIT))
 
 -- an aircraft has at most 20 tags, and avoids at most 20 airports, all of the book
 abbrev pub has_short_marks : RulesSeen → TailSeen → Bool
 has_short_marks rules t =
-    nat_le (length t.tags) 20
-    && (are_below (length rules.airports) t.avoid && nat_le (length t.avoid) 20)
+    nat_le (length t.tags) ITEM_LIMIT
+    && (are_below (length rules.airports) t.avoid && nat_le (length t.avoid) ITEM_LIMIT)
 
 -- an aircraft carries a value for each counter
 abbrev pub carries_each : RulesSeen → TailSeen → Bool
-carries_each rules t = list_all (is_within (pos 0) (pos 10_000_000)) t.carry && length t.carry == length rules.counters
+carries_each rules t = list_all (is_within (pos 0) VALUE_LIMIT) t.carry && length t.carry == length rules.counters
 
 -- an aircraft of a book with these rules
 abbrev pub is_tail : RulesSeen → TailSeen → Bool
@@ -78,25 +79,25 @@ is_tail rules t = is_name t.name && (comes_in rules t && (has_short_marks rules 
 
 -- a type costs at most 300 a minute, and turns in at most a day
 abbrev pub is_kind : AircraftType → Bool
-is_kind t = is_name t.name && (nat_le t.rate 300 && is_within (pos 0) (pos 1440) t.turn)
+is_kind t = is_name t.name && (nat_le t.rate RATE_LIMIT && is_within (pos 0) DAY t.turn)
 
 -- an airport's local time is at most 14 hours from UTC
 abbrev pub is_airport : AirportSeen → Bool
-is_airport p = is_name p.name && (is_within (negsuc 839) (pos 840) p.offset && is_within (pos 0) (pos 1440) p.turn)
+is_airport p = is_name p.name && (is_within (pos 0 -ℤ OFFSET_LIMIT) OFFSET_LIMIT p.offset && is_within (pos 0) DAY p.turn)
 
 -- a curfew of a book with these rules
 abbrev pub is_curfew : RulesSeen → CurfewSeen → Bool
 is_curfew rules c =
     nat_lt c.airport (length rules.airports)
-    && (is_within (pos 0) (pos 1439) c.from
-    && (is_within (pos 0) (pos 1439) c.to
-    && (are_below (length rules.kinds) c.types && nat_le (length c.types) 20)))
+    && (is_within (pos 0) (DAY -ℤ pos 1) c.from
+    && (is_within (pos 0) (DAY -ℤ pos 1) c.to
+    && (are_below (length rules.kinds) c.types && nat_le (length c.types) ITEM_LIMIT)))
 
 -- a limit of days is in minutes of whole days
 abbrev pub is_limit : CounterKind → ℤ → Bool
-is_limit Minutes limit = is_within (pos 1) (pos 10_000_000) limit
-is_limit Landings limit = is_within (pos 1) (pos 10_000_000) limit
-is_limit Days limit = is_within (pos 1440) (pos 14_400_000) limit && unsigned_abs limit % 1440 == 0
+is_limit Minutes limit = is_within (pos 1) VALUE_LIMIT limit
+is_limit Landings limit = is_within (pos 1) VALUE_LIMIT limit
+is_limit Days limit = is_within DAY COUNT_LIMIT limit && unsigned_abs limit % 1440 == 0
 
 -- a counter of a book with these rules
 abbrev pub is_counter : RulesSeen → CounterSeen → Bool
@@ -104,31 +105,31 @@ is_counter rules c =
     is_name c.name
     && (is_limit c.kind c.limit
     && (are_below (length rules.airports) c.bases
-    && (nat_le (length c.bases) 200 && is_within (pos 1) (pos 100_000) c.stop)))
+    && (nat_le (length c.bases) BASE_LIMIT && is_within (pos 1) STOP_LIMIT c.stop)))
 
 -- a band reaches at most 10,000,000 minutes and costs at most 1,000,000
 abbrev pub is_band : Band → Bool
-is_band b = is_within (pos 0) (pos 10_000_000) b.upto && nat_le b.cost 1_000_000
+is_band b = is_within (pos 0) VALUE_LIMIT b.upto && nat_le b.cost BAND_COST_LIMIT
 
 -- at most 20 types, whose names differ
 abbrev pub are_kinds : List AircraftType → Bool
-are_kinds kinds = nat_le (length kinds) 20 && (list_all is_kind kinds && each_pair (λ a b. not (bytes_eq a.name b.name)) kinds)
+are_kinds kinds = nat_le (length kinds) TYPE_LIMIT && (list_all is_kind kinds && each_pair (λ a b. not (bytes_eq a.name b.name)) kinds)
 
 -- at most 200 airports, whose names differ
 abbrev pub are_airports : List AirportSeen → Bool
-are_airports airports = nat_le (length airports) 200 && (list_all is_airport airports && each_pair (λ a b. not (bytes_eq a.name b.name)) airports)
+are_airports airports = nat_le (length airports) AIRPORT_LIMIT && (list_all is_airport airports && each_pair (λ a b. not (bytes_eq a.name b.name)) airports)
 
 -- at most 6 counters, whose names differ
 abbrev pub are_counters : RulesSeen → Bool
-are_counters rules = nat_le (length rules.counters) 6 && (list_all (is_counter rules) rules.counters && each_pair (λ a b. not (bytes_eq a.name b.name)) rules.counters)
+are_counters rules = nat_le (length rules.counters) COUNTER_LIMIT && (list_all (is_counter rules) rules.counters && each_pair (λ a b. not (bytes_eq a.name b.name)) rules.counters)
 
 -- at most 400 curfews
 abbrev pub are_curfews : RulesSeen → Bool
-are_curfews rules = nat_le (length rules.curfews) 400 && list_all (is_curfew rules) rules.curfews
+are_curfews rules = nat_le (length rules.curfews) CURFEW_LIMIT && list_all (is_curfew rules) rules.curfews
 
 -- at most 8 bands
 abbrev pub are_bands : List Band → Bool
-are_bands bands = nat_le (length bands) 8 && list_all is_band bands
+are_bands bands = nat_le (length bands) BAND_LIMIT && list_all is_band bands
 
 -- the rules of a book
 abbrev pub are_rules : RulesSeen → Bool
@@ -137,13 +138,13 @@ are_rules rules = are_kinds rules.kinds && (are_airports rules.airports && (are_
 -- at most 4,000 activities, in order, whose ids differ
 abbrev pub are_activities : RulesSeen → ℕ → List ActivitySeen → Bool
 are_activities rules aircraft activities =
-    nat_le (length activities) 4000
+    nat_le (length activities) ACTIVITY_LIMIT
     && (list_all (is_activity rules aircraft) activities
     && (each_pair comes_before activities && each_pair (λ a b. not (bytes_eq a.id b.id)) activities))
 
 -- at most 200 aircraft, whose names differ
 abbrev pub are_tails : RulesSeen → List TailSeen → Bool
-are_tails rules tails = nat_le (length tails) 200 && (list_all (is_tail rules) tails && each_pair (λ a b. not (bytes_eq a.name b.name)) tails)
+are_tails rules tails = nat_le (length tails) TAIL_LIMIT && (list_all (is_tail rules) tails && each_pair (λ a b. not (bytes_eq a.name b.name)) tails)
 
 -- what every book keeps
 abbrev pub is_book : BookSeen → Bool
