@@ -3,6 +3,7 @@
 
 mod bad;
 mod clocks;
+pub mod codes;
 mod line;
 mod names;
 mod numbers;
@@ -15,7 +16,7 @@ pub use clocks::clock;
 pub use line::Line;
 pub use names::name;
 pub use numbers::number;
-pub use refusal::{Refusal, Stopped, Table};
+pub use refusal::{Refusal, SIZE_LIMIT, Stopped, Table};
 pub use stamps::stamp;
 
 #[cfg(test)]

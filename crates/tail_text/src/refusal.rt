@@ -4,6 +4,9 @@ ghost use Rattle.std.specs.Prelude.{◌≡◌};
 
 use tail_book::Memory;
 
+/// The most bytes that a table or a plan's file may have.
+pub const SIZE_LIMIT: usize = 16_777_216;
+
 /// The table that a refusal speaks of.
 #[derive(Clone, Copy, PartialEq, Eq, Debug)]
 pub enum Table {
@@ -13,7 +16,7 @@ pub enum Table {
     Plan,
 }
 
-/// The first refusal of the tables: its code, its table, and the number of its record or entry,
+/// The first refusal of the tables: its code, one of `codes`, its table, and the number of its record or entry,
 /// counted from 1 with the header, or 0 where the whole table is meant.
 #[derive(Clone, Copy, PartialEq, Eq, Debug)]
 pub struct Refusal {
