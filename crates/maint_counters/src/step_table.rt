@@ -24,14 +24,16 @@ use tail_book::laws::{every_book_is_sound, limits_decide};
 use tail_book::{Book, Counter, CounterKind, Memory, Place};
 use turn_rules::{NumberSet, free_from};
 
-/// What a step reads of an activity: its minutes since 1970-01-01T00:00 UTC, the minutes that it flies and its
-/// landings, the counters that have a base where it starts, and those that it sets to 0.
+/// What a step reads of an activity.
 #[derive(Clone, Copy, Debug)]
 pub struct ActivityRow {
+    /// When it starts, and when it ends: minutes since 1970-01-01T00:00 UTC.
     pub start: i64,
     pub end: i64,
+    /// The minutes that it flies, and its landings: both 0 on the ground.
     pub flown: i64,
     pub landings: i64,
+    /// The counters that have a base where it starts, and those that it sets to 0.
     pub based: NumberSet,
     pub resets: NumberSet,
 }
@@ -40,16 +42,19 @@ pub struct ActivityRow {
 #[derive(Clone, Copy, Debug)]
 pub struct CounterRow {
     pub kind: CounterKind,
+    /// Its greatest legal value: minutes or landings, minutes of the calendar for days.
     pub limit: i64,
+    /// The least minutes of a stop that clears it.
     pub stop: i64,
 }
 
-/// What steps read of a book: a row for each activity, a row for each counter, and the minute from which each aircraft
-/// is ready at its carry-in.
+/// What steps read of a book.
 #[derive(Debug, Drop)]
 pub struct StepTable {
+    /// A row for each activity, and one for each counter.
     pub activities: Vec<ActivityRow>,
     pub counters: Vec<CounterRow>,
+    /// When each aircraft is ready at its carry-in: minutes since 1970-01-01T00:00 UTC.
     pub ready: Vec<i64>,
 }
 

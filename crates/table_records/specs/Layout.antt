@@ -52,7 +52,7 @@ rows_of layout records =
     must (is_headed layout.header records) (refusal_at 3 layout.table 1) (
     rows_from layout 2 layout.limit (under records))
 
--- the rows of a table, or its first refusal; a record's place is its number, counted from 1 with the header
+-- the rows of a table, or its first refusal, whose place is the number of the record: the header is record 1
 abbrev pub table_of : {A : Type 0} → Layout A → List ℕ → Result (List A) Refusal
 table_of layout bytes =
     must (nat_le (length bytes) SIZE_LIMIT) (refusal_at 1 layout.table 0) (

@@ -44,7 +44,7 @@ claim_of outcome.Infeasible = Infeasible
 claim_of (outcome.Between plan low high nodes) = Limit low (Some high)
 claim_of (outcome.Above low nodes) = Limit low None
 
--- the plan of an answer, where it has one, is legal and has the cost that stands beside it
+-- where an answer has a plan, that plan is legal, and costs what the answer says
 abbrev pub HasItsPlanBy : Costs → BookSeen → Outcome → Type 0
 HasItsPlanBy costs book (outcome.Optimal plan cost) = IsPlanBy costs book cost plan
 HasItsPlanBy costs book outcome.Infeasible = ⊤

@@ -1,4 +1,8 @@
 //! What flying costs, as a table: an entry for each aircraft and activity, and the bands of connection costs.
+//!
+//! A search is asked for any such table, of which the book's own costs are one. The two maxima bound what a legal plan
+//! costs, and so the box of duals; `IsCostTable` asks that sums of costs and duals in thousandths stay below 2^61, so that
+//! they fit 64 bits wherever they are taken. A cost is one read, and a connection's a walk over at most eight bands.
 
 ghost use Rattle.std.specs.Prelude.{◌≡◌, ◌↔◌, ◌<◌, ◌≤◌, ◌+◌, ◌*◌, ◌^◌, ◌++◌, IfOk, IfSome, IsSome, length, pos, unsigned_abs, nat_le};
 ghost use Rattle.std.specs.List.{list_all};
@@ -12,15 +16,17 @@ use crate::{Band, Book, Memory, laws};
 use std::alloc::Global;
 use std::marker::Model;
 
-/// What each of `n` activities costs each of `m` aircraft, in cost units, with that of aircraft `k` and activity `a` at
-/// `fly[k * n + a]`, the bands of connection costs, and the most that an entry and a band cost. Every table keeps these
-/// maxima, and sums of its costs in thousandths stay below 2^61. Contracts see the record of its fields.
+/// What activities and connections cost. Every table keeps its maxima. Contracts see the record of its fields.
 #[derive(Debug, Drop)]
 pub struct CostTable {
+    /// How many activities, and how many aircraft.
     pub n: usize,
     pub m: usize,
+    /// What activity `a` costs aircraft `k`, in cost units, at `k * n + a`.
     pub fly: Vec<u64>,
+    /// What a connection costs by its minutes on the ground: the first band that reaches counts.
     pub bands: Vec<Band>,
+    /// The most that an entry, and a band, cost, in cost units.
     pub fly_max: u64,
     pub band_max: u64,
 }

@@ -1,4 +1,5 @@
-//! How often routes fly an activity.
+//! How often routes fly an activity. Nobody asks how often beyond once, so three cases are enough, and no count can grow
+//! out of range.
 
 ghost use Rattle.std.specs.Prelude.{◌≡◌};
 ghost use Rattle.tail_book.specs.inside.Flown.{flown_one_more};
@@ -6,8 +7,11 @@ ghost use Rattle.tail_book.specs.inside.Flown.{flown_one_more};
 /// How often routes fly an activity: not at all, once, or more often.
 #[derive(Clone, Copy, PartialEq, Eq, Debug)]
 pub enum Flown {
+    /// In no route.
     Never,
+    /// Once in all.
     Once,
+    /// More often than once.
     More,
 }
 

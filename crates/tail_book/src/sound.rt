@@ -1,4 +1,7 @@
 //! Whether the parts of a book keep its limits: each test here has the name of the definition that it computes.
+//!
+//! It is what lets a program make a book without a proof about its parts. All is one pass over the lists, but for the names
+//! of one kind and the order of activities, which are compared pair by pair and need no memory.
 
 ghost use Rattle.std.specs.Prelude.{◌≡◌, ℕ, List, pos, not, bytes_eq, length, IsTrue};
 ghost use Rattle.std.specs.List.{list_all};

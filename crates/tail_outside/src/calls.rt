@@ -1,4 +1,4 @@
-//! The calls of one object, some of which fail by their number.
+//! The calls of one object, some of which fail by their number, so that a test can let any one of them fail.
 
 ghost use Rattle.std.specs.Prelude.{◌≡◌};
 ghost use Rattle.tail_outside.specs.inside.Held.{calls_to_come, fails_next, one_more};

@@ -1,4 +1,4 @@
-//! A sink in memory, which tells its bytes.
+//! A sink in memory, which tells its bytes. A piece is taken whole or not at all.
 
 ghost use Rattle.std.specs.Prelude.{◌≡◌, ◌≤◌, ◌↔◌, ◌++◌, IsTrue, IsOk, IfOk, OnOk, OnErr, IsErrOf};
 ghost use Rattle.tail_outside.specs.inside.Held.{fails_next, one_more, sink_at_first};

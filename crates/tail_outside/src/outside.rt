@@ -26,7 +26,8 @@ pub trait Files {
     /// What is told of the files, the names that may be used, and the counts of failures.
     ghost shows: { Self → FilesShown };
 
-    /// Fills a front of `into` with the bytes at a place of the file.
+    /// Reads bytes of the file from a place on into the front of `into`, and tells how many. None means the file's end, unless
+    /// `into` has no room.
     fn read_at(&mut self, name: &str, at: u64, into: &mut [u8]) -> Result<usize, Failed>
         requires named { IsTrue ((shows self.old).lets_read name.now) }
         requires near { at ≤ 2 ^ 40 }

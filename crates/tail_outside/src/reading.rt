@@ -1,4 +1,5 @@
-//! A file's bytes, up to a limit.
+//! A file's bytes, up to a limit: piece by piece through one buffer on the heap, and never a byte past the limit. Each turn
+//! takes at least one byte or ends, so a reading ends whatever the file is.
 
 ghost use Rattle.std.specs.Prelude.{◌≡◌, ◌<◌, ◌≤◌, ◌^◌, length, take, IfOk, IfSome, IsErr, IsErrOf, IsTrue};
 ghost use Rattle.tail_outside.specs.inside.Outside.{IsRead};

@@ -1,4 +1,7 @@
-//! Moments as the tables write them.
+//! Moments as the tables write them, `YYYY-MM-DDTHH:MM`.
+//!
+//! The shape is tested first, place by place, and then the clock and the day; the day's number comes from the civil
+//! calendar. A text has one reading, since each part has a fixed place and width.
 
 ghost use Rattle.std.specs.Prelude.{◌≡◌, ◌<◌, ◌≤◌, length, pos, IfOk, IfSome};
 ghost use Rattle.jiff_core.specs.Calendar.{IsBetween};

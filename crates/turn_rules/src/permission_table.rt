@@ -20,10 +20,12 @@ use std::alloc::Global;
 use tail_book::laws::link_decides;
 use tail_book::{Book, Memory, Place};
 
-/// Whether each aircraft may fly each of `n` activities, with aircraft `k` and activity `a` at `allowed[k * n + a]`.
+/// Whether each aircraft may fly each activity.
 #[derive(Debug, Drop)]
 pub struct PermissionTable {
+    /// How many activities there are.
     pub n: usize,
+    /// Whether aircraft `k` may fly activity `a`, at `k * n + a`.
     pub allowed: Vec<bool>,
 }
 
