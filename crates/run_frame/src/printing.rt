@@ -1,4 +1,5 @@
-//! The printing of an answer.
+//! The printing of an answer, line by line as the lines are made. Where it stops in the middle, what is printed is a front
+//! of the answer, and the status says why it stopped.
 
 ghost use Rattle.std.specs.Prelude.{◌≡◌, ◌≤◌, false, IfOk, OnErr, OnOk, IsErrOf};
 ghost use Rattle.tail_outside.specs.Outside.{PieceHasFailed, Takes, TakesFront};

@@ -1,4 +1,5 @@
-//! The reading of the three tables, before one of them is judged.
+//! The reading of the three tables, before one of them is judged: a file that can't be read is told, however bad another is.
+//! A byte more is read than a table may have, which is enough to refuse it: no refusal looks at what lies behind.
 
 ghost use Rattle.std.specs.Prelude.{◌≡◌, IfOk, IfSome, IsErrOf};
 ghost use Rattle.tail_outside.specs.Outside.{OnlyRead, ReadHasFailed};

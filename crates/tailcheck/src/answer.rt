@@ -1,4 +1,4 @@
-//! What a run finds.
+//! What a run finds: a book and the audit of a plan, which is printed as the cost or as the rules that are broken.
 
 ghost use Rattle.std.specs.Prelude.{◌≡◌, ◌≤◌, ℕ, false, List, OnErr, OnOk, IsErrOf};
 ghost use Rattle.plan_report.specs.inside.AuditText.{AreOfBook};

@@ -1,4 +1,6 @@
 //! The book that a run plans: each table is read by itself, then two looks at how long they are, then the names.
+//!
+//! The two looks are there for the enumeration, which tries every assignment of aircraft to activities.
 
 ghost use Rattle.std.specs.Prelude.{◌≡◌, length};
 ghost use Rattle.tail_text.specs.inside.Reading.{Answers};
