@@ -8,6 +8,8 @@ use Rattle.std.proofs.lemmas.Int.{ints}
 use Rattle.std.proofs.lemmas.List.{length-map, length-set, length-replicate}
 use Rattle.std.proofs.lemmas.List.Elements.{All-cons, All-head, All-nil, All-replicate, All-set, All-tail}
 use Rattle.tail_text.specs.Checks.{look, must}
+use Rattle.tail_text.specs.declared.codes.TheConstants.{TWICE}
+use Rattle.tail_book.specs.declared.limits.TheConstants.{VALUE_LIMIT}
 use Rattle.tail_book.specs.Seen.{ActivitySeen, CounterSeen, CurfewSeen, RulesSeen, TailSeen}
 use Rattle.tail_book.specs.inside.Sound.{IsActivity, IsCounter, IsCurfew, IsTail, IsWithin, is_none_or_below}
 use Rattle.timetable_reader.specs.inside.Activity.{IsRawActivity}
@@ -17,9 +19,10 @@ use Rattle.fleet_rules.specs.RawRules.{RawCounterSeen, RawCurfewSeen}
 use Rattle.fleet_rules.specs.inside.Tail.{IsRawCarry, IsRawTail}
 use Rattle.fleet_rules.specs.Tail.{RawTailSeen}
 use Rattle.fleet_rules.specs.declared.tail.RawCarry.{RawCarry}
-use Rattle.book_maker.specs.Names.{number_in, numbers_in, optional_number_in, place_in}
+use Rattle.book_maker.specs.NameNumbers.{number_in, numbers_in, optional_number_in, place_in}
 use Rattle.book_maker.specs.RulesFound.{counter_in, curfew_in}
-use Rattle.book_maker.specs.TailFound.{carry_from, carry_in, is_named, tail_in}
+use Rattle.book_maker.specs.CarryFound.{carry_from, carry_in, is_named}
+use Rattle.book_maker.specs.TailFound.{tail_in}
 use Rattle.book_maker.specs.ActivityFound.{activity_in}
 
 -- what a look at a value gave, and what it went on to
@@ -118,7 +121,7 @@ counter_named airports raw c e =
 
 -- carry values, one for each counter
 abbrev IsCarry : ℤ → Type 0
-IsCarry = IsWithin (pos 0) (pos 10_000_000)
+IsCarry = IsWithin (pos 0) VALUE_LIMIT
 
 pub record AreCarry (counters : List (List ℕ)) (values : List ℤ) : Type 0 where
   pub each : All IsCarry values
@@ -132,7 +135,7 @@ carried counters before values [] carry so_far h e =
     rw (← is) so_far
 carried counters before values (item ∷ more) carry so_far h e =
     let known = looked (number_in counters item.counter) _ carry e in
-    let first = passed (not (is_named before item.counter)) 11 (carry_from counters (before ++ item ∷ []) (slice_set values known.value item.value) more) carry known.went_on in
+    let first = passed (not (is_named before item.counter)) TWICE (carry_from counters (before ++ item ∷ []) (slice_set values known.value item.value) more) carry known.went_on in
     carried counters (before ++ item ∷ []) (slice_set values known.value item.value) more carry
     (record {
       each = All-set IsCarry values known.value item.value (All-head IsRawCarry item more h).value so_far.each;

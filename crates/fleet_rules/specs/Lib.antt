@@ -1,6 +1,6 @@
 pub mod AirportEntry
 pub mod BandEntry
-pub mod Carry
+pub mod CarryField
 pub mod CounterEntry
 pub mod CurfewEntry
 pub mod Entries

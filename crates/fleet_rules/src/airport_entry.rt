@@ -10,10 +10,8 @@ use crate::toml_values::{has_only, name_at, number_at};
 use std::alloc::Global;
 use table_records::NoRow;
 use tail_book::Airport;
+use tail_book::limits::{AIRPORT_LIMIT, DAY, OFFSET_LIMIT};
 use toml::Table;
-
-/// The most airports.
-pub const AIRPORT_LIMIT: usize = 200;
 
 impl Entry for Airport {
     ghost section = { airports };
@@ -42,7 +40,7 @@ fn airport_in(table: &Table) -> Result<Airport, u8>
     ensures sound { IfOk result IsAirport }
 {
     let name = name_at(table, "name")?;
-    let offset = number_at(table, "offset", -840, 840)?;
-    let turn = number_at(table, "turn", 0, 1440)?;
+    let offset = number_at(table, "offset", -OFFSET_LIMIT, OFFSET_LIMIT)?;
+    let turn = number_at(table, "turn", 0, DAY)?;
     Ok(Airport { name, offset, turn })
 }

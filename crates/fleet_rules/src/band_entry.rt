@@ -10,10 +10,8 @@ use crate::toml_values::{count_at, has_only, number_at};
 use std::alloc::Global;
 use table_records::NoRow;
 use tail_book::Band;
+use tail_book::limits::{BAND_COST_LIMIT, BAND_LIMIT, VALUE_LIMIT};
 use toml::Table;
-
-/// The most bands.
-pub const BAND_LIMIT: usize = 8;
 
 impl Entry for Band {
     ghost section = { bands };
@@ -41,7 +39,7 @@ fn band_in(table: &Table) -> Result<Band, u8>
     ensures value { result ≡ band_in (table_view table.now) }
     ensures sound { IfOk result IsBand }
 {
-    let upto = number_at(table, "upto", 0, 10_000_000)?;
-    let cost = count_at(table, "cost", 1_000_000)?;
+    let upto = number_at(table, "upto", 0, VALUE_LIMIT)?;
+    let cost = count_at(table, "cost", BAND_COST_LIMIT)?;
     Ok(Band { upto, cost })
 }

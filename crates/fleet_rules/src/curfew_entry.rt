@@ -11,10 +11,8 @@ use crate::entries::Entry;
 use crate::toml_values::{has_only, name_at, names_at, time_at, truth_at};
 use std::alloc::Global;
 use table_records::NoRow;
+use tail_book::limits::{CURFEW_LIMIT, ITEM_LIMIT};
 use toml::Table;
-
-/// The most curfews.
-pub const CURFEW_LIMIT: usize = 400;
 
 impl Entry for RawCurfew {
     ghost section = { curfews };
@@ -48,7 +46,7 @@ fn curfew_in(alloc: Global, table: &Table) -> Result<RawCurfew, NoRow>
     let airport = name_at(table, "airport")?;
     let from = time_at(table, "from")?;
     let to = time_at(table, "to")?;
-    let types = names_at(alloc, table, "types", 20)?;
+    let types = names_at(alloc, table, "types", ITEM_LIMIT)?;
     let starts = truth_at(table, "start")?;
     let landings = truth_at(table, "landing")?;
     Ok(RawCurfew {

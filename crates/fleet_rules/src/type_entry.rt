@@ -10,10 +10,8 @@ use crate::toml_values::{count_at, has_only, name_at, number_at};
 use std::alloc::Global;
 use table_records::NoRow;
 use tail_book::AircraftType;
+use tail_book::limits::{DAY, RATE_LIMIT, TYPE_LIMIT};
 use toml::Table;
-
-/// The most aircraft types.
-pub const TYPE_LIMIT: usize = 20;
 
 impl Entry for AircraftType {
     ghost section = { types };
@@ -42,7 +40,7 @@ fn type_in(table: &Table) -> Result<AircraftType, u8>
     ensures sound { IfOk result IsKind }
 {
     let name = name_at(table, "name")?;
-    let rate = count_at(table, "rate", 300)?;
-    let turn = number_at(table, "turn", 0, 1440)?;
+    let rate = count_at(table, "rate", RATE_LIMIT)?;
+    let turn = number_at(table, "turn", 0, DAY)?;
     Ok(AircraftType { name, rate, turn })
 }

@@ -21,7 +21,8 @@ use Rattle.plan_audit.specs.inside.Met.{IsMetOf}
 use Rattle.plan_audit.specs.Met.{tails_met}
 use Rattle.plan_audit.specs.Kept.{next_route, route_met, legs_from}
 use Rattle.plan_audit.specs.Rules.{past_limits_at, values_before, values_after, past_limits}
-use Rattle.plan_audit.specs.inside.Told.{no_counter, IsPastLimit}
+use Rattle.maint_counters.specs.inside.StepTable.{no_counter}
+use Rattle.plan_audit.specs.inside.Told.{IsPastLimit}
 use Rattle.plan_audit.proofs.CountLemmas.{carry_width}
 use Rattle.plan_audit.proofs.Legality.{step_width}
 use Rattle.plan_audit.proofs.ToldLemmas.{empty_has, cons_cases, cons_here, order_of, AreOf}

@@ -1,9 +1,9 @@
 -- What only proofs, and calls further in, cite.
 pub mod Met
-pub mod Names
+pub mod BookNames
 pub mod Marks
 pub mod Times
-pub mod Reading
+pub mod MetNames
 pub mod Kept
 pub mod LegCost
 pub mod Counted

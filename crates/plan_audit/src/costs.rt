@@ -2,16 +2,15 @@
 
 ghost use Rattle.std.specs.Prelude.{◌≡◌, ◌<◌, ◌≤◌, ◌^◌, All};
 ghost use Rattle.tail_book.specs.Lookup.{activities, aircraft};
-ghost use Rattle.tail_book.specs.Cost.{activity_cost, connection_cost};
-ghost use Rattle.tail_book.specs.inside.Place.{IsPlaceOf};
+ghost use Rattle.tail_book.specs.Cost.{activity_cost};
 ghost use Rattle.plan_audit.specs.inside.Kept.{IsLegOf};
 ghost use Rattle.plan_audit.specs.inside.LegCost.{leg_cost, legs_cost};
 
+use crate::connections::connection_cost;
 use crate::leg::Leg;
 use maint_counters::flown;
+use tail_book::Book;
 use tail_book::laws::{activities_cost_at_most, connections_cost_at_most, every_book_is_sound};
-use tail_book::{Book, Place, band_cost};
-use turn_rules::gap;
 
 /// What an activity costs an aircraft: the type's rate for each minute flown, and the fixed amount.
 fn activity_cost(book: &Book, k: u32, a: u32) -> u64
@@ -24,19 +23,6 @@ fn activity_cost(book: &Book, k: u32, a: u32) -> u64
     kind.rate * flown(book, a).unsigned_abs() + tail.fixed
 }
 
-/// What a connection costs: what the bands say of the minutes on the ground, and nothing from the carry-in.
-fn connection_cost(book: &Book, k: u32, from: Place, b: u32) -> u64
-    requires aircraft { k < aircraft book.now }
-    requires place { IsPlaceOf book.now from }
-    requires activity { b < activities book.now }
-    ensures { result ≡ connection_cost book.now k from b }
-{
-    match from {
-        Place::Carry => 0,
-        Place::After(_) => band_cost(&book.rules.bands, gap(book, k, from, b)),
-    }
-}
-
 /// What a leg costs.
 fn leg_cost(book: &Book, leg: Leg) -> u64
     requires { IsLegOf book.now leg }
@@ -46,7 +32,7 @@ fn leg_cost(book: &Book, leg: Leg) -> u64
     activities_cost_at_most();
     connections_cost_at_most();
     activity_cost(book, leg.tail, leg.activity)
-        + connection_cost(book, leg.tail, leg.from, leg.activity)
+        + connection_cost(book, &book.rules.bands, leg.tail, leg.from, leg.activity)
 }
 
 /// What legs cost together.

@@ -10,7 +10,7 @@ ghost use Rattle.plan_audit.specs.inside.Kept.{route_in, IsLegOf};
 
 use crate::laws::legs_are_of_book;
 use crate::leg::{Leg, legs_in};
-use crate::reading::read_plan;
+use crate::met_names::read_names;
 use std::alloc::Global;
 use tail_book::{Book, Memory, Plan, RawPlan, Route};
 
@@ -58,7 +58,7 @@ pub fn kept(alloc: Global, book: &Book, raw: &RawPlan) -> Result<Plan, Memory>
     ensures { IfOk result (λ plan. plan ≡ kept book.now raw.now) }
 {
     legs_are_of_book();
-    let reading = read_plan(alloc, book, raw)?;
-    let legs = legs_in(alloc, &reading.met)?;
+    let met_names = read_names(alloc, book, raw)?;
+    let legs = legs_in(alloc, &met_names.met)?;
     Ok(Plan(routes_in(alloc, book, &legs)?))
 }

@@ -2,18 +2,20 @@
 #![tactic(auto)]
 
 mod auditing;
+mod book_names;
 mod broken;
+mod connections;
 mod costs;
+mod dropped_names;
 mod kept_plan;
 pub mod laws;
 mod leg;
 mod legal_plan;
 mod met;
-mod names;
+mod met_names;
 mod no_links;
 mod not_allowed;
 mod past_limits;
-mod reading;
 mod table_costs;
 mod uncovered;
 

@@ -3,10 +3,11 @@
 //! A route of a plan that is audited may run backwards in time, and then a counter may fall below 0. Each leg adds or
 //! takes less than 2^27 minutes, so the values of fewer than 2^64 legs fit into 128 bits.
 
-ghost use Rattle.std.specs.Prelude.{◌≡◌, ◌<◌, ◌≤◌, ◌+◌, ◌^◌, ◌++◌, ◌+ℤ◌, ℕ, IfOk, All, length, replicate, pos, negsuc};
+ghost use Rattle.std.specs.Prelude.{◌≡◌, ◌<◌, ◌≤◌, ◌+◌, ◌^◌, ◌++◌, ◌+ℤ◌, ◌-ℤ◌, ℕ, IfOk, All, length, replicate, pos};
 ghost use Rattle.tail_book.specs.Numbers.{contains, int_le};
 ghost use Rattle.tail_book.specs.Lookup.{activities, resets_of};
 ghost use Rattle.tail_book.specs.Counters.{step_one, step_from};
+ghost use Rattle.tail_book.specs.declared.limits.TheConstants.{COUNTER_LIMIT, LAST_MOMENT};
 ghost use Rattle.tail_book.specs.inside.Sound.{IsWithin};
 ghost use Rattle.plan_audit.specs.inside.Kept.{IsLegOf};
 ghost use Rattle.plan_audit.specs.inside.Counted.{value_before, IsWithinLegs};
@@ -43,7 +44,7 @@ fn resets(book: &Book, b: u32, c: u32) -> bool
 /// A value and what a leg adds to it.
 fn count_on(value: i128, added: i64) -> i128
     requires range { IsWithinLegs (2 ^ 64) value }
-    requires most { IsWithin (negsuc 120_968_638) (pos 120_968_639) added }
+    requires most { IsWithin (pos 0 -ℤ LAST_MOMENT) LAST_MOMENT added }
     ensures { result ≡ value +ℤ added }
 {
     value + added as i128
@@ -81,7 +82,7 @@ fn count_leg(book: &Book, leg: Leg, counters: &[Counter], values: &mut [i128])
     requires leg { IsLegOf book.now leg }
     requires counters { length counters.now ≡ length book.now.rules.counters }
     requires width { length values.old ≡ length counters.now }
-    requires few { length counters.now ≤ 6 }
+    requires few { length counters.now ≤ COUNTER_LIMIT }
     requires range { All (IsWithinLegs (2 ^ 64)) values.old }
     ensures width { length values.new ≡ length counters.now }
     ensures steps { values.new ≡ step_from book.now leg.tail leg.from leg.activity 0 counters.now (values_before book.now leg.tail leg.from values.old) }
@@ -110,7 +111,7 @@ fn add_past_limits_at(
     list: &mut Vec<Broken>,
 ) -> Result<(), Memory>
     requires width { length values.now ≡ length counters.now }
-    requires few { length counters.now ≤ 6 }
+    requires few { length counters.now ≤ COUNTER_LIMIT }
     ensures { IfOk result (λ _. list.new.items ≡ list.old.items ++ past_limits_at leg 0 counters.now values.now) }
 {
     for c in 0..values.len() {

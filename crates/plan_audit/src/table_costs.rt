@@ -2,25 +2,11 @@
 
 ghost use Rattle.std.specs.Prelude.{◌≡◌, ◌<◌, ◌^◌, length, All};
 ghost use Rattle.tail_book.specs.Lookup.{activities, aircraft};
-ghost use Rattle.tail_book.specs.inside.CostTable.{IsTableFor, connection_cost_in, route_cost_in, plan_cost_in};
-ghost use Rattle.tail_book.specs.inside.Place.{IsPlaceOf};
+ghost use Rattle.tail_book.specs.inside.CostTable.{IsTableFor, route_cost_in, plan_cost_in};
 
+use crate::connections::connection_cost;
 use tail_book::laws::every_book_is_sound;
 use tail_book::{Book, CostTable, Place, Route};
-use turn_rules::gap;
-
-/// What a connection costs.
-fn connection_cost(book: &Book, table: &CostTable, k: u32, from: Place, b: u32) -> u64
-    requires aircraft { k < aircraft book.now }
-    requires place { IsPlaceOf book.now from }
-    requires activity { b < activities book.now }
-    ensures { result ≡ connection_cost_in table.now book.now k from b }
-{
-    match from {
-        Place::Carry => 0,
-        Place::After(_) => table.connection_cost(gap(book, k, from, b)),
-    }
-}
 
 /// What a route costs an aircraft.
 fn route_cost(book: &Book, table: &CostTable, k: u32, route: &[u32]) -> u64
@@ -33,7 +19,7 @@ fn route_cost(book: &Book, table: &CostTable, k: u32, route: &[u32]) -> u64
     let (mut cost, mut from) = (0, Place::Carry);
     for b in route {
         let b = *b;
-        cost += table.activity_cost(k, b) + connection_cost(book, table, k, from, b);
+        cost += table.activity_cost(k, b) + connection_cost(book, &table.bands, k, from, b);
         from = Place::After(b);
     }
     cost

@@ -7,6 +7,7 @@ use Rattle.std.proofs.lemmas.List.Elements.{All-take, All-drop, All-append, All-
 use Rattle.std.proofs.Math.Seq.{take-suc-set, take-append_seam, get_or-append_seam}
 use Rattle.std.proofs.Math.Nat.{mul-le-mul_right}
 use Rattle.std.specs.Prelude.{All, nat_eq, slice_set}
+use Rattle.tail_book.specs.declared.limits.TheConstants.{VALUE_LIMIT}
 use Rattle.tail_book.specs.Seen.{BookSeen}
 use Rattle.tail_book.specs.declared.place.Place.{Place}
 use Rattle.tail_book.specs.declared.place.Place.TheVariants.{Carry, After}
@@ -67,7 +68,7 @@ module _ (book : BookSeen) (a : ℕ) (trial : Trial) (h : IsTrial book a trial) 
           le_cases m n e = grind arith
 
       at : (x : Place) → IsPlaceBefore a x → All IsCount (values_at book trial.values.items k x)
-      at Carry before = All-weaker (IsWithin (pos 0) (pos 10_000_000)) IsCount (λ z w. record { least = w.least; most = omega (arith, ints, w.most) }) (carry_of book k) (sound.tails k no_tail lt).carry
+      at Carry before = All-weaker (IsWithin (pos 0) VALUE_LIMIT) IsCount (λ z w. record { least = w.least; most = omega (arith, ints, w.most) }) (carry_of book k) (sound.tails k no_tail lt).carry
       at (After x) before =
           let end = row_below (width_of book) x a before in
           rw (← row_of_front (width_of book) x (a * width_of book) trial.values.items end fits)

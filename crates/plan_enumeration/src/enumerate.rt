@@ -15,12 +15,12 @@ ghost use Rattle.plan_enumeration.specs.inside.Assignment.{IsLegalAssignment, as
 ghost use Rattle.tail_book.specs.Truth.{IsTrueOutcome};
 ghost use Rattle.plan_enumeration.specs.inside.Enumeration.{Advances, AgreesBelow, HasRow, GoesOn, HasTried, IsBest, IsCount, IsNoBetter, IsTrial, KeepsBest, IsPlaceBefore, IsRowBefore, next_cost, row_of, values_at, width_of, with_row};
 ghost use Rattle.plan_enumeration.specs.inside.Decided.{IsDecided};
-ghost use Rattle.plan_enumeration.specs.inside.Tables.{AreTablesOf};
+ghost use Rattle.plan_enumeration.specs.inside.BookTables.{AreTablesOf};
 ghost use Rattle.turn_rules.specs.inside.FreeBefore.{IsFreeBefore};
 ghost use Rattle.tail_book.specs.inside.Place.{IsPlaceOf};
 
+use crate::book_tables::{BookTables, tables_of};
 use crate::cost::going_cost;
-use crate::tables::{Tables, tables_of};
 use maint_counters::{start, step};
 use std::alloc::Global;
 use tail_book::{Book, Memory, Outcome, Place, Plan, Route, laws};
@@ -148,7 +148,7 @@ fn step_values(book: &Book, values: &mut Vec<i64>, k: u32, from: Place, a: u32) 
 }
 
 // Whether aircraft `k` may go on with activity `a`, the next one; its counters are then in the activity's row.
-fn can_go_on(book: &Book, tables: &Tables, trial: &mut Trial, k: u32, a: u32) -> bool
+fn can_go_on(book: &Book, tables: &BookTables, trial: &mut Trial, k: u32, a: u32) -> bool
     requires tables { AreTablesOf book.now tables.now }
     requires aircraft { k < aircraft book.now }
     requires activity { a < activities book.now }
@@ -167,7 +167,7 @@ fn can_go_on(book: &Book, tables: &Tables, trial: &mut Trial, k: u32, a: u32) ->
 }
 
 // Lets aircraft `k` fly activity `a`, the next one, if that is legal.
-fn go_on(book: &Book, tables: &Tables, trial: &mut Trial, k: u32, a: u32) -> Option<Advance>
+fn go_on(book: &Book, tables: &BookTables, trial: &mut Trial, k: u32, a: u32) -> Option<Advance>
     requires tables { AreTablesOf book.now tables.now }
     requires aircraft { k < aircraft book.now }
     requires activity { a < activities book.now }
@@ -191,7 +191,7 @@ fn go_on(book: &Book, tables: &Tables, trial: &mut Trial, k: u32, a: u32) -> Opt
 #[cycle(assign)]
 fn assign_to(
     book: &Book,
-    tables: &Tables,
+    tables: &BookTables,
     trial: &mut Trial,
     best: &mut Best,
     k: u32,
@@ -221,7 +221,14 @@ fn assign_to(
 
 // Tries all assignments of the activities from number `a` on.
 #[cycle(assign)]
-fn assign_from(book: &Book, tables: &Tables, trial: &mut Trial, best: &mut Best, a: u32, cost: u64)
+fn assign_from(
+    book: &Book,
+    tables: &BookTables,
+    trial: &mut Trial,
+    best: &mut Best,
+    a: u32,
+    cost: u64,
+)
     requires tables { AreTablesOf book.now tables.now }
     requires activity { a ≤ activities book.now }
     requires trial { IsTrial book.now a trial.old }

@@ -4,7 +4,8 @@ use Rattle.std.proofs.lemmas.List.Splits.{slice_split_at}
 use Rattle.std.specs.List.{AllByRecursion}
 use Rattle.std.specs.Prelude.{◌==◌}
 use Rattle.plan_report.specs.Lines.{newline, text_of}
-use Rattle.plan_report.specs.Parts.{LineSeen, lines_among, lines_of, parts_of, whole_line}
+use Rattle.tail_text.specs.Parts.{parts_of}
+use Rattle.plan_report.specs.TextLines.{LineSeen, lines_among, lines_of, whole_line}
 use Rattle.plan_report.proofs.NameBytes.{Lacks}
 
 -- a line's text with its newline

@@ -1,6 +1,6 @@
 pub mod Lines
 pub mod Refused
-pub mod Parts
+pub mod TextLines
 pub mod Report
 pub mod AuditText
 pub mod PlanText

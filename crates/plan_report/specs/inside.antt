@@ -1,5 +1,4 @@
 -- What only proofs, and calls further in, cite.
-pub mod PartsLeft
 pub mod Report
 pub mod AuditText
 pub mod Laws

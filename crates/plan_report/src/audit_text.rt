@@ -51,11 +51,11 @@ fn audit_lines(alloc: Global, book: &Book, audit: &Audit) -> Result<Vec<Line>, M
     Ok(lines)
 }
 
-fn counted_line(alloc: Global, word: &[u8], count: u64) -> Result<Line, Memory>
-    ensures { IfOk result (λ line. line ≡ word.now ++ decimal count ++ newline) }
+fn counted_line(alloc: Global, front: &[u8], count: u64) -> Result<Line, Memory>
+    ensures { IfOk result (λ line. line ≡ front.now ++ decimal count ++ newline) }
 {
     let mut line = Line::new(alloc)?;
-    line.text(word)?;
+    line.text(front)?;
     line.unsigned(count)?;
     line.text(b"\n")?;
     Ok(line)
@@ -113,19 +113,19 @@ fn id_of(book: &Book, a: u32) -> &[u8]
     book.activities[a as usize].id.as_bytes()
 }
 
-fn add_text(word: &[u8], name: &[u8], line: &mut Line) -> Result<(), Memory>
-    ensures { OnOk result (line.new ≡ line.old ++ word.now ++ name.now) }
+fn add_text(front: &[u8], name: &[u8], line: &mut Line) -> Result<(), Memory>
+    ensures { OnOk result (line.new ≡ line.old ++ front.now ++ name.now) }
 {
-    line.text(word)?;
+    line.text(front)?;
     line.text(name)
 }
 
-// Adds an aircraft and an activity behind a word.
-fn add_pair(word: &[u8], book: &Book, k: u32, a: u32, line: &mut Line) -> Result<(), Memory>
+// Adds an aircraft and an activity behind a front.
+fn add_pair(front: &[u8], book: &Book, k: u32, a: u32, line: &mut Line) -> Result<(), Memory>
     requires aircraft { k < aircraft book.now }
     requires activity { a < activities book.now }
-    ensures { OnOk result (line.new ≡ line.old ++ word.now ++ pair_names book.now k a) }
+    ensures { OnOk result (line.new ≡ line.old ++ front.now ++ pair_names book.now k a) }
 {
-    add_text(word, book.tails[k as usize].name.as_bytes(), line)?;
+    add_text(front, book.tails[k as usize].name.as_bytes(), line)?;
     add_text(b" ", id_of(book, a), line)
 }

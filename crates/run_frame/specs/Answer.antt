@@ -2,7 +2,7 @@
 use Rattle.std.specs.Prelude.{ℕ, ◌≡◌, ◌⊎◌, ⊤, List, [], ◌∷◌, Option, None}
 use Rattle.tail_text.specs.declared.refusal.Refusal.{Refusal}
 use Rattle.plan_report.specs.Refused.{refusal_line}
-use Rattle.run_frame.specs.Reading.{AreGiven, OfHeld}
+use Rattle.run_frame.specs.TableFiles.{AreGiven, OfHeld}
 use Rattle.run_frame.specs.declared.answer.Answer.{Answer}
 use Rattle.run_frame.specs.declared.answer.Answer.TheVariants.{Usage, Refused, Found, ReadFailed, Memory}
 

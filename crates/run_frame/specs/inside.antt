@@ -1,3 +1,3 @@
 -- What only proofs, and calls further in, cite.
-pub mod Reading
+pub mod TableFiles
 pub mod Answer

@@ -1,7 +1,7 @@
 pub mod Fields
-pub mod Layout
 pub mod Lists
 pub mod NameLists
 pub mod Records
+pub mod Table
 pub mod Values
 pub mod inside

@@ -2,4 +2,3 @@
 pub mod NameLists
 pub mod NoRow
 pub mod RecordsParts
-pub mod WordsParts

@@ -1,4 +1,4 @@
-//! Texts: stamps, numbers, names and times of day read exactly, lines of text, and the refusals of tables.
+//! Texts: stamps, numbers, names and times of day read exactly, the parts of a text, lines of text, and the refusals of tables.
 #![tactic(auto)]
 
 mod bad;
@@ -8,6 +8,7 @@ mod line;
 mod names;
 mod numbers;
 mod pairs;
+mod parts;
 mod refusal;
 mod stamps;
 
@@ -16,6 +17,7 @@ pub use clocks::clock;
 pub use line::Line;
 pub use names::name;
 pub use numbers::number;
+pub use parts::Parts;
 pub use refusal::{Refusal, SIZE_LIMIT, Stopped, Table};
 pub use stamps::stamp;
 

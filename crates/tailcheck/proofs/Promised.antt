@@ -20,17 +20,16 @@ use Rattle.run_frame.proofs.Fronts.{book_of-fronts, front-limited}
 use Rattle.run_frame.proofs.Held.{OfHeld-map}
 use Rattle.run_frame.specs.inside.Answer.{IsAnswerTo, IsPrintable, IsPrinted, status_of}
 use Rattle.run_frame.specs.Answer.{IsUnlessStopped}
-use Rattle.run_frame.specs.inside.Reading.{front, fronts}
-use Rattle.run_frame.specs.Reading.{tables_held}
+use Rattle.run_frame.specs.inside.TableFiles.{front, fronts}
+use Rattle.run_frame.specs.TableFiles.{tables_held}
 use Rattle.run_frame.specs.Tables.{TablesSeen}
 use Rattle.run_frame.specs.declared.answer.Answer.TheVariants.{ReadFailed}
 use Rattle.tailcheck.specs.Answers.{Answer, AreJudged, AreRefused, IsTrueAnswer, OfTexts, answer_text}
 use Rattle.tailcheck.specs.inside.Audits.{audit_status}
 use Rattle.tailcheck.specs.Cases.{Case, case_of}
 use Rattle.tailcheck.specs.Promises.{IsVerdict, JudgesPlan, Promise, RefusesTexts}
-use Rattle.tailcheck.specs.inside.Reading.{text_fronts}
-use Rattle.tailcheck.specs.Reading.{texts_held}
-use Rattle.tailcheck.specs.Texts.{CheckNamesSeen, TextsSeen}
+use Rattle.tailcheck.specs.inside.Texts.{text_fronts}
+use Rattle.tailcheck.specs.Texts.{texts_held, CheckNamesSeen, TextsSeen}
 use Rattle.tailcheck.specs.Usage.{usage_line}
 use Rattle.tailcheck.specs.Words.{check_of}
 

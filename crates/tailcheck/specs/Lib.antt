@@ -1,6 +1,5 @@
 pub mod Usage
 pub mod Texts
-pub mod Reading
 pub mod Words
 pub mod Cases
 pub mod Answers

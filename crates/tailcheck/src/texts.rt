@@ -2,8 +2,8 @@
 
 ghost use Rattle.std.specs.Prelude.{◌≡◌, IfOk, IfSome, IsErrOf};
 ghost use Rattle.tail_outside.specs.Outside.{OnlyRead, ReadHasFailed};
-ghost use Rattle.tailcheck.specs.Reading.{MayReadTexts, texts_held};
-ghost use Rattle.tailcheck.specs.inside.Reading.{check_names_seen, text_fronts};
+ghost use Rattle.tailcheck.specs.Texts.{MayReadTexts, texts_held};
+ghost use Rattle.tailcheck.specs.inside.Texts.{check_names_seen, text_fronts};
 
 use crate::words::CheckNames;
 use run_frame::{READ_LIMIT, Tables, read_tables};

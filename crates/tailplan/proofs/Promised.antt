@@ -13,8 +13,8 @@ use Rattle.run_frame.proofs.Fronts.{tables-same}
 use Rattle.run_frame.proofs.Held.{OfHeld-map}
 use Rattle.run_frame.specs.inside.Answer.{IsAnswerTo, IsPrintable as IsPrintableBy, IsPrinted, status_of}
 use Rattle.run_frame.specs.Answer.{IsUnlessStopped}
-use Rattle.run_frame.specs.inside.Reading.{front, fronts}
-use Rattle.run_frame.specs.Reading.{tables_held}
+use Rattle.run_frame.specs.inside.TableFiles.{front, fronts}
+use Rattle.run_frame.specs.TableFiles.{tables_held}
 use Rattle.run_frame.specs.Tables.{NamesSeen, TablesSeen}
 use Rattle.run_frame.specs.declared.answer.Answer.TheVariants.{ReadFailed}
 use Rattle.tailplan.proofs.SmallBook.{small_books_are_books}

@@ -10,7 +10,7 @@ use book_maker::make_book;
 use fleet_rules::{RawRules, RawTail, read_fleet, read_rules};
 use std::alloc::Global;
 use tail_book::Book;
-use tail_text::{Refusal, Stopped, Table};
+use tail_text::{Refusal, Stopped, Table, codes};
 use timetable_reader::{RawActivity, read_timetable};
 
 /// The most activities that a plan is made for.
@@ -47,7 +47,7 @@ fn too_many_activities() -> Refusal
     ensures { result ≡ too_many_activities }
 {
     Refusal {
-        code: 10,
+        code: codes::TOO_MANY,
         table: Table::Timetable,
         place: MOST_ACTIVITIES as u64 + 2,
     }
@@ -58,7 +58,7 @@ fn too_many_aircraft() -> Refusal
     ensures { result ≡ too_many_aircraft }
 {
     Refusal {
-        code: 10,
+        code: codes::TOO_MANY,
         table: Table::Fleet,
         place: MOST_AIRCRAFT as u64 + 2,
     }

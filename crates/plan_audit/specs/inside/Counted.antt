@@ -1,7 +1,8 @@
 -- A counter before a leg, and how far it can get.
-use Rattle.std.specs.Prelude.{ℕ, ℤ, pos, ◌+◌, ◌*◌, ◌+ℤ◌, ◌≤ℤ◌, slice_index_or}
+use Rattle.std.specs.Prelude.{ℕ, ℤ, pos, ◌+ℤ◌, ◌*ℤ◌, ◌≤ℤ◌, slice_index_or}
 use Rattle.tail_book.specs.Seen.{BookSeen}
 use Rattle.tail_book.specs.Lookup.{carry_of}
+use Rattle.tail_book.specs.declared.limits.TheConstants.{LAST_MOMENT, VALUE_LIMIT}
 use Rattle.tail_book.specs.declared.place.Place.{Place}
 use Rattle.tail_book.specs.declared.place.Place.TheVariants.{Carry, After}
 
@@ -13,5 +14,5 @@ value_before book k (After x) c value = value
 -- no farther off than so many legs can bring a value that an aircraft comes in with: each counts or takes away at most
 -- the minutes of the calendar
 pub record IsWithinLegs (legs : ℕ) (value : ℤ) : Type 0 where
-  pub least : pos 0 ≤ℤ (value +ℤ pos (legs * 120_968_639))
-  pub most : value ≤ℤ pos (10_000_000 + legs * 120_968_639)
+  pub least : pos 0 ≤ℤ (value +ℤ (pos legs *ℤ LAST_MOMENT))
+  pub most : value ≤ℤ (VALUE_LIMIT +ℤ (pos legs *ℤ LAST_MOMENT))

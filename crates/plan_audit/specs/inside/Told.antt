@@ -1,16 +1,16 @@
 -- What an audit tells of the kept plan: each line exactly where a route of it breaks that rule.
 use Rattle.std.specs.Prelude.{ℕ, ℤ, pos, ◌≡◌, ◌<◌, ◌<ℤ◌, ◌↔◌, true, false, List, [], ◌∷◌, ◌++◌, Contains, length, slice_index_or}
-use Rattle.tail_book.specs.Seen.{BookSeen, RawPlanSeen, CounterSeen}
+use Rattle.tail_book.specs.Seen.{BookSeen, RawPlanSeen}
 use Rattle.tail_book.specs.Numbers.{contains}
 use Rattle.tail_book.specs.Lookup.{activities}
 use Rattle.tail_book.specs.declared.place.Place.TheVariants.{Carry}
-use Rattle.tail_book.specs.declared.rules.CounterKind.TheVariants.{Minutes}
 use Rattle.tail_book.specs.Curfew.{is_curfewed}
 use Rattle.tail_book.specs.Plan.{route_of}
 use Rattle.tail_book.specs.inside.Route.{counters_after, place_after}
 use Rattle.tail_book.specs.inside.Sound.{IsBook}
 use Rattle.tail_book.specs.Allowed.{is_permitted}
 use Rattle.tail_book.specs.Link.{is_connected}
+use Rattle.maint_counters.specs.inside.StepTable.{counter_of}
 use Rattle.plan_audit.specs.declared.broken.Broken.{Broken}
 use Rattle.plan_audit.specs.declared.broken.Broken.TheVariants as rule
 use Rattle.plan_audit.specs.Kept.{kept}
@@ -31,13 +31,6 @@ ComesBehind plan k front b = (rest : List ℕ) × (route_of plan k ≡ front ++ 
 -- in the route of aircraft k the activity stands
 abbrev pub IsFlownBy : List (List ℕ) → ℕ → ℕ → Type 0
 IsFlownBy plan k b = (front : List ℕ) × ComesBehind plan k front b
-
--- what stands where a book has no counter of a number, and the counter of a number
-abbrev pub no_counter : CounterSeen
-no_counter = record { name = []; kind = Minutes; limit = pos 0; bases = []; stop = pos 0 }
-
-abbrev pub counter_of : BookSeen → ℕ → CounterSeen
-counter_of book c = slice_index_or book.rules.counters c no_counter
 
 -- the book has a counter of number c, and its value is more than its limit
 pub record IsPastLimit (book : BookSeen) (c : ℕ) (values : List ℤ) : Type 0 where

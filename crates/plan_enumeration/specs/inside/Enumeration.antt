@@ -3,6 +3,7 @@ use Rattle.std.specs.Prelude.{ℕ, ⊤, ℤ, pos, ◌+◌, ◌*◌, ◌≡◌, �
 use Rattle.tail_book.specs.Seen.{BookSeen}
 use Rattle.tail_book.specs.declared.place.Place.{Place}
 use Rattle.tail_book.specs.declared.place.Place.TheVariants.{Carry, After}
+use Rattle.tail_book.specs.declared.limits.TheConstants.{COUNT_LIMIT}
 use Rattle.tail_book.specs.Lookup.{activities, aircraft, carry_of}
 use Rattle.tail_book.specs.Link.{IsLink}
 use Rattle.tail_book.specs.Counters.{step, WithinLimits}
@@ -56,7 +57,7 @@ IsRowBefore book (After x) n = x * width_of book + width_of book ≤ n
 
 -- the least and the greatest value of a counter within its limit
 abbrev pub IsCount : ℤ → Type 0
-IsCount = IsWithin (pos 0) (pos 14_400_000)
+IsCount = IsWithin (pos 0) COUNT_LIMIT
 
 -- the activities below a are assigned legally; each aircraft's place, and a row of counters for each activity below a, are kept
 pub record IsTrial (book : BookSeen) (a : ℕ) (trial : Trial) : Type 0 where

@@ -13,11 +13,16 @@ pub joined-nil : {A E : Type 0} (left : Result (List A) E) → joined [] left �
 joined-nil (Ok more) = refl
 joined-nil (Err why) = refl
 
+-- an item in front of what the rest gives joins those before it
+pub joined-more : {A E : Type 0} (so_far : List A) (item : A) (left : Result (List A) E)
+    → joined so_far (look left (λ rest. Ok (item ∷ rest))) ≡ joined (so_far ++ item ∷ []) left
+joined-more so_far item (Ok rest) = rw append_assoc refl
+joined-more so_far item (Err why) = refl
+
 -- an item that is good joins those before it
 pub joined-good : {A E : Type 0} (so_far : List A) (one : Result A E) (left : Result (List A) E) (item : A) → Ok item ≡ one
     → joined so_far (look one (λ first. look left (λ rest. Ok (first ∷ rest)))) ≡ joined (so_far ++ item ∷ []) left
-joined-good so_far one (Ok rest) item e = rw (← e, append_assoc) refl
-joined-good so_far one (Err why) item e = rw (← e) refl
+joined-good so_far one left item e = rw (← e) (joined-more so_far item left)
 
 -- one that is bad decides
 pub joined-bad : {A E : Type 0} (so_far : List A) (one : Result A E) (left : Result (List A) E) (why : E) → Err why ≡ one

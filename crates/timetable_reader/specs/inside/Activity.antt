@@ -1,6 +1,7 @@
 -- The ranges of what a record of the timetable says.
 use Rattle.std.specs.Prelude.{◌≡◌, true, false, [], IfSome, pos, ◌+ℤ◌, ◌≤ℤ◌}
 use Rattle.tail_book.specs.Name.{is_name}
+use Rattle.tail_book.specs.declared.limits.TheConstants.{ITEM_LIMIT, SPAN_LIMIT}
 use Rattle.tail_book.specs.inside.Sound.{IsMoment}
 use Rattle.table_records.specs.inside.NameLists.{AreNames}
 use Rattle.timetable_reader.specs.Activity.{RawActivitySeen}
@@ -14,10 +15,10 @@ pub record IsRawActivity (a : RawActivitySeen) : Type 0 where
   pub start : IsMoment a.start
   pub end : IsMoment a.end
   pub least : (a.start +ℤ pos 1) ≤ℤ a.end
-  pub most : a.end ≤ℤ (a.start +ℤ pos 2880)
-  pub types : AreNames 20 a.types
-  pub tags : AreNames 20 a.tags
+  pub most : a.end ≤ℤ (a.start +ℤ SPAN_LIMIT)
+  pub types : AreNames ITEM_LIMIT a.types
+  pub tags : AreNames ITEM_LIMIT a.tags
   pub tail : IfSome a.tail (λ name. is_name name ≡ true)
-  pub resets : AreNames 20 a.resets
+  pub resets : AreNames ITEM_LIMIT a.resets
   pub ground : a.flight ≡ false → a.from ≡ a.to
   pub in_flight : a.flight ≡ true → a.resets ≡ []

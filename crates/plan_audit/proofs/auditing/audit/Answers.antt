@@ -11,7 +11,7 @@ pub returns-then-is_empty : goal.returns-then-is_empty
 returns-then-is_empty c =
     let book = c.args.book.now in
     let raw = c.args.raw.now in
-    let met : c.in_ok-reading.reading.met.items ≡ names_met book raw = c.in_ok-reading.ensures.reads in
+    let met : c.in_ok-met_names.met_names.met.items ≡ names_met book raw = c.in_ok-met_names.ensures.reads in
     let none : c.in_ok-list.list.items ≡ [] = grind (arith, common_steps) in
     let unbroken : broken book raw ≡ [] = ap (broken_by book) (sym met) ∙ sym c.in_ok-list.ensures ∙ none in
     let plan = c.unbroken_plans_are_legal.ensures book c.every_book_is_sound.ensures raw unbroken in
