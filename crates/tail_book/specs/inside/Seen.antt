@@ -1,5 +1,5 @@
--- What contracts see of a table of costs.
-use Rattle.std.specs.Prelude.{ℕ, List}
+-- What contracts see of a table of costs, and of duals.
+use Rattle.std.specs.Prelude.{ℕ, ℤ, List}
 use Rattle.tail_book.specs.declared.rules.Band.{Band}
 
 -- what a book's activities and connections cost: n activities, m aircraft, an entry for each aircraft and activity with
@@ -11,3 +11,7 @@ pub record CostTableSeen : Type 0 where
   pub bands : List Band
   pub fly_max : ℕ
   pub band_max : ℕ
+
+-- duals: one for each activity, in thousandths of a cost unit
+pub record DualsSeen : Type 0 where
+  pub values : List ℤ
