@@ -10,7 +10,7 @@ use Rattle.tail_book.specs.Counters.{step_one, step_from}
 use Rattle.std.proofs.lemmas.Int.{ints}
 use Rattle.std.specs.Prelude.{◌≤◌, ◌^◌, FitsSigned}
 use mir.Syntax.{w128}
-use Rattle.plan_audit.specs.inside.Counted.{value_before, IsWithinLegs}
+use Rattle.plan_audit.specs.inside.PastLimits.{value_before, IsWithinLegs}
 use Rattle.plan_audit.specs.Rules.{values_before}
 
 -- a counter before the leg, among all of them

@@ -6,7 +6,7 @@ pub mod Times
 pub mod MetNames
 pub mod Kept
 pub mod LegCost
-pub mod Counted
+pub mod PastLimits
 pub mod Told
 pub mod PlanCost
 pub mod Laws

@@ -12,16 +12,16 @@ ghost use Rattle.plan_audit.specs.inside.Kept.{IsLegOf};
 ghost use Rattle.plan_audit.specs.Broken.{broken_by, IsAuditOf};
 
 use crate::broken::{Audit, Broken};
-use crate::costs::legs_cost;
 use crate::dropped_names::{add_twice, add_unknown};
 use crate::laws::{legs_are_of_book, unbroken_plans_are_legal};
 use crate::leg::{Leg, legs_in};
+use crate::leg_cost::legs_cost;
 use crate::legal_plan::is_legal;
 use crate::met_names::{MetNames, read_names};
 use crate::no_links::add_no_links;
 use crate::not_allowed::{add_curfews, add_not_allowed};
 use crate::past_limits::add_past_limits;
-use crate::table_costs::plan_cost;
+use crate::plan_cost::plan_cost;
 use crate::uncovered::add_uncovered;
 use std::alloc::Global;
 use tail_book::laws::{

@@ -10,7 +10,7 @@ ghost use Rattle.tail_book.specs.Counters.{step_one, step_from};
 ghost use Rattle.tail_book.specs.declared.limits.TheConstants.{COUNTER_LIMIT, LAST_MOMENT};
 ghost use Rattle.tail_book.specs.inside.Sound.{IsWithin};
 ghost use Rattle.plan_audit.specs.inside.Kept.{IsLegOf};
-ghost use Rattle.plan_audit.specs.inside.Counted.{value_before, IsWithinLegs};
+ghost use Rattle.plan_audit.specs.inside.PastLimits.{value_before, IsWithinLegs};
 ghost use Rattle.plan_audit.specs.Rules.{values_before, values_after, past_limits_at, past_limits};
 
 use crate::broken::Broken;

@@ -11,9 +11,9 @@
 ghost use Rattle.std.specs.Prelude.{◌≡◌, ◌<◌, ◌≤◌, ◌+◌, ◌*◌, ◌++◌, [], ◌∷◌, ℕ, List, IsTrue, ◌↔◌, IfOk, IfSome, IfNone, length, take, drop, All, ◌^◌, slice_set, slice_index_or};
 ghost use Rattle.tail_book.specs.Lookup.{activities, aircraft, carry_of};
 ghost use Rattle.tail_book.specs.Counters.{step, WithinLimits};
-ghost use Rattle.plan_enumeration.specs.inside.Assignment.{IsLegalAssignment, assignment_cost, flown_by, routes_from};
+ghost use Rattle.plan_enumeration.specs.inside.Assignment.{IsLegalAssignment, assignment_cost, route_flown, routes_from};
 ghost use Rattle.tail_book.specs.Truth.{IsTrueOutcome};
-ghost use Rattle.plan_enumeration.specs.inside.Enumeration.{Advances, AgreesBelow, HasRow, GoesOn, HasTried, IsBest, IsCount, IsNoBetter, IsTrial, KeepsBest, IsPlaceBefore, IsRowBefore, next_cost, row_of, values_at, width_of, with_row};
+ghost use Rattle.plan_enumeration.specs.inside.Enumeration.{Advances, AgreesBelow, HasRow, GoesOn, HasTried, IsBest, IsCounterValue, IsNoBetter, IsTrial, KeepsBest, IsPlaceBefore, IsRowBefore, next_cost, row_of, values_at, width_of, with_row};
 ghost use Rattle.plan_enumeration.specs.inside.Decided.{IsDecided};
 ghost use Rattle.plan_enumeration.specs.inside.BookTables.{AreTablesOf};
 ghost use Rattle.turn_rules.specs.inside.FreeBefore.{IsFreeBefore};
@@ -97,11 +97,11 @@ fn step_into(book: &Book, before: &[i64], row: &mut [i64], k: u32, from: Place, 
     requires place { IsPlaceBefore a from }
     requires width { length row.old ≡ width_of book.now }
     requires there { IsRowBefore book.now from (length before.now) }
-    requires small { All IsCount (values_at book.now before.now k from) }
+    requires small { All IsCounterValue (values_at book.now before.now k from) }
     ensures row { row.new ≡ step book.now k from a (values_at book.now before.now k from) }
     ensures wide { length (step book.now k from a (values_at book.now before.now k from)) ≡ width_of book.now }
     ensures limits { IsTrue result ↔ WithinLimits book.now.rules.counters row.new }
-    ensures range { IsFreeBefore book.now k from a → IsTrue result → All IsCount row.new }
+    ensures range { IsFreeBefore book.now k from a → IsTrue result → All IsCounterValue row.new }
 {
     fill_row(book, before, row, k, from);
     step(book, k, from, a, row)
@@ -113,11 +113,11 @@ fn step_row(book: &Book, values: &mut [i64], k: u32, from: Place, a: u32) -> boo
     requires activity { a < activities book.now }
     requires place { IsPlaceBefore a from }
     requires width { length values.old ≡ activities book.now * width_of book.now }
-    requires small { All IsCount (values_at book.now values.old k from) }
+    requires small { All IsCounterValue (values_at book.now values.old k from) }
     ensures limits { IsTrue result ↔ WithinLimits book.now.rules.counters (step book.now k from a (values_at book.now values.old k from)) }
     ensures row { values.new ≡ with_row (width_of book.now) values.old a (step book.now k from a (values_at book.now values.old k from)) }
     ensures wide { length (step book.now k from a (values_at book.now values.old k from)) ≡ width_of book.now }
-    ensures range { IsFreeBefore book.now k from a → IsTrue result → All IsCount (step book.now k from a (values_at book.now values.old k from)) }
+    ensures range { IsFreeBefore book.now k from a → IsTrue result → All IsCounterValue (step book.now k from a (values_at book.now values.old k from)) }
 {
     let width = book.rules.counters.len();
     let (before, rest) = values.split_at_mut(a as usize * width);
@@ -138,11 +138,11 @@ fn step_values(book: &Book, values: &mut Vec<i64>, k: u32, from: Place, a: u32) 
     requires activity { a < activities book.now }
     requires place { IsPlaceBefore a from }
     requires width { length values.old.items ≡ activities book.now * width_of book.now }
-    requires small { All IsCount (values_at book.now values.old.items k from) }
+    requires small { All IsCounterValue (values_at book.now values.old.items k from) }
     ensures limits { IsTrue result ↔ WithinLimits book.now.rules.counters (step book.now k from a (values_at book.now values.old.items k from)) }
     ensures row { values.new.items ≡ with_row (width_of book.now) values.old.items a (step book.now k from a (values_at book.now values.old.items k from)) }
     ensures wide { length (step book.now k from a (values_at book.now values.old.items k from)) ≡ width_of book.now }
-    ensures range { IsFreeBefore book.now k from a → IsTrue result → All IsCount (step book.now k from a (values_at book.now values.old.items k from)) }
+    ensures range { IsFreeBefore book.now k from a → IsTrue result → All IsCounterValue (step book.now k from a (values_at book.now values.old.items k from)) }
 {
     step_row(book, values.as_mut_slice(), k, from, a)
 }
@@ -277,7 +277,7 @@ fn best_assignment(alloc: Global, book: &Book) -> Result<Best, Memory>
 // The route of an aircraft: its activities in rising number.
 fn route_of(alloc: Global, fliers: &[u32], k: u32) -> Result<Route, Memory>
     requires { length fliers.now < 2 ^ 32 }
-    ensures { IfOk result (λ route. route ≡ flown_by k fliers.now) }
+    ensures { IfOk result (λ route. route ≡ route_flown k fliers.now) }
 {
     let mut route = Vec::new(alloc);
     for (a, flier) in fliers.iter().enumerate() {

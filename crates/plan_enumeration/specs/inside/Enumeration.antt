@@ -13,16 +13,16 @@ use Rattle.tail_book.specs.inside.Sound.{IsWithin}
 use Rattle.plan_enumeration.specs.declared.enumerate.Trial.{Trial}
 use Rattle.plan_enumeration.specs.declared.enumerate.Best.{Best}
 use Rattle.plan_enumeration.specs.declared.enumerate.Advance.{Advance}
-use Rattle.plan_enumeration.specs.inside.Assignment.{flown_by, IsLegalSoFar, IsLegalAssignment, assignment_cost}
+use Rattle.plan_enumeration.specs.inside.Assignment.{route_flown, IsLegalSoFar, IsLegalAssignment, assignment_cost}
 
 -- where aircraft k is after what it flies
 abbrev pub end_of_route : ℕ → List ℕ → Place
-end_of_route k who = place_after Carry (flown_by k who)
+end_of_route k who = place_after Carry (route_flown k who)
 
 -- the next activity, the one after those that are assigned, goes on legally from the route of aircraft k
 pub record GoesOn (book : BookSeen) (who : List ℕ) (k : ℕ) : Type 0 where
   pub link : IsLink book k (end_of_route k who) (length who)
-  pub limits : WithinLimits book.rules.counters (step book k (end_of_route k who) (length who) (counters_after book k (flown_by k who)))
+  pub limits : WithinLimits book.rules.counters (step book k (end_of_route k who) (length who) (counters_after book k (route_flown k who)))
 
 -- what the next activity costs aircraft k, with the connection to it
 abbrev pub next_cost : BookSeen → List ℕ → ℕ → ℕ
@@ -56,8 +56,8 @@ IsRowBefore book Carry n = ⊤
 IsRowBefore book (After x) n = x * width_of book + width_of book ≤ n
 
 -- the least and the greatest value of a counter within its limit
-abbrev pub IsCount : ℤ → Type 0
-IsCount = IsWithin (pos 0) COUNT_LIMIT
+abbrev pub IsCounterValue : ℤ → Type 0
+IsCounterValue = IsWithin (pos 0) COUNT_LIMIT
 
 -- the activities below a are assigned legally; each aircraft's place, and a row of counters for each activity below a, are kept
 pub record IsTrial (book : BookSeen) (a : ℕ) (trial : Trial) : Type 0 where
@@ -66,8 +66,8 @@ pub record IsTrial (book : BookSeen) (a : ℕ) (trial : Trial) : Type 0 where
   pub one_row_each : length trial.values.items ≡ activities book * width_of book
   pub legal : IsLegalSoFar book (take a trial.fliers.items)
   pub standing : (k : ℕ) → k < aircraft book → slice_index_or trial.places.items k Carry ≡ end_of_route k (take a trial.fliers.items)
-  pub counted : (k : ℕ) → k < aircraft book → values_at book trial.values.items k (end_of_route k (take a trial.fliers.items)) ≡ counters_after book k (flown_by k (take a trial.fliers.items))
-  pub small : All IsCount (take (a * width_of book) trial.values.items)
+  pub counted : (k : ℕ) → k < aircraft book → values_at book trial.values.items k (end_of_route k (take a trial.fliers.items)) ≡ counters_after book k (route_flown k (take a trial.fliers.items))
+  pub small : All IsCounterValue (take (a * width_of book) trial.values.items)
 
 -- the counters of aircraft k after activity a, where it comes from that place
 abbrev pub values_after : BookSeen → ℕ → ℕ → Place → List ℤ → List ℤ
@@ -77,7 +77,7 @@ values_after book a k from values = step book k from a (values_at book values k 
 pub record HasRow (book : BookSeen) (a k : ℕ) (from : Place) (old new : Trial) : Type 0 where
   pub wide : length (values_after book a k from old.values.items) ≡ width_of book
   pub values : new.values.items ≡ with_row (width_of book) old.values.items a (values_after book a k from old.values.items)
-  pub small : All IsCount (values_after book a k from old.values.items)
+  pub small : All IsCounterValue (values_after book a k from old.values.items)
 
 -- two trials agree on the activities below a, and on where the aircraft are
 pub record AgreesBelow (book : BookSeen) (a : ℕ) (old new : Trial) : Type 0 where

@@ -1,6 +1,6 @@
 use Rattle.std.proofs.Common.{◌≡◌, ◌+◌, drop}
 use Rattle.tail_book.specs.inside.CostTable.{plan_cost_in, cost_of_routes_in}
-use Rattle.plan_audit.proofs.table_costs.plan_cost.Given as goal
+use Rattle.plan_audit.proofs.plan_cost.plan_cost.Given as goal
 
 -- the cost so far, and that of the routes that are left
 abbrev pub invariant-loop-k : goal.invariant-loop-k

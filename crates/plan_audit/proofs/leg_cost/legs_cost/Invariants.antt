@@ -1,6 +1,6 @@
 use Rattle.std.proofs.Common.{◌≡◌, ◌+◌, drop}
 use Rattle.plan_audit.specs.inside.LegCost.{legs_cost}
-use Rattle.plan_audit.proofs.costs.legs_cost.Given as goal
+use Rattle.plan_audit.proofs.leg_cost.legs_cost.Given as goal
 
 -- the cost so far, and that of the legs that are left
 abbrev pub invariant-loop-leg : goal.invariant-loop-leg
