@@ -3,5 +3,6 @@
 #![tactic(auto)]
 
 mod fact;
+pub mod laws;
 
 pub use fact::{Fact, Pair};

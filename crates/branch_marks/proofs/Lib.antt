@@ -1,0 +1,4 @@
+pub mod Decisions
+pub mod MarksDecided
+pub mod WorkedBook
+mod WorkedMarks
