@@ -1,4 +1,6 @@
 pub mod Decisions
 pub mod MarksDecided
+pub mod Neighbours
+pub mod Fitting
 pub mod WorkedBook
 mod WorkedMarks

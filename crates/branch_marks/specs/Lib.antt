@@ -1,3 +1,4 @@
 pub mod Facts
 pub mod Marks
 pub mod MarkTests
+pub mod Fitting
