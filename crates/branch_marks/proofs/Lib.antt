@@ -1,6 +1,13 @@
 pub mod Decisions
+pub mod BelowDecided
 pub mod MarksDecided
+pub mod FactsDecided
+pub mod FollowingDecided
 pub mod Neighbours
 pub mod Fitting
+pub mod LesserFloors
+pub mod Floors
+pub mod AlongFloors
+pub mod Following
 pub mod WorkedBook
 mod WorkedMarks

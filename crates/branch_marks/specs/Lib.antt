@@ -2,3 +2,8 @@ pub mod Facts
 pub mod Marks
 pub mod MarkTests
 pub mod Fitting
+pub mod Below
+pub mod FactTests
+pub mod Floors
+pub mod Following
+pub mod FollowingTests
