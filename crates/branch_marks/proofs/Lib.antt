@@ -9,5 +9,8 @@ pub mod LesserFloors
 pub mod Floors
 pub mod AlongFloors
 pub mod Following
+pub mod Weights
+pub mod Duality
 pub mod WorkedBook
 mod WorkedMarks
+mod WorkedFollowing

@@ -7,3 +7,5 @@ pub mod FactTests
 pub mod Floors
 pub mod Following
 pub mod FollowingTests
+pub mod Weights
+pub mod Bound

@@ -3,6 +3,7 @@
 mod deciding;
 mod fitting;
 mod following;
+mod weighing;
 
 pub use deciding::{
     alive_decides, fact_of_decides, fits_decides, follows_decides, has_fact_decides,
@@ -11,4 +12,8 @@ pub use deciding::{
 pub use fitting::marked_routes_fit;
 pub use following::{
     floors_are_low, floors_count, following_facts_are_of_book, following_facts_hold,
+};
+pub use weighing::{
+    least_weights_are_one, least_weights_bound, low_weights_bound, rounded_up_is_least,
+    weight_is_along, weight_with_one_more, weights_along,
 };
