@@ -11,6 +11,9 @@ pub mod AlongFloors
 pub mod Following
 pub mod Weights
 pub mod Duality
+pub mod Pool
+pub mod Settled
+pub mod LeastPlan
 pub mod WorkedBook
 mod WorkedMarks
 mod WorkedFollowing

@@ -9,3 +9,5 @@ pub mod Following
 pub mod FollowingTests
 pub mod Weights
 pub mod Bound
+pub mod Pool
+pub mod Settled
