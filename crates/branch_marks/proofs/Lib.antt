@@ -17,3 +17,4 @@ pub mod LeastPlan
 pub mod WorkedBook
 mod WorkedMarks
 mod WorkedFollowing
+mod WorkedWeights
