@@ -14,6 +14,8 @@ pub mod Duality
 pub mod Pool
 pub mod Settled
 pub mod LeastPlan
+pub mod Dominance
+pub mod FamiliesDecided
 pub mod WorkedBook
 mod WorkedMarks
 mod WorkedFollowing

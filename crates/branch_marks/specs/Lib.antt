@@ -11,3 +11,6 @@ pub mod Weights
 pub mod Bound
 pub mod Pool
 pub mod Settled
+pub mod Labels
+pub mod Families
+pub mod FamilyTests

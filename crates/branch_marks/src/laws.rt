@@ -1,11 +1,16 @@
 //! Laws over the definitions alone: the contract of each function is the law.
 
+mod covering;
 mod deciding;
 mod fitting;
 mod following;
 mod settling;
 mod weighing;
 
+pub use covering::{
+    closed_families_bound, closed_family_decides, covered_steps_are_covered, covers_chain,
+    covers_decides, endless_families_stick, ends_decide, labels_cover_themselves, no_end_decides,
+};
 pub use deciding::{
     alive_decides, fact_of_decides, fits_decides, follows_decides, has_fact_decides,
     may_end_decides, shut_decides, usable_decides,
