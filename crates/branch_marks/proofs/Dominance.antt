@@ -11,7 +11,8 @@ use Rattle.tail_book.specs.Order.{EachAtMost, EachAtMostItself, EachAtMostChains
 use Rattle.tail_book.specs.Route.{IsLegalFrom}
 use Rattle.branch_marks.specs.declared.fact.Fact.{Fact}
 use Rattle.branch_marks.specs.Marks.{FitsFrom, MayEnd}
-use Rattle.branch_marks.specs.Weights.{arc_weight, weight, weight_from, WeightIsAlong, WeighsAtLeast, IsStuck}
+use Rattle.branch_marks.specs.Weights.{arc_weight, weight, weight_from, WeightIsAlong, WeighsAtLeast}
+use Rattle.branch_marks.specs.DeadEnds.{IsStuck}
 use Rattle.branch_marks.specs.Labels.{Label, Covers, label_step, StepsWithin}
 use Rattle.branch_marks.specs.Families.{GoesOn, IsClosedFamily, EndsAtLeast, HasNoEnd, ClosedFamiliesBound}
 

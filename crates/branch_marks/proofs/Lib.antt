@@ -16,6 +16,10 @@ pub mod Settled
 pub mod LeastPlan
 pub mod Dominance
 pub mod FamiliesDecided
+pub mod DeadEnds
+pub mod Branches
+pub mod Fewer
+pub mod Shown
 pub mod WorkedBook
 mod WorkedMarks
 mod WorkedFollowing

@@ -7,7 +7,8 @@ use Rattle.tail_book.specs.Lookup.{activities, carry_of}
 use Rattle.tail_book.specs.Counters.{step, WithinLimits}
 use Rattle.branch_marks.specs.declared.fact.Fact.{Fact}
 use Rattle.branch_marks.specs.Marks.{IsAlive, IsUsable, MayEnd}
-use Rattle.branch_marks.specs.Weights.{WeighsAtLeast, IsStuck}
+use Rattle.branch_marks.specs.DeadEnds.{IsStuck}
+use Rattle.branch_marks.specs.Weights.{WeighsAtLeast}
 use Rattle.branch_marks.specs.Labels.{Label, IsCoveredBy, label_after}
 
 -- each usable link of aircraft k from the place whose step stays within the limits gives a label that a member covers

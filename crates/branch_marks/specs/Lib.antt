@@ -7,6 +7,7 @@ pub mod FactTests
 pub mod Floors
 pub mod Following
 pub mod FollowingTests
+pub mod DeadEnds
 pub mod Weights
 pub mod Bound
 pub mod Pool
@@ -14,3 +15,6 @@ pub mod Settled
 pub mod Labels
 pub mod Families
 pub mod FamilyTests
+pub mod Branches
+pub mod BranchTests
+pub mod ProofTree

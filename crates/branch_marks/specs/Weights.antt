@@ -62,10 +62,6 @@ pub record IsLeastWeight (table : CostTableSeen) (book : BookSeen) (marks : List
   pub least : WeighsAtLeast table book marks k duals value
   pub attained : (route : List ℕ) × IsRouteOfWeight table book marks k duals value route
 
--- aircraft k is stuck: no legal route of it fits
-abbrev pub IsStuck : BookSeen → List Fact → ℕ → Type 0
-IsStuck book marks k = (route : List ℕ) → IsLegalRoute book k route → ¬ Fits book marks k route
-
 -- there is one least weight at most
 abbrev pub LeastWeightsAreOne : Type 0
 LeastWeightsAreOne = (table : CostTableSeen) (book : BookSeen) (marks : List Fact) (k : ℕ) (duals : List ℤ) (one other : ℤ)

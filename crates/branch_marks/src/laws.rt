@@ -1,12 +1,18 @@
 //! Laws over the definitions alone: the contract of each function is the law.
 
+mod branching;
 mod covering;
 mod deciding;
 mod fitting;
 mod following;
 mod settling;
+mod showing;
 mod weighing;
 
+pub use branching::{
+    branches_decide, branches_leave_fewer, facts_decide, facts_leave_no_more, holes_leave_no_plan,
+    one_branch_holds, stuck_leaves_no_plan, undecided_decides, undecided_pairs_are_of_book,
+};
 pub use covering::{
     closed_families_bound, closed_family_decides, covered_steps_are_covered, covers_chain,
     covers_decides, endless_families_stick, ends_decide, labels_cover_themselves, no_end_decides,
@@ -23,6 +29,7 @@ pub use settling::{
     least_in_is_least, routes_of_least_weights_cost_least, routes_of_weights_are_plan,
     settled_over_pool_is_settled,
 };
+pub use showing::{shown_roots_bound, shown_trees_bound, shown_trees_refute};
 pub use weighing::{
     least_weights_are_one, least_weights_bound, low_weights_bound, rounded_up_is_least,
     weight_is_along, weight_with_one_more, weights_along,

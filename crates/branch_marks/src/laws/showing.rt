@@ -1,0 +1,37 @@
+//! Laws of shown proof trees.
+
+ghost use Rattle.branch_marks.specs.ProofTree.{ShownTreesBound, ShownRootsBound, ShownTreesRefute};
+
+use crate::laws::{
+    closed_families_bound, endless_families_stick, following_facts_hold, holes_leave_no_plan,
+    low_weights_bound, one_branch_holds, stuck_leaves_no_plan,
+};
+use tail_book::laws::legal_plans_cost_at_most_in;
+
+/// A shown tree bounds the cost of every legal plan of which its marks hold.
+pub fn shown_trees_bound()
+    ensures { ShownTreesBound }
+{
+    following_facts_hold();
+    one_branch_holds();
+    holes_leave_no_plan();
+    stuck_leaves_no_plan();
+    low_weights_bound();
+    closed_families_bound();
+    endless_families_stick();
+}
+
+/// From no marks on a shown tree bounds the cost of every legal plan.
+pub fn shown_roots_bound()
+    ensures { ShownRootsBound }
+{
+    shown_trees_bound();
+}
+
+/// A shown tree whose bounds pass what legal plans cost at most shows that no plan is legal.
+pub fn shown_trees_refute()
+    ensures { ShownTreesRefute }
+{
+    shown_roots_bound();
+    legal_plans_cost_at_most_in();
+}
