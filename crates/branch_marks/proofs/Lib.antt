@@ -20,6 +20,7 @@ pub mod DeadEnds
 pub mod Branches
 pub mod Fewer
 pub mod Shown
+pub mod TreesDecided
 pub mod WorkedBook
 mod WorkedMarks
 mod WorkedFollowing

@@ -18,3 +18,4 @@ pub mod FamilyTests
 pub mod Branches
 pub mod BranchTests
 pub mod ProofTree
+pub mod TreeTests

@@ -29,7 +29,9 @@ pub use settling::{
     least_in_is_least, routes_of_least_weights_cost_least, routes_of_weights_are_plan,
     settled_over_pool_is_settled,
 };
-pub use showing::{shown_roots_bound, shown_trees_bound, shown_trees_refute};
+pub use showing::{
+    bounds_decide, shown_decides, shown_roots_bound, shown_trees_bound, shown_trees_refute,
+};
 pub use weighing::{
     least_weights_are_one, least_weights_bound, low_weights_bound, rounded_up_is_least,
     weight_is_along, weight_with_one_more, weights_along,

@@ -1,10 +1,12 @@
 //! Laws of shown proof trees.
 
 ghost use Rattle.branch_marks.specs.ProofTree.{ShownTreesBound, ShownRootsBound, ShownTreesRefute};
+ghost use Rattle.branch_marks.specs.TreeTests.{ShownDecides, BoundsDecide};
 
 use crate::laws::{
-    closed_families_bound, endless_families_stick, following_facts_hold, holes_leave_no_plan,
-    low_weights_bound, one_branch_holds, stuck_leaves_no_plan,
+    alive_decides, closed_families_bound, closed_family_decides, endless_families_stick,
+    ends_decide, following_facts_hold, follows_decides, has_fact_decides, holes_leave_no_plan,
+    low_weights_bound, no_end_decides, one_branch_holds, stuck_leaves_no_plan, undecided_decides,
 };
 use tail_book::laws::legal_plans_cost_at_most_in;
 
@@ -35,3 +37,21 @@ pub fn shown_trees_refute()
     shown_roots_bound();
     legal_plans_cost_at_most_in();
 }
+
+/// Whether a tree is shown is decided by a test.
+pub fn shown_decides()
+    ensures { ShownDecides }
+{
+    alive_decides();
+    has_fact_decides();
+    follows_decides();
+    undecided_decides();
+    closed_family_decides();
+    ends_decide();
+    no_end_decides();
+}
+
+/// Whether a tree bounds by so much is decided by a test.
+pub fn bounds_decide()
+    ensures { BoundsDecide }
+{}
