@@ -25,3 +25,4 @@ pub mod WorkedBook
 mod WorkedMarks
 mod WorkedFollowing
 mod WorkedWeights
+mod WorkedTrees
