@@ -5,6 +5,8 @@ pub mod FactsDecided
 pub mod FollowingDecided
 pub mod Neighbours
 pub mod Fitting
+pub mod UsableAlong
+pub mod LeastRoutes
 pub mod LesserFloors
 pub mod Floors
 pub mod AlongFloors
@@ -14,6 +16,7 @@ pub mod Duality
 pub mod Pool
 pub mod Settled
 pub mod LeastPlan
+pub mod LeastWeights
 pub mod Dominance
 pub mod FamiliesDecided
 pub mod DeadEnds
