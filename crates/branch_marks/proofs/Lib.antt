@@ -11,6 +11,7 @@ pub mod LesserFloors
 pub mod Floors
 pub mod AlongFloors
 pub mod Following
+pub mod InTurn
 pub mod Weights
 pub mod Duality
 pub mod Pool
