@@ -24,13 +24,15 @@ moved marks facts fact = append_assoc marks (fact ∷ []) facts
 
 pub in_turn_one_more : (book : BookSeen) (marks facts : List Fact) (fact : Fact)
     → FollowInTurn book marks (facts ++ fact ∷ []) ↔ (FollowInTurn book marks facts × Follows book (marks ++ facts) fact)
-in_turn_one_more book marks [] fact =
-    ((λ h. (tt, subst (λ (ms : List Fact). Follows book ms fact) (sym (append-nil marks)) h.0)),
-    (λ h. (subst (λ (ms : List Fact). Follows book ms fact) (append-nil marks) h.1, tt)))
+in_turn_one_more book marks [] fact = (
+  (λ h. (tt, subst (λ (ms : List Fact). Follows book ms fact) (sym (append-nil marks)) h.0)),
+  (λ h. (subst (λ (ms : List Fact). Follows book ms fact) (append-nil marks) h.1, tt)),
+)
 in_turn_one_more book marks (first ∷ facts) fact =
-    let later = in_turn_one_more book (marks ++ first ∷ []) facts fact in
-    ((λ h. let (turn, last) = later.0 h.1 in ((h.0, turn), subst (λ (ms : List Fact). Follows book ms fact) (moved marks facts first) last)),
-    (λ h. (h.0.0, later.1 (h.0.1, subst (λ (ms : List Fact). Follows book ms fact) (sym (moved marks facts first)) h.1))))
+    let later = in_turn_one_more book (marks ++ first ∷ []) facts fact in (
+      (λ h. let (turn, last) = later.0 h.1 in ((h.0, turn), subst (λ (ms : List Fact). Follows book ms fact) (moved marks facts first) last)),
+      (λ h. (h.0.0, later.1 (h.0.1, subst (λ (ms : List Fact). Follows book ms fact) (sym (moved marks facts first)) h.1))),
+    )
 
 pub followed_hold : FollowingFactsHold → (book : BookSeen) → IsBook book → (plan : List (List ℕ)) → IsLegalPlan book plan
     → (marks facts : List Fact) → FollowInTurn book marks facts → HoldAll marks plan → HoldAll (marks ++ facts) plan
