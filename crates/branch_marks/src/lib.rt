@@ -1,0 +1,8 @@
+//! What branching decides: facts about who flies what and what comes after what, what they leave open, what follows
+//! from them, and the bounds and proof trees that stand on them.
+#![tactic(auto)]
+
+mod fact;
+pub mod laws;
+
+pub use fact::{Fact, Pair};
