@@ -1,3 +1,5 @@
 pub mod Facts
 pub mod Marks
 pub mod MarkTests
+pub mod BitRows
+pub mod Named

@@ -2,6 +2,9 @@
 //! from them, and the bounds and proof trees that stand on them.
 #![tactic(auto)]
 
+mod bit_rows;
 mod fact;
+mod named;
 
 pub use fact::{Fact, Pair};
+pub use named::Named;
