@@ -1,2 +1,4 @@
 pub mod Bits
 pub mod Places
+pub mod FactTables
+pub mod Parts

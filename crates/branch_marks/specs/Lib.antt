@@ -3,3 +3,6 @@ pub mod Marks
 pub mod MarkTests
 pub mod BitRows
 pub mod Named
+pub mod MarksSeen
+pub mod MarkTables
+pub mod MarkParts
