@@ -1,6 +1,6 @@
 -- Tables that say what facts say still do when they note one fact more.
-use Rattle.std.proofs.Common.{◌≡◌, ◌∙◌, ℕ, ◌<◌, arith, ap, Bool, true, false, refl, sym, List, [], ◌∷◌, ◌++◌, length, get_or, Option}
-use Rattle.std.specs.Prelude.{◌||◌, ◌&&◌, All}
+use Rattle.std.proofs.Common.{◌≡◌, ◌∙◌, ℕ, arith, ap, Bool, true, false, refl, sym, List, [], ◌∷◌, ◌++◌, length, get_or, Option}
+use Rattle.std.specs.Prelude.{◌||◌, ◌&&◌}
 use Rattle.std.specs.List.{list_all, list_any}
 use Rattle.std.proofs.lemmas.List.Folds.{list_all-append, list_any-append}
 use Rattle.tail_book.specs.Seen.{BookSeen}
@@ -13,7 +13,7 @@ use Rattle.branch_marks.specs.declared.named.Named.TheVariants.{Nothing}
 use Rattle.branch_marks.specs.Facts.{IsFactOf}
 use Rattle.branch_marks.specs.MarkTests.{is_alive, lets_fly}
 use Rattle.branch_marks.specs.BitRows.{BitRowsSeen, has_pair, AreChanged}
-use Rattle.branch_marks.specs.Named.{AreNoted, named_by, named_from, with_named}
+use Rattle.branch_marks.specs.Named.{AreNoted, named_from, with_named}
 use Rattle.branch_marks.specs.MarkTables.{IsAliveTable, IsFactTable, IsNamedTable, IsFactWithin}
 
 all_more : {X : Type 0} (p : X → Bool) (xs : List X) (x : X) → list_all p (xs ++ x ∷ []) ≡ (list_all p xs && p x)

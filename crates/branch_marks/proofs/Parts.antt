@@ -1,8 +1,8 @@
 -- What facts leave open is what those of each kind do, and what each table says of its kind.
-use Rattle.std.proofs.Common.{◌≡◌, ◌≢◌, ◌∙◌, ℕ, zero, suc, ◌+◌, ◌<◌, ◌≤◌, arith, ap, ap₂, Bool, true, false, refl, sym, List, [], ◌∷◌, length, get_or, Option, Some, None, ⊎_elim, ◌⊎◌, inl, inr}
+use Rattle.std.proofs.Common.{◌≡◌, ◌≢◌, ◌∙◌, ℕ, ◌<◌, ◌≤◌, arith, ap, ap₂, Bool, true, false, refl, sym, List, [], ◌∷◌, Option, Some, None, ⊎_elim, ◌⊎◌, inl, inr}
 use Rattle.std.specs.Prelude.{◌||◌, ◌&&◌, not, nat_eq, nat_lt, nat_le, All, if◌then◌else◌}
 use Rattle.std.specs.List.{list_all, list_any}
-use Rattle.std.proofs.lemmas.Bool.{eq-eqb, ne_eqb, eqb-true, eqb-false, cases_eq, cases_lt, cases_Bool, false≢true}
+use Rattle.std.proofs.lemmas.Bool.{eq-eqb, ne_eqb, cases_eq, cases_lt, cases_Bool, false≢true}
 use Rattle.std.proofs.lemmas.Bool.Decides.{nat_tests}
 use Rattle.std.proofs.lemmas.List.Elements.{All-head, All-tail}
 use Rattle.tail_book.specs.declared.place.Place.{Place}
@@ -12,9 +12,11 @@ use Rattle.branch_marks.specs.declared.fact.Fact.{Fact}
 use Rattle.branch_marks.specs.declared.fact.Fact.TheVariants.{Bar, Must, Cut, Tie}
 use Rattle.branch_marks.specs.declared.named.Named.{Named}
 use Rattle.branch_marks.specs.declared.named.Named.TheVariants.{Nothing, One, Several}
-use Rattle.branch_marks.specs.MarkTests.{is_at, is_before, lets_go, lets_end, may_end}
+use Rattle.tail_book.specs.Seen.{BookSeen}
+use Rattle.tail_book.specs.Tests.{is_allowed, is_connected, is_link}
+use Rattle.branch_marks.specs.MarkTests.{is_at, lets_fly, lets_go, lets_end, may_end, is_alive, is_alive_at, is_usable}
 use Rattle.branch_marks.specs.MarkParts.{first_after, is_no_must_in, leaves_link, ties_only, ties_nothing}
-use Rattle.branch_marks.specs.MarkTables.{is_bar, is_must, is_cut, is_tie, tied_after, tied_before, given_to, IsFactWithin}
+use Rattle.branch_marks.specs.MarkTables.{is_must, is_cut, is_tie, tied_after, tied_before, IsFactWithin}
 use Rattle.branch_marks.specs.Named.{with_named, named_from, named_by, lets_number, is_nothing}
 
 all_same : {X : Type 0} (p q : X → Bool) → ((x : X) → p x ≡ q x) → (xs : List X) → list_all p xs ≡ list_all q xs
@@ -35,6 +37,9 @@ all_and p q (x ∷ xs) = ap (λ t. (p x && q x) && t) (all_and p q xs) ∙ four 
 all_true : {X : Type 0} (p : X → Bool) → ((x : X) → p x ≡ true) → (xs : List X) → list_all p xs ≡ true
 all_true p each [] = refl
 all_true p each (x ∷ xs) = ap₂ (λ s t. s && t) (each x) (all_true p each xs)
+
+turned : (c a : ℕ) → nat_eq c a ≡ nat_eq a c
+turned c a = grind (arith, nat_tests)
 
 -- what lets an aircraft go
 go_part : (k : ℕ) (x : Place) (b : ℕ) (fact : Fact) → lets_go k x b fact ≡ (is_no_must_in k (first_after x) b fact && (leaves_link x b fact && ties_only x b fact))
@@ -76,7 +81,7 @@ no_must k low high (Bar j c ∷ rest) none = no_must k low high rest none
 no_must k low high (Cut c d ∷ rest) none = no_must k low high rest none
 no_must k low high (Tie c d ∷ rest) none = no_must k low high rest none
 no_must k low high (Must j c ∷ rest) none =
-    ap₂ (λ s t. s && t) here (no_must k low high rest (λ a above below. (or_none (nat_eq j k && nat_eq c a) (list_any (is_must k a) rest) (none a above below)).1))
+    ap₂ (λ s t. s && t) here (no_must k low high rest (λ a above below. (or_none (nat_eq k j && nat_eq a c) (list_any (is_must k a) rest) (none a above below)).1))
   where
     or_none : (s t : Bool) → (s || t) ≡ false → (s ≡ false) × (t ≡ false)
     or_none false t h = (refl, h)
@@ -85,7 +90,8 @@ no_must k low high (Must j c ∷ rest) none =
     here : not (nat_eq j k && (nat_le low c && nat_lt c high)) ≡ true
     here = ⊎_elim
         (λ above. ⊎_elim
-        (λ below. let apart = (or_none (nat_eq j k && nat_eq c c) (list_any (is_must k c) rest) (none c above below)).0 in other (nat_eq j k) (nat_eq c c) (nat_le low c && nat_lt c high) apart (eq-eqb c c refl))
+        (λ below. let apart = (or_none (nat_eq k j && nat_eq c c) (list_any (is_must k c) rest) (none c above below)).0 in
+        ap (λ t. not (t && (nat_le low c && nat_lt c high))) (turned j k) ∙ other (nat_eq k j) (nat_eq c c) (nat_le low c && nat_lt c high) apart (eq-eqb c c refl))
         (λ beyond. grind (arith, nat_tests, beyond))
         (cases_lt c high))
         (λ before. grind (arith, nat_tests, before))
@@ -106,13 +112,13 @@ a_must k low high c (Tie d e ∷ rest) above below some = a_must k low high c re
 a_must k low high c (Must j d ∷ rest) above below some = ⊎_elim
     (λ here. let is_k = and_left j k d c here in let is_c = and_right j k d c here in grind (arith, nat_tests, is_k, is_c, above, below))
     (λ there. and_false (not (nat_eq j k && (nat_le low d && nat_lt d high))) (list_all (is_no_must_in k low high) rest)
-    (a_must k low high c rest above below (or_rest (nat_eq j k && nat_eq d c) (list_any (is_must k c) rest) some there)))
-    (cases_Bool (nat_eq j k && nat_eq d c))
+    (a_must k low high c rest above below (or_rest (nat_eq k j && nat_eq c d) (list_any (is_must k c) rest) some there)))
+    (cases_Bool (nat_eq k j && nat_eq c d))
   where
-    and_left : (j k d c : ℕ) → (nat_eq j k && nat_eq d c) ≡ true → j ≡ k
+    and_left : (j k d c : ℕ) → (nat_eq k j && nat_eq c d) ≡ true → j ≡ k
     and_left j k d c h = grind (arith, nat_tests, h)
 
-    and_right : (j k d c : ℕ) → (nat_eq j k && nat_eq d c) ≡ true → d ≡ c
+    and_right : (j k d c : ℕ) → (nat_eq k j && nat_eq c d) ≡ true → d ≡ c
     and_right j k d c h = grind (arith, nat_tests, h)
 
     and_false : (s t : Bool) → t ≡ false → (s && t) ≡ false
@@ -137,13 +143,10 @@ no_cut a b [] = refl
 no_cut a b (Bar j c ∷ rest) = no_cut a b rest
 no_cut a b (Must j c ∷ rest) = no_cut a b rest
 no_cut a b (Tie c d ∷ rest) = no_cut a b rest
-no_cut a b (Cut c d ∷ rest) = either (nat_eq c a) (nat_eq a c) (nat_eq d b) (list_any (is_cut a b) rest) (turned c a) ∙ ap (λ t. not (nat_eq a c && nat_eq d b) && t) (no_cut a b rest)
+no_cut a b (Cut c d ∷ rest) = either (nat_eq a c) (nat_eq b d) (nat_eq d b) (list_any (is_cut a b) rest) (turned b d) ∙ ap (λ t. not (nat_eq a c && nat_eq d b) && t) (no_cut a b rest)
   where
-    either : (s t u v : Bool) → s ≡ t → not ((s && u) || v) ≡ (not (t && u) && not v)
+    either : (s t u v : Bool) → t ≡ u → not ((s && t) || v) ≡ (not (s && u) && not v)
     either s t u v e = grind arith
-
-    turned : (c a : ℕ) → nat_eq c a ≡ nat_eq a c
-    turned c a = grind (arith, nat_tests)
 
 pub carry_uncut : (b : ℕ) (marks : List Fact) → true ≡ list_all (leaves_link Carry b) marks
 carry_uncut b marks = sym (all_true (leaves_link Carry b) each marks)
@@ -215,9 +218,6 @@ nothing_from names so_far (fact ∷ rest) =
     three : (x y z : Bool) → ((x && y) && z) ≡ (x && (y && z))
     three x y z = grind arith
 
-turned : (c a : ℕ) → nat_eq c a ≡ nat_eq a c
-turned c a = grind (arith, nat_tests)
-
 -- a Tie that begins at an activity leads to b, and one that ends at b begins there
 pub both_ends : (a b : ℕ) (marks : List Fact) → (lets_number (named_by (tied_after a) marks) b && lets_number (named_by (tied_before b) marks) a) ≡ list_all (ties_only (After a) b) marks
 both_ends a b marks =
@@ -273,3 +273,95 @@ carry_last marks = sym (all_true (ties_nothing Carry) each marks)
     each (Must j c) = refl
     each (Cut c d) = refl
     each (Tie c d) = refl
+
+-- what two answers say of a test that is both of them
+pub first_fails : (whole first second answer : Bool) → whole ≡ (first && second) → answer ≡ first → answer ≡ false → answer ≡ whole
+first_fails whole first second answer parts same fails = grind arith
+
+pub second_decides : (whole first second held answer : Bool) → whole ≡ (first && second) → held ≡ first → held ≡ true → answer ≡ second → answer ≡ whole
+second_decides whole first second held answer parts same holds last = grind arith
+
+-- a link is usable where what is left of it is open and place and time fit
+pub usable_parts : (book : BookSeen) (marks : List Fact) (k : ℕ) (x : Place) (b : ℕ)
+    → is_usable book marks k x b ≡ (((is_alive book marks k b && is_alive_at book marks k x) && list_all (lets_go k x b) marks) && is_connected book k x b)
+unfolding is_usable is_link is_alive
+usable_parts book marks k Carry b = five (is_connected book k Carry b) (is_allowed book k b) (list_all (lets_fly k b) marks) (list_all (lets_go k Carry b) marks)
+  where
+    five : (c r f g : Bool) → ((c && (true && r)) && (true && ((r && f) && g))) ≡ ((((r && f) && true) && g) && c)
+    five c r f g = grind arith
+usable_parts book marks k (After x) b =
+    seven (is_connected book k (After x) b) (is_allowed book k x) (list_all (lets_fly k x) marks) (is_allowed book k b) (list_all (lets_fly k b) marks) (list_all (lets_go k (After x) b) marks)
+  where
+    seven : (c p e r f g : Bool) → ((c && (p && r)) && ((p && e) && ((r && f) && g))) ≡ ((((r && f) && (p && e)) && g) && c)
+    seven c p e r f g = grind arith
+
+-- the number is the one that is named; and it is what a fact names
+abbrev is_one : Named → ℕ → Bool
+is_one Nothing v = false
+is_one (One w) v = nat_eq w v
+is_one Several v = false
+
+abbrev is_some : Option ℕ → ℕ → Bool
+is_some None v = false
+is_some (Some w) v = nat_eq w v
+
+is_several : (named : Named) → (named ≡ Several) ⊎ (named ≢ Several)
+is_several Nothing = inr (λ e. absurd (cc))
+is_several (One w) = inr (λ e. absurd (cc))
+is_several Several = inl refl
+
+several_stay : (names : Fact → Option ℕ) (marks : List Fact) → named_from names Several marks ≡ Several
+several_stay names [] = refl
+several_stay names (fact ∷ rest) = ap (λ s. named_from names s rest) (stays (names fact)) ∙ several_stay names rest
+  where
+    stays : (named : Option ℕ) → with_named Several named ≡ Several
+    stays None = refl
+    stays (Some v) = refl
+
+one_more : (so_far : Named) (named : Option ℕ) (v : ℕ) → with_named so_far named ≢ Several → is_one (with_named so_far named) v ≡ (is_one so_far v || is_some named v)
+one_more so_far None v apart = or_false (is_one so_far v)
+  where
+    or_false : (t : Bool) → t ≡ (t || false)
+    or_false t = grind arith
+one_more Nothing (Some w) v apart = refl
+one_more Several (Some w) v apart = absurd (apart refl)
+one_more (One u) (Some w) v apart = ⊎_elim
+    (λ same. ap (λ t. is_one (if t then One u else Several) v) (eq-eqb u w same) ∙ twice u w v same)
+    (λ other. absurd (apart (ap (λ t. if t then One u else Several) (ne_eqb u w other))))
+    (cases_eq u w)
+  where
+    twice : (u w v : ℕ) → u ≡ w → nat_eq u v ≡ (nat_eq u v || nat_eq w v)
+    twice u w v e = grind (arith, nat_tests, e)
+
+-- where no two facts name different numbers, the one that is named is what some fact names
+one_from : (names : Fact → Option ℕ) (test : Fact → Bool) (v : ℕ) → ((fact : Fact) → is_some (names fact) v ≡ test fact) → (so_far : Named) (marks : List Fact)
+    → named_from names so_far marks ≢ Several → is_one (named_from names so_far marks) v ≡ (is_one so_far v || list_any test marks)
+one_from names test v each so_far [] apart = or_false (is_one so_far v)
+  where
+    or_false : (t : Bool) → t ≡ (t || false)
+    or_false t = grind arith
+one_from names test v each so_far (fact ∷ rest) apart =
+    one_from names test v each (with_named so_far (names fact)) rest apart
+    ∙ ap (λ t. t || list_any test rest) (one_more so_far (names fact) v not_yet)
+    ∙ ap (λ t. (is_one so_far v || t) || list_any test rest) (each fact)
+    ∙ three (is_one so_far v) (test fact) (list_any test rest)
+  where
+    three : (x y z : Bool) → ((x || y) || z) ≡ (x || (y || z))
+    three x y z = grind arith
+
+    not_yet : with_named so_far (names fact) ≢ Several
+    not_yet e = apart (ap (λ s. named_from names s rest) e ∙ several_stay names rest)
+
+tie_named : (a b : ℕ) (fact : Fact) → is_some (tied_after a fact) b ≡ is_tie a b fact
+tie_named a b (Bar j c) = refl
+tie_named a b (Must j c) = refl
+tie_named a b (Cut c d) = refl
+tie_named a b (Tie c d) = named (nat_eq c a) d ∙ ap₂ (λ s t. s && t) (turned c a) (turned d b)
+  where
+    named : (t : Bool) (d : ℕ) → is_some (if t then Some d else None) b ≡ (t && nat_eq d b)
+    named true d = refl
+    named false d = refl
+
+-- a Tie is there where its end is the only one that is named behind its beginning
+pub tie_there : (a b : ℕ) (named : Named) (marks : List Fact) → named ≡ named_by (tied_after a) marks → named ≢ Several → is_one named b ≡ list_any (is_tie a b) marks
+tie_there a b named marks same apart = ap (λ t. is_one t b) same ∙ one_from (tied_after a) (is_tie a b) b (tie_named a b) Nothing marks (λ e. apart (same ∙ e))

@@ -69,9 +69,13 @@ left_in_row n row column r c had lc lcolumn =
 
 -- a bit that is set or cleared is one pair's
 pub put_pair : (old new : List ℕ) (n row column p : ℕ) → p ≡ row * n + column → column < n → ((q : ℕ) → bit new q ≡ (bit old q || nat_eq q p))
-    → (r c : ℕ) → c < n → bit new (r * n + c) ≡ (bit old (r * n + c) || (nat_eq row r && nat_eq column c))
+    → (r c : ℕ) → c < n → bit new (r * n + c) ≡ (bit old (r * n + c) || (nat_eq r row && nat_eq c column))
 put_pair old new n row column p place lcolumn each r c lc =
-    each (r * n + c) ∙ ap (λ t. bit old (r * n + c) || t) (ap (λ i. nat_eq (r * n + c) i) place ∙ same_place n row column r c lc lcolumn)
+    each (r * n + c)
+    ∙ ap (λ t. bit old (r * n + c) || t) (ap (λ i. nat_eq (r * n + c) i) place ∙ same_place n row column r c lc lcolumn ∙ turned row r column c)
+  where
+    turned : (a b x y : ℕ) → (nat_eq a b && nat_eq x y) ≡ (nat_eq b a && nat_eq y x)
+    turned a b x y = grind (arith, nat_tests)
 
 pub remove_pair : (old new : List ℕ) (n row column p : ℕ) → p ≡ row * n + column → column < n → ((q : ℕ) → bit new q ≡ (bit old q && not (nat_eq q p)))
     → (r c : ℕ) → c < n → bit new (r * n + c) ≡ (bit old (r * n + c) && not (nat_eq column c && nat_eq row r))

@@ -1,5 +1,5 @@
 -- What the tables of marks say of the facts.
-use Rattle.std.specs.Prelude.{ℕ, ◌≡◌, ◌<◌, List, [], ◌∷◌, All, Bool, true, false, ◌&&◌, ◌||◌, if◌then◌else◌, nat_eq, length, Option, None, Some, slice_index_or}
+use Rattle.std.specs.Prelude.{ℕ, ◌≡◌, ◌<◌, List, All, Bool, if◌then◌else◌, nat_eq, length, Option, None, Some, slice_index_or}
 use Rattle.std.specs.List.{list_any}
 use Rattle.tail_book.specs.Seen.{BookSeen}
 use Rattle.tail_book.specs.Lookup.{activities, aircraft}
@@ -7,49 +7,24 @@ use Rattle.branch_marks.specs.declared.fact.Fact.{Fact}
 use Rattle.branch_marks.specs.declared.fact.Fact.TheVariants.{Bar, Must, Cut, Tie}
 use Rattle.branch_marks.specs.declared.named.Named.{Named}
 use Rattle.branch_marks.specs.declared.named.Named.TheVariants.{Nothing}
+use Rattle.branch_marks.specs.FactTests.{same_fact}
 use Rattle.branch_marks.specs.MarkTests.{is_alive}
 use Rattle.branch_marks.specs.BitRows.{BitRowsSeen, has_pair}
 use Rattle.branch_marks.specs.Named.{named_by}
 use Rattle.branch_marks.specs.MarksSeen.{MarksSeen}
 
--- the fact bars aircraft k from a
+-- the fact bars aircraft k from a; gives a to it; cuts b from a; ties b to a
 abbrev pub is_bar : ℕ → ℕ → Fact → Bool
-is_bar k a (Bar j c) = nat_eq j k && nat_eq c a
-is_bar k a (Must j c) = false
-is_bar k a (Cut c d) = false
-is_bar k a (Tie c d) = false
+is_bar k a fact = same_fact (Bar k a) fact
 
--- the fact gives a to aircraft k
 abbrev pub is_must : ℕ → ℕ → Fact → Bool
-is_must k a (Bar j c) = false
-is_must k a (Must j c) = nat_eq j k && nat_eq c a
-is_must k a (Cut c d) = false
-is_must k a (Tie c d) = false
+is_must k a fact = same_fact (Must k a) fact
 
--- the fact cuts b from a
 abbrev pub is_cut : ℕ → ℕ → Fact → Bool
-is_cut a b (Bar j c) = false
-is_cut a b (Must j c) = false
-is_cut a b (Cut c d) = nat_eq c a && nat_eq d b
-is_cut a b (Tie c d) = false
+is_cut a b fact = same_fact (Cut a b) fact
 
--- the fact ties b to a
 abbrev pub is_tie : ℕ → ℕ → Fact → Bool
-is_tie a b (Bar j c) = false
-is_tie a b (Must j c) = false
-is_tie a b (Cut c d) = false
-is_tie a b (Tie c d) = nat_eq c a && nat_eq d b
-
--- the two facts are the same
-abbrev pub is_fact : Fact → Fact → Bool
-is_fact (Bar k a) other = is_bar k a other
-is_fact (Must k a) other = is_must k a other
-is_fact (Cut a b) other = is_cut a b other
-is_fact (Tie a b) other = is_tie a b other
-
--- the marks have the fact
-abbrev pub has_fact : List Fact → Fact → Bool
-has_fact marks fact = list_any (is_fact fact) marks
+is_tie a b fact = same_fact (Tie a b) fact
 
 -- the activity that the fact ties behind a
 abbrev pub tied_after : ℕ → Fact → Option ℕ

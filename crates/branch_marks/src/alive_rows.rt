@@ -59,7 +59,7 @@ fn put_row(book: &Book, permissions: &PermissionTable, a: u32, alive: &mut BitRo
 fn put_if(alive: &mut BitRows, a: u32, k: u32, may: bool)
     requires row { a < alive.old.rows }
     requires column { k < alive.old.columns }
-    ensures { AreChanged (λ c j had. had || ((nat_eq a c && nat_eq k j) && may)) alive.old alive.new }
+    ensures { AreChanged (λ c j had. had || ((nat_eq c a && nat_eq j k) && may)) alive.old alive.new }
 {
     if may {
         alive.put(a as usize, k as usize);

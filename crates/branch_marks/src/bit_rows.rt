@@ -71,7 +71,7 @@ impl BitRows {
     pub fn put(&mut self, row: usize, column: usize)
         requires row { row < self.old.rows }
         requires column { column < self.old.columns }
-        ensures { AreChanged (λ r c had. had || (nat_eq row r && nat_eq column c)) self.old self.new }
+        ensures { AreChanged (λ r c had. had || (nat_eq r row && nat_eq c column)) self.old self.new }
     {
         let p = place(self.rows, self.columns, row, column);
         set(&mut self.words, p);

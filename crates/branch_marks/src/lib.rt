@@ -7,6 +7,7 @@ mod bit_rows;
 mod carriers;
 mod fact;
 mod fact_rows;
+pub mod laws;
 mod marks;
 mod named;
 mod ties;

@@ -67,3 +67,11 @@ pub fn note_at(named: &mut Vec<Named>, a: u32, number: u32)
 {
     named[a as usize] = named[a as usize].with(number);
 }
+
+/// What is named for an activity.
+pub fn named_at(named: &[Named], a: u32) -> Named
+    requires { a < length named.now }
+    ensures { result ≡ slice_index_or named.now a NamedNothing }
+{
+    named[a as usize]
+}

@@ -1,0 +1,11 @@
+-- Tests over the numbers below a number decide their words.
+use Rattle.std.proofs.Common.{ℕ, ◌<◌, Bool, refl}
+use Rattle.std.specs.Bool.{Decides}
+use Rattle.std.proofs.lemmas.Bool.Decides.{Decides-below_and, Decides-below_or}
+use Rattle.branch_marks.specs.Below.{all_below, some_below}
+
+pub all_below_tested : (p : ℕ → Bool) (P : ℕ → Type 0) → ((k : ℕ) → Decides (p k) (P k)) → (n : ℕ) → Decides (all_below p n) ((k : ℕ) → k < n → P k)
+all_below_tested p P each n = Decides-below_and p P (all_below p) each refl (λ k. refl) n
+
+pub some_below_tested : (p : ℕ → Bool) (P : ℕ → Type 0) → ((k : ℕ) → Decides (p k) (P k)) → (n : ℕ) → Decides (some_below p n) ((k : ℕ) × (k < n) × P k)
+some_below_tested p P each n = Decides-below_or p P (some_below p) each refl (λ k. refl) n

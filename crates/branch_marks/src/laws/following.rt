@@ -1,0 +1,45 @@
+//! Laws of floors, and of the facts that follow from marks.
+
+ghost use Rattle.branch_marks.specs.Floors.{FloorsCount, FloorsAreLow};
+ghost use Rattle.branch_marks.specs.Following.{FollowingFactsAreOfBook, FollowingFactsHold};
+
+use crate::laws::{marked_routes_fit, usable_decides};
+use tail_book::laws::{
+    each_at_most_chains, each_at_most_itself, each_is_flown_once, limits_decide, links_rise,
+    lower_stays_within, steps_keep_count, steps_keep_order,
+};
+
+/// There is a floor, or none, for each activity of the book.
+pub fn floors_count()
+    ensures { FloorsCount }
+{}
+
+/// Where a way leads to an activity there is a floor, at most what the way brings.
+pub fn floors_are_low()
+    ensures { FloorsAreLow }
+{
+    links_rise();
+    each_at_most_itself();
+    each_at_most_chains();
+    steps_keep_count();
+    usable_decides();
+    limits_decide();
+}
+
+/// A fact that follows is of the book.
+pub fn following_facts_are_of_book()
+    ensures { FollowingFactsAreOfBook }
+{}
+
+/// A fact that follows from marks holds in each legal plan of which they hold.
+pub fn following_facts_hold()
+    ensures { FollowingFactsHold }
+{
+    marked_routes_fit();
+    each_is_flown_once();
+    floors_are_low();
+    each_at_most_itself();
+    each_at_most_chains();
+    steps_keep_order();
+    lower_stays_within();
+}
