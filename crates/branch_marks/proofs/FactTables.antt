@@ -85,3 +85,10 @@ facts_none rows columns kind table er ec none = record { rows_are = er; columns_
 
 pub named_none : (n : ℕ) (names : ℕ → Fact → Option ℕ) (named : List Named) → length named ≡ n → ((a : ℕ) → get_or named a Nothing ≡ Nothing) → IsNamedTable n names [] named
 named_none n names named count none = record { count = count; each = λ a la. none a }
+
+-- and what is within them is of the book
+pub of_book : (book : BookSeen) (m n : ℕ) (fact : Fact) → m ≡ aircraft book → n ≡ activities book → IsFactWithin m n fact → IsFactOf book fact
+of_book book m n (Bar k a) em en h = (omega (arith, h.0, em), omega (arith, h.1, en))
+of_book book m n (Must k a) em en h = (omega (arith, h.0, em), omega (arith, h.1, en))
+of_book book m n (Cut a b) em en h = (omega (arith, h.0, en), omega (arith, h.1, en))
+of_book book m n (Tie a b) em en h = (omega (arith, h.0, en), omega (arith, h.1, en))

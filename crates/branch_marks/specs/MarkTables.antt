@@ -1,5 +1,5 @@
 -- What the tables of marks say of the facts.
-use Rattle.std.specs.Prelude.{ℕ, ◌≡◌, ◌<◌, List, All, Bool, if◌then◌else◌, nat_eq, length, Option, None, Some, slice_index_or}
+use Rattle.std.specs.Prelude.{ℕ, ◌≡◌, ◌<◌, ◌≤◌, List, All, Bool, if◌then◌else◌, nat_eq, length, Option, None, Some, slice_index_or}
 use Rattle.std.specs.List.{list_any}
 use Rattle.tail_book.specs.Seen.{BookSeen}
 use Rattle.tail_book.specs.Lookup.{activities, aircraft}
@@ -71,8 +71,11 @@ IsFactWithin m n (Must k a) = (k < m) × (a < n)
 IsFactWithin m n (Cut a b) = (a < n) × (b < n)
 IsFactWithin m n (Tie a b) = (a < n) × (b < n)
 
--- what all marks keep: the numbers in the facts are in range, and each table says what the facts say
+-- what all marks keep: they are of few aircraft and activities, the numbers in the facts are in range, and each table says
+-- what the facts say
 pub record IsMarks (marks : MarksSeen) : Type 0 where
+  pub few_aircraft : marks.aircraft ≤ 4096
+  pub few_activities : marks.activities ≤ 4096
   pub facts : All (IsFactWithin marks.aircraft marks.activities) marks.facts
   pub bars : IsFactTable marks.aircraft marks.activities is_bar marks.facts marks.bars
   pub musts : IsFactTable marks.aircraft marks.activities is_must marks.facts marks.musts

@@ -13,6 +13,7 @@ ghost use Rattle.branch_marks.specs.MarkTables.{AreMarksOf, IsFactWithin, is_tie
 ghost use Rattle.branch_marks.specs.MarkCalls.{AddsOnce};
 
 mod questions;
+mod walks;
 
 use crate::Fact;
 use crate::alive_rows::{alive_at_first, note_alive};

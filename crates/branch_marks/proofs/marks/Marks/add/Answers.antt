@@ -12,6 +12,8 @@ invariant_of-self-2 c =
     let n = c.self.inside.activities in
     let facts = c.self.inside.facts.items in
     rw c.in_ok-push.ensures.ok record {
+      few_aircraft = kept.few_aircraft;
+      few_activities = kept.few_activities;
       facts = All-push (IsFactWithin m n) facts c.args.fact kept.facts (within_marks c.args.book.now m n c.args.fact marks.aircraft_are marks.activities_are c.requires.fact);
       bars = facts_more m n is_bar facts c.args.fact c.self.inside.bars c.note_bar.new.bars kept.bars c.note_bar.ensures;
       musts = facts_more m n is_must facts c.args.fact c.self.inside.musts c.note_must.new.musts kept.musts c.note_must.ensures;
