@@ -1,3 +1,7 @@
+pub mod Bits
+pub mod Places
+pub mod FactTables
+pub mod Parts
 pub mod Decisions
 pub mod BelowDecided
 pub mod MarksDecided

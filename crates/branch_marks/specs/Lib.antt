@@ -19,3 +19,9 @@ pub mod Branches
 pub mod BranchTests
 pub mod ProofTree
 pub mod TreeTests
+pub mod BitRows
+pub mod Named
+pub mod MarksSeen
+pub mod MarkTables
+pub mod MarkParts
+pub mod MarkCalls
