@@ -4,3 +4,4 @@ pub mod Filters
 pub mod Links
 pub mod RowLists
 pub mod RowsSaid
+pub mod Worked
