@@ -12,7 +12,7 @@ use Rattle.tail_book.specs.inside.Sound.{IsBook}
 use Rattle.tail_book.specs.inside.Sums.{total, sum_below, TotalByNumber}
 use Rattle.branch_marks.specs.declared.fact.Fact.{Fact}
 use Rattle.branch_marks.specs.Facts.{HoldAll}
-use Rattle.branch_marks.specs.Fitting.{MarkedRoutesFit}
+use Rattle.branch_marks.specs.inside.Fitting.{MarkedRoutesFit}
 use Rattle.branch_marks.specs.Weights.{dual, duals_on, weight}
 use Rattle.branch_marks.specs.Bound.{AreLowWeights, lagrangian, rounded_up}
 

@@ -11,10 +11,10 @@ use Rattle.branch_marks.specs.declared.fact.Fact.TheVariants.{Bar, Must, Cut, Ti
 use Rattle.branch_marks.specs.declared.named.Named.{Named}
 use Rattle.branch_marks.specs.declared.named.Named.TheVariants.{Nothing}
 use Rattle.branch_marks.specs.Facts.{IsFactOf}
-use Rattle.branch_marks.specs.MarkTests.{is_alive, lets_fly}
-use Rattle.branch_marks.specs.BitRows.{BitRowsSeen, has_pair, AreChanged}
-use Rattle.branch_marks.specs.Named.{AreNoted, named_from, with_named}
-use Rattle.branch_marks.specs.MarkTables.{IsAliveTable, IsFactTable, IsNamedTable, IsFactWithin}
+use Rattle.branch_marks.specs.inside.MarkTests.{is_alive, lets_fly}
+use Rattle.branch_marks.specs.inside.BitRows.{BitRowsSeen, has_pair, AreChanged}
+use Rattle.branch_marks.specs.inside.Named.{AreNoted, named_from, with_named}
+use Rattle.branch_marks.specs.inside.MarkTables.{IsAliveTable, IsFactTable, IsNamedTable, IsFactWithin}
 
 all_more : {X : Type 0} (p : X → Bool) (xs : List X) (x : X) → list_all p (xs ++ x ∷ []) ≡ (list_all p xs && p x)
 all_more p xs x = list_all-append p xs (x ∷ []) ∙ ap (λ t. list_all p xs && t) (last (p x))

@@ -12,7 +12,7 @@ use Rattle.tail_book.specs.inside.Sound.{IsBook}
 use Rattle.branch_marks.specs.declared.fact.Fact.{Fact}
 use Rattle.branch_marks.specs.declared.fact.Fact.TheVariants.{Bar, Must, Cut, Tie}
 use Rattle.branch_marks.specs.Facts.{flies, joins, Holds, HoldAll, IsFactOf}
-use Rattle.branch_marks.specs.Fitting.{MarkedRoutesFit}
+use Rattle.branch_marks.specs.inside.Fitting.{MarkedRoutesFit}
 use Rattle.branch_marks.specs.Floors.{FloorsAreLow}
 use Rattle.branch_marks.specs.Following.{IsDeadBy, IsDead, IsOnlyCarrier, CannotGoBy, IsDeadConnection, Follows}
 use Rattle.branch_marks.proofs.Neighbours.{route_of_joins}

@@ -13,7 +13,7 @@ use Rattle.tail_book.specs.inside.Sound.{IsBook}
 use Rattle.tail_book.specs.inside.Tests.{is_legal_route, LegalRouteDecides}
 use Rattle.branch_marks.specs.declared.fact.Fact.{Fact}
 use Rattle.branch_marks.specs.Marks.{Fits}
-use Rattle.branch_marks.specs.MarkTests.{fits, FitsDecides}
+use Rattle.branch_marks.specs.inside.MarkTests.{fits, FitsDecides}
 use Rattle.branch_marks.specs.DeadEnds.{IsStuck}
 use Rattle.branch_marks.specs.Weights.{weight, IsLeastWeight}
 use Rattle.branch_marks.specs.Bound.{lagrangian}

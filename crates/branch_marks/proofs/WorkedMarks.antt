@@ -8,7 +8,7 @@ use Rattle.tail_book.specs.Allowed.{is_permitted}
 use Rattle.branch_marks.specs.declared.fact.Fact.{Fact}
 use Rattle.branch_marks.specs.declared.fact.Fact.TheVariants.{Bar, Must, Cut, Tie}
 use Rattle.branch_marks.specs.Facts.{flies, joins, Holds}
-use Rattle.branch_marks.specs.MarkTests.{is_fact_of, is_alive, is_usable, may_end, fits}
+use Rattle.branch_marks.specs.inside.MarkTests.{is_fact_of, is_alive, is_usable, may_end, fits}
 use Rattle.branch_marks.proofs.WorkedBook.{two_aircraft}
 
 abbrev numbers : List ℕ

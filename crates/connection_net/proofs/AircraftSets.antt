@@ -7,7 +7,7 @@ use Rattle.std.proofs.lemmas.Bool.Decides.{nat_tests}
 use Rattle.std.proofs.lemmas.Nat.{and_le_l}
 use Rattle.std.proofs.lemmas.Nat.Bits.{bit_at-zero, bit_at_and, bit_at-lt, bit_at_set_same, bit_at_set_other, bit_at-trailing_zeros}
 use Rattle.connection_net.specs.declared.aircraft_set.AircraftSet.{AircraftSet}
-use Rattle.connection_net.specs.AircraftSet.{has}
+use Rattle.connection_net.specs.inside.AircraftSet.{has}
 
 either : (b : Bool) (x y z : Bool) → x ≡ z → y ≡ z → (if b then x else y) ≡ z
 either true x y z p q = p

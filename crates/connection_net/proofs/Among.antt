@@ -13,7 +13,7 @@ use Rattle.tail_book.specs.Lookup.{activities, aircraft, from_port, to_port, tai
 use Rattle.tail_book.specs.Link.{port}
 use Rattle.tail_book.specs.Link.{is_connected}
 use Rattle.tail_book.specs.inside.Tests.{is_link}
-use Rattle.connection_net.specs.LinkTable.{departures_of, arrivals_of, all_departures_of, all_arrivals_of}
+use Rattle.connection_net.specs.inside.LinkTable.{departures_of, arrivals_of, all_departures_of, all_arrivals_of}
 use Rattle.connection_net.specs.Net.{is_linked, successors_of, predecessors_of, heads_of}
 use Rattle.connection_net.proofs.Filters.{filter_within}
 use Rattle.connection_net.proofs.Links.{any_below}

@@ -16,8 +16,8 @@ use Rattle.tail_book.specs.inside.Tests.{is_allowed, is_link}
 use Rattle.tail_book.specs.Link.{is_connected}
 use Rattle.connection_net.specs.declared.aircraft_set.AircraftSet.{AircraftSet}
 use Rattle.connection_net.specs.declared.link_table.Leg.{Leg}
-use Rattle.connection_net.specs.AircraftSet.{has}
-use Rattle.connection_net.specs.LinkTable.{AreTurnedIn, IsAskedStop, IsFlownOn, IsLegOf, is_turned}
+use Rattle.connection_net.specs.inside.AircraftSet.{has}
+use Rattle.connection_net.specs.inside.LinkTable.{AreTurnedIn, IsAskedStop, IsFlownOn, IsLegOf, is_turned}
 use Rattle.connection_net.specs.Net.{is_linked}
 
 -- none of no aircraft, and one aircraft more

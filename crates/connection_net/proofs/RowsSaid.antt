@@ -18,7 +18,7 @@ use Rattle.tail_book.specs.inside.Rising.{IsRisingFrom, LinksRise}
 use Rattle.tail_book.specs.inside.Sound.{IsBook}
 use Rattle.tail_book.specs.inside.Tests.{is_link, LinkDecides}
 use Rattle.connection_net.specs.Net.{is_linked, successors_of, predecessors_of, heads_of, net_of, successors_in, predecessors_in, heads_in}
-use Rattle.connection_net.specs.Laws.{SomeLink, RowsRise, HasRowForEach}
+use Rattle.connection_net.specs.inside.Laws.{SomeLink, RowsRise, HasRowForEach}
 use Rattle.connection_net.proofs.Links.{any_below}
 
 -- what a filter keeps is what the list has that passes

@@ -13,8 +13,8 @@ ghost use Rattle.tail_book.specs.Numbers.{int_le};
 ghost use Rattle.tail_book.specs.inside.Sound.{IsMoment, IsWithin};
 ghost use Rattle.tail_book.specs.inside.Tests.{is_allowed};
 ghost use Rattle.turn_rules.specs.inside.PermissionTable.{ArePermissionsOf};
-ghost use Rattle.connection_net.specs.AircraftSet.{has};
-ghost use Rattle.connection_net.specs.LinkTable.{AreTurnedIn, IsAskedStop, IsFlownOn, IsInRange, IsLegOf, IsLinkTableOf, no_leg, no_set};
+ghost use Rattle.connection_net.specs.inside.AircraftSet.{has};
+ghost use Rattle.connection_net.specs.inside.LinkTable.{AreTurnedIn, IsAskedStop, IsFlownOn, IsInRange, IsLegOf, IsLinkTableOf, no_leg, no_set};
 ghost use Rattle.connection_net.specs.Net.{is_linked};
 
 use crate::aircraft_set::AircraftSet;

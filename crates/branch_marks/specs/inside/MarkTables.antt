@@ -7,10 +7,10 @@ use Rattle.branch_marks.specs.declared.fact.Fact.{Fact}
 use Rattle.branch_marks.specs.declared.fact.Fact.TheVariants.{Bar, Must, Cut, Tie}
 use Rattle.branch_marks.specs.declared.named.Named.{Named}
 use Rattle.branch_marks.specs.declared.named.Named.TheVariants.{Nothing}
-use Rattle.branch_marks.specs.FactTests.{same_fact}
-use Rattle.branch_marks.specs.MarkTests.{is_alive}
-use Rattle.branch_marks.specs.BitRows.{BitRowsSeen, has_pair}
-use Rattle.branch_marks.specs.Named.{named_by}
+use Rattle.branch_marks.specs.inside.FactTests.{same_fact}
+use Rattle.branch_marks.specs.inside.MarkTests.{is_alive}
+use Rattle.branch_marks.specs.inside.BitRows.{BitRowsSeen, has_pair}
+use Rattle.branch_marks.specs.inside.Named.{named_by}
 use Rattle.branch_marks.specs.MarksSeen.{MarksSeen}
 
 -- the fact bars aircraft k from a; gives a to it; cuts b from a; ties b to a

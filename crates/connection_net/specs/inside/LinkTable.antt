@@ -10,7 +10,7 @@ use Rattle.tail_book.specs.inside.Tests.{is_allowed}
 use Rattle.connection_net.specs.declared.aircraft_set.AircraftSet.{AircraftSet}
 use Rattle.connection_net.specs.declared.link_table.Leg.{Leg}
 use Rattle.connection_net.specs.declared.link_table.LinkTable.{LinkTable}
-use Rattle.connection_net.specs.AircraftSet.{has}
+use Rattle.connection_net.specs.inside.AircraftSet.{has}
 
 -- what stands where there is no set and no row of a number
 abbrev pub no_set : AircraftSet

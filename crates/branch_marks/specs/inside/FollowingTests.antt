@@ -8,9 +8,9 @@ use Rattle.tail_book.specs.Counters.{step}
 use Rattle.tail_book.specs.inside.Tests.{within_limits}
 use Rattle.branch_marks.specs.declared.fact.Fact.{Fact}
 use Rattle.branch_marks.specs.declared.fact.Fact.TheVariants.{Bar, Must, Cut, Tie}
-use Rattle.branch_marks.specs.Below.{all_below, some_below}
-use Rattle.branch_marks.specs.MarkTests.{is_fact_of, is_alive, is_usable, may_end}
-use Rattle.branch_marks.specs.FactTests.{has_fact}
+use Rattle.branch_marks.specs.inside.Below.{all_below, some_below}
+use Rattle.branch_marks.specs.inside.MarkTests.{is_fact_of, is_alive, is_usable, may_end}
+use Rattle.branch_marks.specs.inside.FactTests.{has_fact}
 use Rattle.branch_marks.specs.Floors.{floor_at}
 use Rattle.branch_marks.specs.Following.{Follows, IsShut}
 

@@ -12,8 +12,8 @@ use Rattle.tail_book.specs.Counters.{step}
 use Rattle.tail_book.specs.inside.Order.{each_at_most}
 use Rattle.tail_book.specs.inside.Tests.{within_limits}
 use Rattle.branch_marks.specs.declared.fact.Fact.{Fact}
-use Rattle.branch_marks.specs.Below.{all_below}
-use Rattle.branch_marks.specs.MarkTests.{is_alive, is_usable, may_end}
+use Rattle.branch_marks.specs.inside.Below.{all_below}
+use Rattle.branch_marks.specs.inside.MarkTests.{is_alive, is_usable, may_end}
 use Rattle.branch_marks.specs.Labels.{Label, Covers, label_after}
 use Rattle.branch_marks.specs.Families.{IsClosedFamily, EndsAtLeast, HasNoEnd}
 

@@ -9,14 +9,14 @@ use Rattle.tail_book.specs.Numbers.{int_le}
 use Rattle.tail_book.specs.inside.CostTable.{box_end}
 use Rattle.tail_book.specs.inside.SoundTests.{each_pair}
 use Rattle.branch_marks.specs.declared.fact.Fact.{Fact}
-use Rattle.branch_marks.specs.Below.{all_below}
-use Rattle.branch_marks.specs.MarkTests.{is_alive}
-use Rattle.branch_marks.specs.FactTests.{has_fact}
-use Rattle.branch_marks.specs.FollowingTests.{follows}
+use Rattle.branch_marks.specs.inside.Below.{all_below}
+use Rattle.branch_marks.specs.inside.MarkTests.{is_alive}
+use Rattle.branch_marks.specs.inside.FactTests.{has_fact}
+use Rattle.branch_marks.specs.inside.FollowingTests.{follows}
 use Rattle.branch_marks.specs.Labels.{Label}
-use Rattle.branch_marks.specs.FamilyTests.{is_closed_family, ends_at_least, has_no_end}
+use Rattle.branch_marks.specs.inside.FamilyTests.{is_closed_family, ends_at_least, has_no_end}
 use Rattle.branch_marks.specs.Branches.{first_branch, second_branch}
-use Rattle.branch_marks.specs.BranchTests.{is_undecided}
+use Rattle.branch_marks.specs.inside.BranchTests.{is_undecided}
 use Rattle.branch_marks.specs.ProofTree.{Cover, Tree, Step, Split, Hole, Stuck, Bounded, cover_of, zero_duals, leaf_bound, IsShown, BoundsAtLeast}
 
 -- the dual lies in the box

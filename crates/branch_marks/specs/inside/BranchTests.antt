@@ -8,9 +8,9 @@ use Rattle.branch_marks.specs.declared.fact.Fact.{Fact}
 use Rattle.branch_marks.specs.declared.fact.Fact.TheVariants.{Must, Cut, Tie}
 use Rattle.branch_marks.specs.declared.fact.Pair.{Pair}
 use Rattle.branch_marks.specs.declared.fact.Pair.TheVariants.{Fly, Link}
-use Rattle.branch_marks.specs.Below.{some_below, count_below}
-use Rattle.branch_marks.specs.MarkTests.{is_alive, is_usable}
-use Rattle.branch_marks.specs.FactTests.{has_fact}
+use Rattle.branch_marks.specs.inside.Below.{some_below, count_below}
+use Rattle.branch_marks.specs.inside.MarkTests.{is_alive, is_usable}
+use Rattle.branch_marks.specs.inside.FactTests.{has_fact}
 use Rattle.branch_marks.specs.Branches.{first_branch, second_branch, IsUndecided}
 
 -- the marks leave the pair undecided
