@@ -1,6 +1,6 @@
 -- Sets as the bits of two words: what a bit says after an aircraft is added, and when three words have a bit in common.
-use Rattle.std.proofs.Common.{◌≡◌, ◌≢◌, ◌∙◌, ℕ, zero, suc, ◌+◌, ◌-◌, ◌*◌, ◌%◌, ◌^◌, ◌<◌, ◌≤◌, arith, ap, Bool, true, false, refl, sym, ⊎_elim}
-use Rattle.std.specs.Prelude.{◌||◌, ◌&&◌, ◌↔◌, IsTrue, not, nat_eq, nat_lt, bit_or, bit_and, min, if◌then◌else◌}
+use Rattle.std.proofs.Common.{◌≡◌, ◌≢◌, ◌∙◌, ℕ, ◌+◌, ◌-◌, ◌*◌, ◌%◌, ◌^◌, ◌<◌, ◌≤◌, arith, ap, Bool, true, false, refl, sym, ⊎_elim}
+use Rattle.std.specs.Prelude.{◌||◌, ◌&&◌, IsTrue, not, nat_eq, nat_lt, bit_or, bit_and, min, if◌then◌else◌}
 use Rattle.std.specs.Int.{bit_at, trailing_zeros, w128}
 use Rattle.std.proofs.lemmas.Bool.{eq-eqb, ne_eqb, cases_eq, cases_lt}
 use Rattle.std.proofs.lemmas.Bool.Decides.{nat_tests}

@@ -1,9 +1,8 @@
 -- A link stays at one airport: so successors and heads are among that airport's departures, and predecessors among its arrivals.
-use Rattle.std.proofs.Common.{◌≡◌, ◌∙◌, ℕ, ◌+◌, ◌<◌, arith, ap, refl, sym, Bool, true, false, List, [], get_or, length}
-use Rattle.std.specs.Prelude.{◌&&◌, All, nat_eq, slice_index_or}
-use Rattle.std.specs.List.{filter, list_any, range_with_len}
+use Rattle.std.proofs.Common.{◌≡◌, ℕ, ◌<◌, arith, sym, true, [], length}
+use Rattle.std.specs.Prelude.{All, nat_eq, slice_index_or}
+use Rattle.std.specs.List.{filter, range_with_len}
 use Rattle.std.proofs.lemmas.Bool.{and_parts, eq-eqb, eqb-true}
-use Rattle.std.proofs.lemmas.Grind.{get_or_default_zero}
 use Rattle.std.proofs.lemmas.List.Elements.{All-filter}
 use Rattle.std.proofs.lemmas.List.FromFn.{length-range_with_len, get_or-range_with_len, length-map-range_with_len, get_or-map-range_with_len}
 use Rattle.tail_book.specs.Seen.{BookSeen}

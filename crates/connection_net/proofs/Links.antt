@@ -1,5 +1,5 @@
 -- Which aircraft the sets of the table have, and what that says of links.
-use Rattle.std.proofs.Common.{◌≡◌, ◌≢◌, ◌∙◌, ℕ, ℤ, pos, ◌+◌, ◌-◌, ◌<◌, arith, ap, refl, subst, sym, Bool, true, false, List, [], ◌∷◌, ◌++◌, None, Some, get_or, length, ⊎_elim}
+use Rattle.std.proofs.Common.{◌≡◌, ◌≢◌, ◌∙◌, ℕ, pos, ◌+◌, ◌-◌, ◌<◌, arith, ap, refl, subst, sym, Bool, true, false, List, [], ◌∷◌, ◌++◌, None, Some, get_or, length, ⊎_elim}
 use Rattle.std.specs.Prelude.{◌&&◌, ◌||◌, nat_eq, nat_lt, IsTrue}
 use Rattle.std.specs.List.{list_any, range_with_len}
 use Rattle.std.specs.Bool.{Decides}

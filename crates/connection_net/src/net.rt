@@ -1,9 +1,10 @@
-//! The network: for each activity those that may come directly after it and those before it, and for each aircraft those
-//! that it may fly first.
+//! The network: for each activity those that may come directly after it and those before it, and for each aircraft
+//! those that it may fly first.
 //!
-//! A link leads from an airport to an activity that starts there, so for each activity those of one airport are looked at,
-//! by a few reads each. With 4,000 activities these are 16 million pairs at the very most, where there is one airport.
-//! The carry-ins ask at most 800,000 questions of the table of who may fly what.
+//! A link leads from an airport to an activity that starts there, so for each activity those of one airport are looked
+//! at, by a few reads each. With 4,000 activities these are 16 million pairs at the very most, where there is one
+//! airport, and each pair is looked at from both its ends. The carry-ins ask at most 800,000 questions of the table of
+//! who may fly what.
 
 ghost use Rattle.std.specs.Prelude.{◌≡◌, ◌<◌, All, IfOk, length};
 ghost use Rattle.std.specs.List.{filter};

@@ -15,11 +15,13 @@ SomeLink book a b = (k : ℕ) × (k < aircraft book) × IsLink book k (After a) 
 
 -- the law of successors: b is in the row of a exactly where some aircraft may fly b directly after a
 abbrev pub SuccessorsAreLinks : Type 0
-SuccessorsAreLinks = (book : BookSeen) (a b : ℕ) → IsTrue (contains (successors_in (net_of book) a) b) ↔ SomeLink book a b
+SuccessorsAreLinks =
+    (book : BookSeen) (a b : ℕ) → IsTrue (contains (successors_in (net_of book) a) b) ↔ SomeLink book a b
 
 -- the law of predecessors: a is in the row of b exactly where some aircraft may fly b directly after a
 abbrev pub PredecessorsAreLinks : Type 0
-PredecessorsAreLinks = (book : BookSeen) (a b : ℕ) → IsTrue (contains (predecessors_in (net_of book) b) a) ↔ SomeLink book a b
+PredecessorsAreLinks =
+    (book : BookSeen) (a b : ℕ) → IsTrue (contains (predecessors_in (net_of book) b) a) ↔ SomeLink book a b
 
 -- the law of heads: b is in the row of aircraft k exactly where k may fly it first
 abbrev pub HeadsAreLinks : Type 0
@@ -38,7 +40,8 @@ pub record RowsRise (book : BookSeen) : Type 0 where
 
 -- the law of order: a successor has a larger number
 abbrev pub SuccessorsFollow : Type 0
-SuccessorsFollow = (book : BookSeen) → IsBook book → (a b : ℕ) → contains (successors_in (net_of book) a) b ≡ true → a < b
+SuccessorsFollow =
+    (book : BookSeen) → IsBook book → (a b : ℕ) → contains (successors_in (net_of book) a) b ≡ true → a < b
 
 -- the law of counts: there is a row for each activity and for each aircraft of the book
 pub record HasRowForEach (book : BookSeen) : Type 0 where

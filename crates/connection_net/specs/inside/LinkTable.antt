@@ -46,23 +46,34 @@ is_turned before after turn =
 abbrev pub IsAskedStop : Leg → Leg → Option ℕ → Type 0
 IsAskedStop before after None = (turn : ℤ) → IsWithin (pos 0) (pos 1440) turn → is_turned before after turn ≡ false
 IsAskedStop before after (Some stop) =
-    (stop < 1441) × ((turn : ℤ) → IsWithin (pos 0) (pos 1440) turn → is_turned before after turn ≡ int_le turn (pos stop))
+    (stop < 1441)
+    × ((turn : ℤ) → IsWithin (pos 0) (pos 1440) turn → is_turned before after turn ≡ int_le turn (pos stop))
 
 -- some aircraft of the book may fly both, and is turned in time between them
 abbrev pub IsFlownOn : BookSeen → Leg → Leg → Type 0
 IsFlownOn book before after =
-    (k : ℕ) × (k < aircraft book) × IsTrue (has before.fliers k && (has after.fliers k && is_turned before after (type_turn book (kind_of book k))))
+    (k : ℕ) × (k < aircraft book)
+    × IsTrue (has before.fliers k && (has after.fliers k && is_turned before after (type_turn book (kind_of book k))))
 
--- the set has, of all numbers, exactly the book's aircraft whose type turns in so many minutes
+-- the set has exactly the book's aircraft whose type turns in so many minutes
 abbrev pub AreTurnedIn : BookSeen → ℕ → AircraftSet → Type 0
-AreTurnedIn book stop set = (k : ℕ) → has set k ≡ (nat_lt k (aircraft book) && int_le (type_turn book (kind_of book k)) (pos stop))
+AreTurnedIn book stop set =
+    (k : ℕ) → has set k ≡ (nat_lt k (aircraft book) && int_le (type_turn book (kind_of book k)) (pos stop))
+
+-- each activity of the book has its row
+abbrev pub AreLegsOf : BookSeen → List Leg → Type 0
+AreLegsOf book legs = (a : ℕ) → a < activities book → IsLegOf book a (slice_index_or legs a no_leg)
+
+-- each stop of up to a day has the set of those who turn in it
+abbrev pub AreStopsOf : BookSeen → List AircraftSet → Type 0
+AreStopsOf book sets = (stop : ℕ) → stop < 1441 → AreTurnedIn book stop (slice_index_or sets stop no_set)
 
 -- the table has a row for each activity of the book, and a set of those who turn for each stop of up to a day
 pub record IsLinkTableOf (book : BookSeen) (table : LinkTable) : Type 0 where
   pub legs : length table.legs.items ≡ activities book
-  pub each : (a : ℕ) → a < activities book → IsLegOf book a (slice_index_or table.legs.items a no_leg)
+  pub each : AreLegsOf book table.legs.items
   pub stops : length table.turned.items ≡ 1441
-  pub turned : (stop : ℕ) → stop < 1441 → AreTurnedIn book stop (slice_index_or table.turned.items stop no_set)
+  pub turned : AreStopsOf book table.turned.items
 
 -- the activities that start at airport p, and those that end there
 unfoldable pub departures_of : BookSeen → ℕ → List ℕ

@@ -1,4 +1,4 @@
-use Rattle.std.proofs.Common.{◌∙◌, ◌≡◌, arith, ap, sym, length}
+use Rattle.std.proofs.Common.{◌∙◌, ◌≡◌, arith, ap, sym}
 use Rattle.std.specs.Prelude.{nat_eq}
 use Rattle.std.specs.List.{filter, range_with_len}
 use Rattle.tail_book.specs.Lookup.{from_port, activities}

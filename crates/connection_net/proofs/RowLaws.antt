@@ -1,6 +1,6 @@
 -- What the rows of a network have: which numbers, in which order.
-use Rattle.std.proofs.Common.{◌≡◌, ◌∙◌, ℕ, zero, suc, ◌+◌, ◌<◌, ◌≤◌, arith, ap, refl, subst, sym, Bool, true, false, List, [], ◌∷◌, get_or, length, map, ⊎_elim}
-use Rattle.std.specs.Prelude.{◌&&◌, ◌||◌, cond, nat_eq, slice_index_or, IsTrue}
+use Rattle.std.proofs.Common.{◌≡◌, ◌∙◌, ℕ, zero, suc, ◌+◌, ◌<◌, ◌≤◌, arith, ap, refl, subst, sym, Bool, true, false, List, [], ◌∷◌, map, ⊎_elim}
+use Rattle.std.specs.Prelude.{◌&&◌, ◌||◌, cond, nat_eq, slice_index_or}
 use Rattle.std.specs.List.{filter, list_any, range_with_len}
 use Rattle.std.specs.Bool.{Decides}
 use Rattle.std.proofs.lemmas.Bool.{and_parts, both_ways, cases_lt, eq-eqb, eqb-true}
