@@ -4,11 +4,11 @@ use Rattle.std.specs.Prelude.{not}
 use Rattle.std.specs.List.{Contains, filter}
 use Rattle.std.proofs.lemmas.List.{get_or-set_same}
 use Rattle.std.proofs.lemmas.List.Elements.{Contains-append_left, Contains-push, Contains-push_cases}
-use Rattle.tail_book.specs.Order.{EachAtMost, each_at_most, EachAtMostDecides, EachAtMostItself, EachAtMostChains}
+use Rattle.tail_book.specs.inside.Order.{EachAtMost, each_at_most, EachAtMostDecides, EachAtMostItself, EachAtMostChains}
 use Rattle.label_store.specs.declared.offered.Offered.TheVariants.{Kept, Covered}
 use Rattle.label_store.specs.Buckets.{row_at, stays_beside, bucket_with}
 use Rattle.label_store.specs.Store.{bucket_of, IsStore, with_row}
-use Rattle.label_store.specs.Laws.{OffersKeepStores, OffersKeepCovered, OfferedRowsAreCovered, KeptRowsAreOffered, IsEntered, BucketsHaveTheRest, IsCoveredAt}
+use Rattle.label_store.specs.inside.Laws.{OffersKeepStores, OffersKeepCovered, OfferedRowsAreCovered, KeptRowsAreOffered, IsEntered, BucketsHaveTheRest, IsCoveredAt}
 use Rattle.label_store.proofs.Buckets.{filter_has, filter_had}
 use Rattle.label_store.proofs.Entering.{new_values, new_parent, new_node, still_store, still_covered, new_covered, not_covered}
 

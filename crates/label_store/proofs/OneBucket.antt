@@ -8,7 +8,7 @@ use Rattle.label_store.specs.Seen.{RowsSeen}
 use Rattle.label_store.specs.Buckets.{bucket_with}
 use Rattle.label_store.specs.Store.{IsStore, store_of}
 use Rattle.label_store.specs.Offers.{Offers, OffersTo}
-use Rattle.label_store.specs.Laws.{OffersKeepStores}
+use Rattle.label_store.specs.inside.Laws.{OffersKeepStores}
 
 module _ (old new : RowsSeen) (buckets : List (List ℕ)) (bucket later : List ℕ) (node : ℕ) (parent : Option ℕ) (row : List ℤ)
     (is : bucket ≡ get_or buckets node []) where

@@ -4,7 +4,7 @@ use Rattle.std.proofs.Common.{◌≡◌, ℕ, zero, suc, ℤ, ◌+◌, ◌*◌, 
 use Rattle.std.proofs.lemmas.List.{drop-drop, take-append-le, drop-append-le, take_all, length-drop, length-append}
 use Rattle.std.specs.Prelude.{Option}
 use Rattle.label_store.specs.Seen.{RowsSeen}
-use Rattle.label_store.specs.RowsParts.{rows_in, AreRows, rows_with}
+use Rattle.label_store.specs.inside.RowsParts.{rows_in, AreRows, rows_with}
 
 none : (width : ℕ) → 0 ≡ zero * width
 none width = omega arith

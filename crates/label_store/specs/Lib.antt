@@ -1,6 +1,5 @@
 pub mod Seen
-pub mod RowsParts
 pub mod Buckets
 pub mod Store
 pub mod Offers
-pub mod Laws
+pub mod inside

@@ -3,7 +3,7 @@ use Rattle.std.specs.Prelude.{ℕ, ℤ, ◌≡◌, ◌<◌, ◌^◌, List, Optio
 use Rattle.label_store.specs.declared.offered.Offered.{Offered}
 use Rattle.label_store.specs.declared.offered.Offered.TheVariants.{Kept, Covered}
 use Rattle.label_store.specs.Seen.{StoreSeen, RowsSeen}
-use Rattle.label_store.specs.RowsParts.{rows_with}
+use Rattle.label_store.specs.inside.RowsParts.{rows_with}
 use Rattle.label_store.specs.Buckets.{IsCoveredBy, IsCovered, bucket_with}
 use Rattle.label_store.specs.Store.{bucket_of, with_row}
 

@@ -5,9 +5,9 @@
 
 ghost use Rattle.std.specs.Prelude.{◌≡◌, ◌<◌, ◌≤◌, ◌^◌, ℕ, All, length, IfOk, OnErr, MatchOption, vec_capacity, vec_len};
 ghost use Rattle.std.specs.List.{filter};
-ghost use Rattle.tail_book.specs.Order.{each_at_most};
+ghost use Rattle.tail_book.specs.inside.Order.{each_at_most};
 ghost use Rattle.label_store.specs.Buckets.{IsCovered, IsCoveredBy, stays_beside, bucket_with};
-ghost use Rattle.label_store.specs.RowsParts.{rows_with};
+ghost use Rattle.label_store.specs.inside.RowsParts.{rows_with};
 
 use crate::rows::{Rows, put};
 use std::marker::Model;

@@ -1,7 +1,7 @@
 //! Laws of a store: the contract of each function is the law.
 
 ghost use Rattle.label_store.specs.Store.{IsStore};
-ghost use Rattle.label_store.specs.Laws.{OffersKeepStores, OffersKeepCovered, OfferedRowsAreCovered, OffersKeepRows, KeptRowsAreOffered, BucketsHaveTheRest, OthersStay, RowsOfBucketsAreApart};
+ghost use Rattle.label_store.specs.inside.Laws.{OffersKeepStores, OffersKeepCovered, OfferedRowsAreCovered, OffersKeepRows, KeptRowsAreOffered, BucketsHaveTheRest, OthersStay, RowsOfBucketsAreApart};
 
 use crate::Store;
 use tail_book::laws::{each_at_most_chains, each_at_most_decides, each_at_most_itself};

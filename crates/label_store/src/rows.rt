@@ -5,7 +5,7 @@
 
 ghost use Rattle.std.specs.Prelude.{◌≡◌, ◌<◌, ◌+◌, ◌*◌, ◌≤◌, ◌++◌, [], ◌∷◌, None, length, IfOk, OnErr, slice_index_or, vec_len, vec_capacity};
 ghost use Rattle.label_store.specs.Buckets.{row_at};
-ghost use Rattle.label_store.specs.RowsParts.{rows_with};
+ghost use Rattle.label_store.specs.inside.RowsParts.{rows_with};
 
 use std::alloc::Global;
 use std::marker::Model;
@@ -23,7 +23,7 @@ pub struct Rows {
 impl Model for Rows {
     ghost use Rattle.std.specs.Prelude.{length};
     ghost use Rattle.label_store.specs.Seen.{RowsSeen};
-    ghost use Rattle.label_store.specs.RowsParts.{rows_in, AreRows};
+    ghost use Rattle.label_store.specs.inside.RowsParts.{rows_in, AreRows};
 
     ghost Value = { RowsSeen };
 

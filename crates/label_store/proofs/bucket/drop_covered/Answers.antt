@@ -1,7 +1,7 @@
 use Rattle.std.proofs.Common.{◌≡◌, ◌<◌, arith, rules, length, get_or, set, ◌∙◌, ap, sym, true, false}
 use Rattle.std.specs.Prelude.{not}
 use Rattle.std.proofs.lemmas.Grind.{get_or_default_zero}
-use Rattle.tail_book.specs.Order.{each_at_most}
+use Rattle.tail_book.specs.inside.Order.{each_at_most}
 use Rattle.label_store.specs.Buckets.{stays_beside}
 use Rattle.label_store.proofs.Compaction.{compact_keep, compact_drop, same_compacts, compacted}
 use Rattle.label_store.proofs.bucket.drop_covered.Goals.{then-not-covers, else-not-covers}

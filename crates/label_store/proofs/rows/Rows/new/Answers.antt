@@ -1,5 +1,5 @@
 use Rattle.std.proofs.Common.{refl}
-use Rattle.label_store.specs.RowsParts.{rows_in}
+use Rattle.label_store.specs.inside.RowsParts.{rows_in}
 use Rattle.label_store.proofs.rows.Rows.new.Goals as goal
 
 -- no nodes are no rows
