@@ -6,6 +6,7 @@
 //! comparisons at most. A step allocates nothing.
 
 ghost use Rattle.std.specs.Prelude.{◌≡◌, ◌<◌, ◌&&◌, ◌||◌, nat_eq, false, ◌≤◌, ◌≤ℤ◌, ◌+ℤ◌, ◌-ℤ◌, ◌^◌, ◌↔◌, ℕ, IfOk, IsTrue, pos, negsuc, length, slice_index_or};
+ghost use Rattle.tail_book.specs.declared.limits.TheConstants.{LAST_MOMENT};
 ghost use Rattle.tail_book.specs.Lookup.{activities, aircraft, from_port, resets_of, tail_of};
 ghost use Rattle.tail_book.specs.Link.{free_from};
 ghost use Rattle.tail_book.specs.Numbers.{contains, int_le};
@@ -234,7 +235,7 @@ fn passed(row: &ActivityRow, free: i64, cleared: bool) -> i64
     requires row { IsInRange row.now }
     requires free { IsMoment free }
     ensures value { result ≡ added_in row.now free cleared CounterKind.Days }
-    ensures range { IsWithin (negsuc 120_968_638) (pos 120_968_639) result }
+    ensures range { IsWithin (pos 0 -ℤ LAST_MOMENT) LAST_MOMENT result }
     ensures forward { free ≤ℤ row.now.start → pos 0 ≤ℤ result }
 {
     if cleared {
@@ -249,7 +250,7 @@ fn added(row: &ActivityRow, free: i64, cleared: bool, kind: CounterKind) -> i64
     requires row { IsInRange row.now }
     requires free { IsMoment free }
     ensures value { result ≡ added_in row.now free cleared kind }
-    ensures range { IsWithin (negsuc 120_968_638) (pos 120_968_639) result }
+    ensures range { IsWithin (pos 0 -ℤ LAST_MOMENT) LAST_MOMENT result }
     ensures forward { free ≤ℤ row.now.start → pos 0 ≤ℤ result }
 {
     match kind {
@@ -267,7 +268,7 @@ fn stepped(row: &ActivityRow, counter: &CounterRow, c: u32, free: i64, value: i6
     requires range { IsWithin (pos 0) (pos (2 ^ 61)) value }
     ensures value { result ≡ stepped_in row.now counter.now c free value }
     ensures forward { free ≤ℤ row.now.start → pos 0 ≤ℤ result }
-    ensures grows { result ≤ℤ (value +ℤ pos 120_968_639) }
+    ensures grows { result ≤ℤ (value +ℤ LAST_MOMENT) }
 {
     let cleared = clears(row, counter, c, free);
     let added = added(row, free, cleared, counter.kind);

@@ -1,6 +1,5 @@
 -- A timetable of flights alone: its layout, and what a record of it says or why it is refused.
-use Rattle.std.specs.Prelude.{ℕ, List, [], ◌∷◌, codes, Result, Ok}
-use Rattle.std.specs.Prelude.{int_lt}
+use Rattle.std.specs.Prelude.{ℕ, List, [], ◌∷◌, codes, Result, Ok, int_lt}
 use Rattle.tail_text.specs.declared.refusal.Table.TheVariants.{Timetable}
 use Rattle.tail_text.specs.Checks.{look, must}
 use Rattle.table_records.specs.Fields.{field_at}

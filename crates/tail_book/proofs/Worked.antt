@@ -12,10 +12,9 @@ use Rattle.tail_book.specs.Counters.{step}
 use Rattle.tail_book.specs.Cost.{plan_cost}
 use Rattle.tail_book.specs.inside.CostTable.{activity_cost_in, box_end, costs_of, plan_cost_in}
 use Rattle.tail_book.specs.Curfew.{is_curfewed}
-use Rattle.tail_book.specs.Link.{gap}
+use Rattle.tail_book.specs.Link.{gap, is_connected}
 use Rattle.tail_book.specs.inside.Route.{counters_after}
 use Rattle.tail_book.specs.inside.Tests.{is_allowed, is_legal_plan, is_legal_route, is_link}
-use Rattle.tail_book.specs.Link.{is_connected}
 use Rattle.tail_book.specs.Allowed.{is_permitted}
 
 -- a minute of 2025-03-03 UTC

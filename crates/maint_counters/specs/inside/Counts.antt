@@ -1,10 +1,11 @@
 -- How large the values of counters are.
 use Rattle.std.specs.Prelude.{ℕ, ℤ, pos, ◌+◌, ◌^◌, List, All}
+use Rattle.tail_book.specs.declared.limits.TheConstants.{COUNT_LIMIT}
 use Rattle.tail_book.specs.inside.Sound.{IsWithin}
 
 -- no value is below 0 or above what any limit can be: 10,000 days in minutes
 abbrev pub AreCounts : List ℤ → Type 0
-AreCounts values = All (IsWithin (pos 0) (pos 14_400_000)) values
+AreCounts values = All (IsWithin (pos 0) COUNT_LIMIT) values
 
 -- no value is below 0 or so large that it could not be counted on
 abbrev pub AreCountable : List ℤ → Type 0

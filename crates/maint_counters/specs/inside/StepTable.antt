@@ -1,5 +1,6 @@
 -- What a step reads, as rows: of each activity, of each counter and of each aircraft.
 use Rattle.std.specs.Prelude.{ℕ, ℤ, pos, ◌+ℤ◌, ◌-ℤ◌, ◌≤ℤ◌, ◌≡◌, ◌<◌, [], Bool, ◌&&◌, if◌then◌else◌, length, slice_index_or}
+use Rattle.tail_book.specs.declared.limits.TheConstants.{SPAN_LIMIT}
 use Rattle.tail_book.specs.Seen.{BookSeen, CounterSeen}
 use Rattle.tail_book.specs.Numbers.{contains, int_le}
 use Rattle.tail_book.specs.Lookup.{activities, aircraft, tail_of, is_flight, from_port, start_of, end_of, resets_of}
@@ -31,7 +32,7 @@ pub record IsInRange (row : ActivityRow) : Type 0 where
   pub start : IsMoment row.start
   pub end : IsMoment row.end
   pub forward : row.start ≤ℤ row.end
-  pub flown : IsWithin (pos 0) (pos 2880) row.flown
+  pub flown : IsWithin (pos 0) SPAN_LIMIT row.flown
   pub landings : IsWithin (pos 0) (pos 1) row.landings
 
 -- the row is of activity a: its minutes, what it adds, the counters with a base where it starts, and those that it resets
