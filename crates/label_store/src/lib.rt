@@ -9,3 +9,6 @@ mod store;
 
 pub use offered::Offered;
 pub use store::Store;
+
+#[cfg(test)]
+mod tests;

@@ -14,7 +14,7 @@ use tail_book::Memory;
 /// Rows of at least one value each. Contracts see the record of their lists.
 #[derive(Debug, Drop)]
 pub struct Rows {
-    width: usize,
+    pub(crate) width: usize,
     values: Vec<i64>,
     parents: Vec<Option<u32>>,
     nodes: Vec<u32>,

@@ -21,7 +21,7 @@ use tail_book::Memory;
 #[derive(Debug, Drop)]
 pub struct Store {
     pub(crate) rows: Rows,
-    buckets: Vec<Bucket>,
+    pub(crate) buckets: Vec<Bucket>,
 }
 
 impl Model for Store {
@@ -64,6 +64,9 @@ impl Store {
         requires width { length row.now ≡ self.old.width }
         ensures offered { IfOk result (λ offered. Offers self.old self.new node parent row.now offered) }
         ensures memory { OnErr result (self.new ≡ self.old) }
+        ensures same_width { self.new.width ≡ self.old.width }
+        ensures same_nodes { length self.new.buckets ≡ length self.old.buckets }
+        ensures no_fewer { length self.old.rows ≤ length self.new.rows }
     {
         laws::offers_keep_stores();
         let bucket = &mut self.buckets[node];
@@ -157,6 +160,8 @@ fn offer_to(
     ensures offered { IfOk result (λ offered. OffersTo rows.old rows.new bucket.old.items bucket.new.items node parent row.now offered) }
     ensures same_rows { OnErr result (rows.new ≡ rows.old) }
     ensures same_bucket { OnErr result (bucket.new.items ≡ bucket.old.items) }
+    ensures same_width { rows.new.width ≡ rows.old.width }
+    ensures no_fewer { length rows.old.rows ≤ length rows.new.rows }
 {
     if let Some(j) = covering(rows, bucket, row) {
         return Ok(Offered::Covered(j as usize));
