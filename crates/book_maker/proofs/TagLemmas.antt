@@ -1,4 +1,5 @@
--- The tags of rows, one row after the other.
+-- The tags of rows, one row after the other: those of one row more stand behind the others, since joining the lists of
+-- two runs of rows is joining each run.
 use Rattle.std.proofs.Common.{◌≡◌, ◌∙◌, ◌<◌, ◌≤◌, ℕ, ◌+◌, List, [], ◌∷◌, ◌++◌, length, get_or, map, take, refl, ap, append_assoc, sym}
 use Rattle.std.proofs.lemmas.List.{append-nil, take_more, take_all}
 use Rattle.book_maker.specs.Made.{joined}

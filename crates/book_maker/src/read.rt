@@ -1,4 +1,7 @@
 //! The book of the three tables' texts.
+//!
+//! Each table is read by itself before a name is looked up: so a fault in the rules' text is told before a name in the
+//! fleet that nothing declares.
 
 ghost use Rattle.tail_text.specs.Reading.{Answers};
 ghost use Rattle.book_maker.specs.Made.{book_of};

@@ -1,4 +1,4 @@
--- What holds while a plan is read.
+-- What holds while a plan is read: the marks say which aircraft and which activities were met.
 use Rattle.std.specs.Prelude.{◌≡◌, length}
 use Rattle.tail_book.specs.Lookup.{activities, aircraft}
 use Rattle.tail_book.specs.Seen.{BookSeen}

@@ -1,4 +1,7 @@
 //! What the legs of a plan cost, in cost units.
+//!
+//! A leg costs its activity and the connection to it, so the legs cost together what their routes cost. Each leg is
+//! asked for once, so the rules are asked and no table is made.
 
 ghost use Rattle.std.specs.Prelude.{◌≡◌, ◌<◌, ◌≤◌, ◌^◌, All};
 ghost use Rattle.tail_book.specs.Lookup.{activities, aircraft};
@@ -13,7 +16,6 @@ use tail_book::laws::{activities_cost_at_most, connections_cost_at_most, every_b
 use tail_book::{Book, Place, band_cost};
 use turn_rules::gap;
 
-/// What an activity costs an aircraft: the type's rate for each minute flown, and the fixed amount.
 fn activity_cost(book: &Book, k: u32, a: u32) -> u64
     requires aircraft { k < aircraft book.now }
     requires activity { a < activities book.now }
@@ -24,7 +26,6 @@ fn activity_cost(book: &Book, k: u32, a: u32) -> u64
     kind.rate * flown(book, a).unsigned_abs() + tail.fixed
 }
 
-/// What a connection costs: what the bands say of the minutes on the ground, and nothing from the carry-in.
 fn connection_cost(book: &Book, k: u32, from: Place, b: u32) -> u64
     requires aircraft { k < aircraft book.now }
     requires place { IsPlaceOf book.now from }
@@ -37,7 +38,6 @@ fn connection_cost(book: &Book, k: u32, from: Place, b: u32) -> u64
     }
 }
 
-/// What a leg costs.
 fn leg_cost(book: &Book, leg: Leg) -> u64
     requires { IsLegOf book.now leg }
     ensures { result ≡ leg_cost book.now leg }

@@ -13,7 +13,8 @@ use crate::names::{Names, names_of, number_of};
 use std::alloc::Global;
 use tail_book::{Book, Memory, Name, RawLine, RawPlan};
 
-/// The names met so far, and marks at the aircraft and at the activities among them.
+/// The names met so far, and a mark for each aircraft and each activity, by its number in the book: whether it is among
+/// them.
 #[derive(Drop)]
 pub struct Reading {
     pub met: Vec<Met>,
@@ -21,7 +22,6 @@ pub struct Reading {
     pub activities: Vec<bool>,
 }
 
-/// Nothing read.
 fn begin(alloc: Global, book: &Book) -> Result<Reading, Memory>
     ensures none { IfOk result (λ reading. reading.met.items ≡ []) }
     ensures sound { IfOk result (IsReadingOf book.now) }
@@ -35,7 +35,6 @@ fn begin(alloc: Global, book: &Book) -> Result<Reading, Memory>
     })
 }
 
-/// Sets the mark of a number.
 fn mark(marks: &mut Vec<bool>, number: u32)
     requires { number < length marks.old.items }
     ensures { marks.new.items ≡ set marks.old.items number true }
@@ -43,7 +42,6 @@ fn mark(marks: &mut Vec<bool>, number: u32)
     marks[number as usize] = true;
 }
 
-/// Adds an aircraft that is met for the first time.
 fn add_tail(book: &Book, k: u32, reading: &mut Reading) -> Result<(), Memory>
     requires tail { k < aircraft book.now }
     requires reading { IsReadingOf book.now reading.old }
@@ -55,7 +53,6 @@ fn add_tail(book: &Book, k: u32, reading: &mut Reading) -> Result<(), Memory>
     Ok(())
 }
 
-/// Adds an activity that is met for the first time.
 fn add_activity(book: &Book, a: u32, reading: &mut Reading) -> Result<(), Memory>
     requires activity { a < activities book.now }
     requires reading { IsReadingOf book.now reading.old }
@@ -67,7 +64,6 @@ fn add_activity(book: &Book, a: u32, reading: &mut Reading) -> Result<(), Memory
     Ok(())
 }
 
-/// Adds a name that is unknown or was met before.
 fn add_dropped(book: &Book, met: Met, reading: &mut Reading) -> Result<(), Memory>
     requires dropped { IsDropped met }
     requires reading { IsReadingOf book.now reading.old }
@@ -78,7 +74,6 @@ fn add_dropped(book: &Book, met: Met, reading: &mut Reading) -> Result<(), Memor
     Ok(())
 }
 
-/// How the name of a line's aircraft is met.
 fn meet_tail(names: &Names, name: Name, reading: &Reading) -> Met
     requires names { AreNames names.now }
     requires reading { IsReadingOf names.now.book.now reading.now }
@@ -97,7 +92,6 @@ fn meet_tail(names: &Names, name: Name, reading: &Reading) -> Met
     }
 }
 
-/// How an id is met.
 fn meet_activity(names: &Names, id: Name, reading: &Reading) -> Met
     requires names { AreNames names.now }
     requires reading { IsReadingOf names.now.book.now reading.now }
@@ -116,7 +110,6 @@ fn meet_activity(names: &Names, id: Name, reading: &Reading) -> Met
     }
 }
 
-/// Reads an id.
 fn read_id(names: &Names, id: Name, reading: &mut Reading) -> Result<(), Memory>
     requires names { AreNames names.now }
     requires reading { IsReadingOf names.now.book.now reading.old }
@@ -129,7 +122,6 @@ fn read_id(names: &Names, id: Name, reading: &mut Reading) -> Result<(), Memory>
     }
 }
 
-/// Reads the ids of a line.
 fn read_ids(names: &Names, ids: &[Name], reading: &mut Reading) -> Result<(), Memory>
     requires names { AreNames names.now }
     requires reading { IsReadingOf names.now.book.now reading.old }
@@ -142,7 +134,7 @@ fn read_ids(names: &Names, ids: &[Name], reading: &mut Reading) -> Result<(), Me
     Ok(())
 }
 
-/// Reads a line: its aircraft, and its ids where that is met for the first time.
+// Reads a line: its aircraft, and its ids only where that is met for the first time.
 fn read_line(names: &Names, line: &RawLine, reading: &mut Reading) -> Result<(), Memory>
     requires names { AreNames names.now }
     requires reading { IsReadingOf names.now.book.now reading.old }
@@ -158,7 +150,6 @@ fn read_line(names: &Names, line: &RawLine, reading: &mut Reading) -> Result<(),
     }
 }
 
-/// Reads lines in their order.
 fn read_lines(names: &Names, lines: &[RawLine], reading: &mut Reading) -> Result<(), Memory>
     requires names { AreNames names.now }
     requires reading { IsReadingOf names.now.book.now reading.old }

@@ -1,4 +1,6 @@
 //! What the names of a plan show: those that are unknown or repeated, and the activities that no route has.
+//!
+//! An activity is in a route exactly where it was met, so its mark tells, by one read.
 
 ghost use Rattle.std.specs.Prelude.{◌≡◌, ◌<◌, ◌++◌, ◌∷◌, [], map, filter, not, IfOk};
 ghost use Rattle.tail_book.specs.Lookup.{activities};
@@ -37,7 +39,6 @@ pub fn add_twice(met: &[Met], list: &mut Vec<Broken>) -> Result<(), Memory>
     Ok(())
 }
 
-/// Whether a route has an activity.
 fn is_flown(book: &Book, reading: &Reading, a: usize) -> bool
     requires reading { IsReadingOf book.now reading.now }
     requires activity { a < activities book.now }
@@ -46,7 +47,6 @@ fn is_flown(book: &Book, reading: &Reading, a: usize) -> bool
     reading.activities[a]
 }
 
-/// Adds an activity, unless a route has it.
 fn add_unless_flown(a: u32, flown: bool, list: &mut Vec<Broken>) -> Result<(), Memory>
     ensures { IfOk result (λ _. list.new.items ≡ list.old.items ++ map Broken.Uncovered (filter (λ _. not flown) (a ∷ []))) }
 {

@@ -1,4 +1,7 @@
 //! The parts of a text between bytes of one value: its words between spaces, or its lines between newlines.
+//!
+//! Nothing is copied, and each search begins where the part before ended, so taking all parts is one pass over the
+//! text.
 
 ghost use Rattle.std.specs.Prelude.{◌≡◌, ◌∷◌, ◌==◌, [], length, position, MatchOption};
 ghost use Rattle.plan_report.specs.Parts.{parts_of};
@@ -57,7 +60,6 @@ impl<'a> Parts<'a> {
     }
 }
 
-// The place of the first byte of this value.
 fn place_of(text: &[u8], byte: u8) -> Option<usize>
     ensures { result ≡ position (λ b. b == byte) text.now }
 {

@@ -1,4 +1,4 @@
--- An activity as its record in the timetable says it.
+-- An activity as its record in the timetable says it, and what each one keeps by itself.
 use Rattle.std.specs.Prelude.{ℕ, ◌≡◌, Bool, true, false, List, [], Option, IfSome, ℤ, pos, ◌+ℤ◌, ◌≤ℤ◌}
 use Rattle.tail_book.specs.Name.{is_name}
 use Rattle.tail_book.specs.Sound.{IsMoment}
