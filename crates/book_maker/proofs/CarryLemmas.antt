@@ -1,4 +1,7 @@
 -- The items of a carry field, one by one: what is left decides.
+--
+-- The definition goes on from the items that were passed, the values so far and the items that are left, and a turn of
+-- the loop moves one item across. An unknown counter, or one that a passed item names, ends both at the same item.
 use Rattle.std.proofs.Common.{◌≡◌, ◌∙◌, ◌<◌, ◌≤◌, ℕ, ◌+◌, ℤ, true, false, List, [], ◌∷◌, ◌++◌, Result, Ok, Err, length, get_or, take, drop, slice_set, refl, ap}
 use Rattle.std.proofs.lemmas.List.{drop_all, drop_more, take_more}
 use Rattle.tail_text.specs.declared.codes.TheConstants.{TWICE}

@@ -1,4 +1,7 @@
 -- A list looked at from left to right: what is found so far stands before what the rest gives.
+--
+-- A turn moves what one element gives from the rest to what is found. An element that gives nothing makes the rest, and
+-- so the whole, give its code.
 use Rattle.std.proofs.Common.{◌≡◌, ◌∙◌, ◌<◌, ◌≤◌, ℕ, ◌+◌, List, [], ◌∷◌, ◌++◌, Result, Ok, Err, length, get_or, drop, refl, ap}
 use Rattle.std.proofs.lemmas.List.{append-nil, drop_all, drop_more}
 use Rattle.tail_text.specs.Checks.{look_each}

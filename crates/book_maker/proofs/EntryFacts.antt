@@ -1,4 +1,8 @@
--- What follows where all entries give something.
+-- What follows where all entries give something: as many are found as there are entries, what holds of what each entry
+-- gives holds of all that is found, and their own names differ.
+--
+-- All of it by induction on the entries: where a list gives something, its first entry has a new name and gives
+-- something, and the entries behind it give the rest.
 use Rattle.std.proofs.Common.{◌≡◌, ◌≢◌, ◌∙◌, ◌<◌, ℕ, ◌+◌, Bool, true, false, not, List, [], ◌∷◌, ◌++◌, map, Option, Some, None, Result, Ok, Err, length, get_or, All, AllPairs, refl, ap, arith, append_assoc, sym}
 use Rattle.std.specs.List.{IsDistinct}
 use Rattle.std.specs.Str.{bytes_eq}

@@ -1,4 +1,7 @@
 -- Entries one after the other: what is found so far stands before what the entries give that are left.
+--
+-- A turn of the loop moves one entry across, and its name to the names so far. The first entry that is refused decides,
+-- at the place that counts the entries before it.
 use Rattle.std.proofs.Common.{◌≡◌, ◌∙◌, ◌<◌, ◌≤◌, ℕ, ◌+◌, List, [], ◌∷◌, ◌++◌, Option, Result, Ok, Err, length, get_or, drop, refl, ap, arith}
 use Rattle.std.proofs.lemmas.List.{append-nil, drop_all, drop_more}
 use Rattle.tail_text.specs.Checks.{must}

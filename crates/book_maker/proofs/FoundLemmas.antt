@@ -1,4 +1,7 @@
 -- What an entry keeps by itself it keeps with numbers in place of names, and its numbers are of the book.
+--
+-- A number that was found is the place of a name in a list, and so is below the list's length; a list of numbers is as
+-- long as the list of names that it stands for; every other field is the record's own.
 use Rattle.std.proofs.Common.{◌≡◌, ◌∙◌, ◌<◌, ℕ, ℤ, pos, Bool, true, false, not, cond, nat_lt, [], ◌∷◌, ◌++◌, List, length, map, replicate, slice_set, All, Option, Some, None, IsTrue, Result, Ok, Err, ap, arith, refl, sym}
 use Rattle.std.specs.List.{position_or_len}
 use Rattle.std.specs.Option.{ok_or}

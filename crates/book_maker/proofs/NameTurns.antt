@@ -1,4 +1,7 @@
 -- The turns of the loops over names: what is left decides.
+--
+-- A name that the set has leaves it as it is, and another one goes to its end: that is what the definition does with
+-- its list of names.
 use Rattle.std.proofs.Common.{◌≡◌, ◌∙◌, ℕ, ◌+◌, ◌<◌, ◌≤◌, true, false, List, [], ◌∷◌, ◌++◌, length, take, drop, get_or, refl, arith, Bool, not, sym, length-append, if◌then◌else◌}
 use Rattle.std.proofs.lemmas.List.{drop_all, drop_more, take_more}
 use Rattle.std.specs.List.{list_any}

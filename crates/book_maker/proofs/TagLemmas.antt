@@ -1,4 +1,5 @@
--- The tags of rows, one row after the other.
+-- The tags of rows, one row after the other: those of one row more stand behind the others, since joining the lists of
+-- two runs of rows is joining each run.
 use Rattle.std.proofs.Common.{◌≡◌, ◌∙◌, ◌<◌, ◌≤◌, ℕ, ◌+◌, List, [], ◌∷◌, ◌++◌, length, get_or, take, refl, ap, sym}
 use Rattle.std.specs.List.{flat_map}
 use Rattle.std.proofs.lemmas.List.{flat_map_more, take_more, take_all}

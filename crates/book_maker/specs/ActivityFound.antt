@@ -1,4 +1,5 @@
--- The activities of the timetable, with numbers in place of the names that they use.
+-- The activities of the timetable, with numbers in place of the names that they use. The first name that nothing has,
+-- in this order, is code 12.
 use Rattle.std.specs.Prelude.{ℕ, List, map, Result, Ok}
 use Rattle.tail_book.specs.Seen.{ActivitySeen}
 use Rattle.tail_text.specs.Checks.{look}

@@ -1,4 +1,5 @@
--- The book of the three tables, or the first refusal.
+-- The book of the three tables, or the first refusal: each table by itself, and then the names of all three. Activities
+-- are put in order last, so that a refusal has its place in the table as it was written.
 use Rattle.std.specs.Prelude.{ℕ, List, map, Some, Result, Ok}
 use Rattle.tail_book.specs.Seen.{ActivitySeen, BookSeen, TailSeen}
 use Rattle.tail_text.specs.Checks.{look}

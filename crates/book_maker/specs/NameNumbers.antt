@@ -1,4 +1,4 @@
--- Names, and the numbers that stand for them.
+-- Names, and the numbers that stand for them: the number of a name is its place among the names of its kind.
 use Rattle.std.specs.Prelude.{ℕ, Bool, List, [], ◌∷◌, ◌++◌, if◌then◌else◌, Option, Some, None, position, unwrap_or, Result, Ok}
 use Rattle.std.specs.List.{list_any}
 use Rattle.std.specs.Option.{ok_or}

@@ -1,4 +1,5 @@
--- Activities in order of their starts, and of their ids where the starts are equal.
+-- Activities in order of their starts, and of their ids where the starts are equal: the plain way, by putting each one
+-- in front of the first that it comes before.
 use Rattle.std.specs.Prelude.{List, [], ◌∷◌, if◌then◌else◌}
 use Rattle.tail_book.specs.Seen.{ActivitySeen}
 use Rattle.tail_book.specs.ActivityOrder.{comes_before}

@@ -1,4 +1,5 @@
--- The entries of the rules, with numbers in place of the names that they use.
+-- The entries of the rules, with numbers in place of the names that they use. The first name that nothing has, in this
+-- order, is code 12.
 use Rattle.std.specs.Prelude.{ℕ, ◌+◌, List, length, map, None, Some, Result, Ok}
 use Rattle.tail_book.specs.Seen.{CounterSeen, CurfewSeen, RulesSeen}
 use Rattle.tail_text.specs.Checks.{look}

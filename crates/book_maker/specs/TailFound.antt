@@ -1,4 +1,5 @@
--- The aircraft of the fleet, with numbers in place of the names that they use.
+-- The aircraft of the fleet, with numbers in place of the names that they use. The first name that nothing has, in this
+-- order, is code 12; a counter that the carry values name twice is code 11.
 use Rattle.std.specs.Prelude.{ℕ, List, map, Result, Ok}
 use Rattle.tail_book.specs.Seen.{TailSeen}
 use Rattle.tail_text.specs.Checks.{look}

@@ -1,4 +1,7 @@
 //! The activities of the timetable, with their names looked up.
+//!
+//! The airports, the types, the aircraft and the counters of a record are looked up in this order, and the first that
+//! nothing has refuses it. Tags are numbered and refuse nothing. Times are taken as they were read.
 
 ghost use Rattle.std.specs.Prelude.{Some};
 ghost use Rattle.book_maker.specs.ActivityFound.{activity_in};

@@ -1,4 +1,7 @@
 //! The carry values of an aircraft, one for each counter.
+//!
+//! A counter that no item names begins at 0. Each item is compared with all before it: at most 190 comparisons, since a
+//! field has at most 20 items, so no set is made.
 
 ghost use Rattle.std.specs.Prelude.{◌≡◌, ◌<◌, ◌^◌, length, slice_set};
 ghost use Rattle.table_records.specs.inside.NoRow.{Judges};
@@ -39,14 +42,12 @@ pub fn carry_in(
     Ok(values)
 }
 
-// Whether one of the items names the counter.
 fn is_named(items: &[RawCarry], counter: Name) -> bool
     ensures { result ≡ is_named items.now counter }
 {
     items.iter().any(|item| counter == item.counter)
 }
 
-// Sets the value of a counter to that of an item.
 fn set(values: &mut Vec<i64>, at: usize, item: RawCarry)
     requires { at < length values.old.items }
     ensures { values.new.items ≡ slice_set values.old.items at item.value }

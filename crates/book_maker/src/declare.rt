@@ -1,4 +1,8 @@
 //! The entries of each table in their order, whose names become known one kind after the other.
+//!
+//! An entry uses only names of kinds that were declared before its own: a curfew those of airports and types, a counter
+//! those of airports, an aircraft those of types, airports and counters, an activity those of aircraft too. So one pass
+//! over each table is enough.
 
 ghost use Rattle.std.specs.Prelude.{◌≡◌, ◌+◌, ◌≤◌, ◌<◌, ◌^◌, length, map, All, None, Ok, Some, OnOk};
 ghost use Rattle.tail_book.specs.declared.limits.TheConstants.{ACTIVITY_LIMIT, AIRPORT_LIMIT, COUNTER_LIMIT, CURFEW_LIMIT, TAIL_LIMIT, TYPE_LIMIT};

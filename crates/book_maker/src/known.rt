@@ -1,4 +1,7 @@
 //! The names that the tables declare, each kind by itself.
+//!
+//! The number of a name is its place in the set of its kind, which keeps the order in which names came. Kinds are
+//! apart, so an airport and a type may have the same name.
 
 use indexmap::IndexSet;
 use std::marker::Model;

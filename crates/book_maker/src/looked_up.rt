@@ -1,4 +1,8 @@
 //! Entries of the tables, one after the other: each first by its own name, and then by the names that it uses.
+//!
+//! What is common to all kinds stands here: that no two entries of one kind have the same name, code 11, and at which
+//! place an entry is refused. Which names an entry uses is for its type to say. The names so far are a set, so each
+//! name is looked up once, and nothing behind the first refusal is looked at.
 
 ghost use Rattle.std.specs.Prelude.{ℕ, ◌≡◌, ◌+◌, ◌<◌, ◌^◌, [], List, length, All, Option, Result, IfOk, OnOk};
 ghost use Rattle.tail_text.specs.Checks.{must};
@@ -79,7 +83,6 @@ pub fn look_up<E: Entry>(
     })
 }
 
-// One entry, behind others with these names.
 fn entry_in<E: Entry>(
     alloc: Global,
     known: &Known,

@@ -1,4 +1,8 @@
 //! The book of the three tables: of their texts, and of their records.
+//!
+//! The rules are looked at first, then the fleet, and then the timetable, since each uses names of those before it.
+//! Tags come before all of them, since nothing declares them. That a book keeps its order, ranges and limits is proved
+//! and not tested again: each record is good by itself, each number is the place of a name, and no name stands twice.
 
 ghost use Rattle.std.specs.Prelude.{◌≡◌, ◌≤◌, ◌<◌, ◌^◌, [], length, IfOk, OnOk};
 ghost use Rattle.tail_book.specs.declared.limits.TheConstants.{ACTIVITY_LIMIT, TAIL_LIMIT};

@@ -1,4 +1,5 @@
 //! The numbers that names get.
+//!
 //! A set that keeps the order of insertion finds a name at once, so each list of names is passed over once.
 
 ghost use Rattle.std.specs.Prelude.{◌≡◌, ◌<◌, ◌≤◌, ◌^◌, length, map, IfOk};

@@ -1,4 +1,7 @@
 //! The entries of the rules, with their names looked up.
+//!
+//! A type and an airport use no other name, and are taken as they are. A curfew uses its airport and then its types,
+//! and a counter its bases. Bands have no names, and need no look.
 
 ghost use Rattle.std.specs.Prelude.{None, Ok, Some, ⊤};
 ghost use Rattle.book_maker.specs.RulesFound.{counter_in, curfew_in};

@@ -1,4 +1,7 @@
 //! The tags that the tables name. They are not declared, so they are numbered as they come.
+//!
+//! All tags of both tables are listed before an entry is looked up, so that none is unknown then: at most 84,000, since
+//! there are 4,200 records of at most 20 tags. Each goes into a set once.
 
 ghost use Rattle.std.specs.Prelude.{◌≡◌, ◌+◌, ◌*◌, ◌<◌, ◌≤◌, ◌^◌, ◌++◌, length, IfOk, OnOk};
 ghost use Rattle.std.specs.List.{flat_map};

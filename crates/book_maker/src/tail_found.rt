@@ -1,4 +1,7 @@
 //! The aircraft of the fleet, with their names looked up.
+//!
+//! The type, the airport, the avoided airports and the counters of the carry values are looked up in this order, and
+//! the first that nothing has refuses the record. Tags are numbered and refuse nothing.
 
 ghost use Rattle.std.specs.Prelude.{Some};
 ghost use Rattle.book_maker.specs.TailFound.{tail_in};

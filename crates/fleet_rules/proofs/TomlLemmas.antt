@@ -1,4 +1,6 @@
--- What a map's entries and an array's values say of the members and the items that they stand for.
+-- What a map's entries and an array's values say of the members and the items that they stand for: the same, one by
+-- one, by induction on the list. So a test over keys, and a look at each value, can be taken along the code's own
+-- lists.
 use Rattle.std.proofs.Common.{◌≡◌, ◌∙◌, ◌<◌, ℕ, ◌+◌, Bool, ◌&&◌, List, [], ◌∷◌, ◌++◌, map, drop, get_or, length, Result, Ok, Err, string_bytes, refl, ap}
 use Rattle.std.proofs.lemmas.List.{append-nil, drop_more}
 use Rattle.std.specs.List.{list_all}

@@ -1,4 +1,4 @@
--- The entries of the key `airport`.
+-- The entries of the key `airport`: a name, the minutes from UTC to local time, and the turn in minutes.
 use Rattle.std.specs.Prelude.{ℕ, pos, ◌-ℤ◌, [], ◌∷◌, codes, Result, Ok}
 use Rattle.toml.specs.Data.{Members}
 use Rattle.tail_book.specs.declared.limits.TheConstants.{AIRPORT_LIMIT, DAY, OFFSET_LIMIT}

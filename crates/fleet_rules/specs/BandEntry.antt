@@ -1,4 +1,4 @@
--- The entries of the key `band`.
+-- The entries of the key `band`: up to how many minutes on the ground a connection costs so many cost units.
 use Rattle.std.specs.Prelude.{ℕ, pos, [], ◌∷◌, codes, Result, Ok}
 use Rattle.toml.specs.Data.{Members}
 use Rattle.tail_book.specs.declared.limits.TheConstants.{BAND_COST_LIMIT, BAND_LIMIT, VALUE_LIMIT}

@@ -1,4 +1,4 @@
--- The entries of the key `counter`.
+-- The entries of the key `counter`: a name, what is counted, the limit, and the stops that clear it.
 use Rattle.std.specs.Prelude.{ℕ, ℤ, pos, ◌*ℤ◌, List, [], ◌∷◌, codes, if◌then◌else◌, Option, Some, None, Result, Ok}
 use Rattle.std.specs.Option.{ok_or}
 use Rattle.std.specs.Str.{bytes_eq}

@@ -1,4 +1,5 @@
--- The entries of the key `curfew`.
+-- The entries of the key `curfew`: an airport, its closed hours in local minutes of the day, the types that they hold
+-- for, and whether they hold for starts and for landings.
 use Rattle.std.specs.Prelude.{ℕ, [], ◌∷◌, codes, Result, Ok}
 use Rattle.toml.specs.Data.{Members}
 use Rattle.tail_book.specs.declared.limits.TheConstants.{CURFEW_LIMIT, ITEM_LIMIT}

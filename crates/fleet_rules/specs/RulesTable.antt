@@ -1,4 +1,5 @@
--- The rules as a whole, up to their first refusal.
+-- The rules as a whole, up to their first refusal: the keys in the order that is listed here, whatever the text's
+-- order.
 use Rattle.std.specs.Prelude.{ℕ, ◌+◌, List, [], ◌∷◌, length, codes, nat_le, Result, Ok}
 use Rattle.std.specs.Option.{ok_or}
 use Rattle.std.specs.Str.{is_utf8}

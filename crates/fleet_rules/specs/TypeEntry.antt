@@ -1,4 +1,4 @@
--- The entries of the key `type`.
+-- The entries of the key `type`: a name, the cost units of a minute flown, and the turn in minutes.
 use Rattle.std.specs.Prelude.{ℕ, pos, [], ◌∷◌, codes, Result, Ok}
 use Rattle.toml.specs.Data.{Members}
 use Rattle.tail_book.specs.declared.limits.TheConstants.{DAY, RATE_LIMIT, TYPE_LIMIT}

@@ -1,4 +1,7 @@
-//! The entries of the key `airport`.
+//! The entries of the key `airport`: a name, the minutes from UTC to local time, and the turn in minutes.
+//!
+//! The keys are looked up in this order, and the first that is absent or bad decides. Names are compared later, when
+//! all three tables are read.
 
 ghost use Rattle.std.specs.Prelude.{◌≡◌, IfOk};
 ghost use Rattle.toml.specs.View.{table_view};

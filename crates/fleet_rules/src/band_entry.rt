@@ -1,4 +1,6 @@
-//! The entries of the key `band`.
+//! The entries of the key `band`: up to how many minutes on the ground a connection costs so many cost units.
+//!
+//! The first band that reaches counts, so bands keep the order of the text, and need no other.
 
 ghost use Rattle.std.specs.Prelude.{◌≡◌, IfOk};
 ghost use Rattle.toml.specs.View.{table_view};

@@ -1,4 +1,7 @@
 //! The values with which an aircraft comes in, in one field.
+//!
+//! The field is a list like the lists of names, and only what one item says stands here. It is cut at its first `=`.
+//! Another one is then part of the value, which no number has, so it is code 9.
 
 ghost use Rattle.std.specs.Prelude.{◌≡◌, ◌<◌, length, IfOk, IfSome};
 ghost use Rattle.table_records.specs.inside.NoRow.{Judges};
@@ -49,7 +52,6 @@ fn item_in(item: &[u8]) -> Result<RawCarry, u8>
     })
 }
 
-// The place of the first `=`.
 fn cut_of(item: &[u8]) -> Option<usize>
     ensures value { result ≡ cut_of item.now }
     ensures within { IfSome result (λ cut. cut < length item.now) }

@@ -1,4 +1,7 @@
-//! The entries of the key `counter`.
+//! The entries of the key `counter`: a name, what is counted, the limit, and the stops that clear it.
+//!
+//! The kind is read before the limit, since the limit of a days counter is turned into minutes here: from then on a
+//! limit and a value are compared as they are.
 
 ghost use Rattle.std.specs.Prelude.{◌≡◌, IfOk};
 ghost use Rattle.toml.specs.View.{table_view};

@@ -1,4 +1,7 @@
-//! The entries of the key `curfew`.
+//! The entries of the key `curfew`: an airport, its closed hours in local minutes of the day, the types that they hold
+//! for, and whether they hold for starts and for landings.
+//!
+//! Hours over midnight, and hours that end as they begin, are good entries: what they mean is the book's to say.
 
 ghost use Rattle.std.specs.Prelude.{◌≡◌, IfOk};
 ghost use Rattle.toml.specs.View.{table_view};

@@ -1,4 +1,8 @@
 //! The fleet, record by record.
+//!
+//! What tables have in common is for `read_table`. Here stands what one record says: its fields from left to right, of
+//! which the first bad one decides. Names are in their grammar from here on, and are looked up when all three tables
+//! are read.
 
 ghost use Rattle.std.specs.Prelude.{◌≡◌, ◌≤◌, length, IfOk};
 ghost use Rattle.tail_book.specs.declared.limits.TheConstants.{TAIL_LIMIT};

@@ -1,4 +1,6 @@
 //! The rules as their table says them, with their names not looked up yet.
+//!
+//! Each value keeps what an entry has to keep by itself, so whoever takes one need not look again.
 
 use std::marker::Model;
 use tail_book::{AircraftType, Airport, Band, CounterKind, Name};
@@ -34,8 +36,10 @@ impl Model for RawCurfew {
 pub struct RawCounter {
     pub name: Name,
     pub kind: CounterKind,
+    /// In landings where those are counted, and else in minutes.
     pub limit: i64,
     pub bases: Vec<Name>,
+    /// The least minutes of a stop that clears it.
     pub stop: i64,
 }
 

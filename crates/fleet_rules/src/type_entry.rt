@@ -1,4 +1,6 @@
-//! The entries of the key `type`.
+//! The entries of the key `type`: a name, the cost units of a minute flown, and the turn in minutes.
+//!
+//! The keys are looked up in this order, and the first that is absent or bad decides.
 
 ghost use Rattle.std.specs.Prelude.{◌≡◌, IfOk};
 ghost use Rattle.toml.specs.View.{table_view};

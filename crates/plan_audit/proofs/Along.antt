@@ -1,4 +1,9 @@
 -- Legs of a plan, and sums along them.
+--
+-- What the routes of all aircraft come to is what the legs come to in reading order, whatever a leg counts. By
+-- induction on the names as they are met: an activity adds the same to the route of its aircraft and to the legs, and
+-- no aircraft is met twice, so a route is counted once. What a plan costs and how often it flies an activity are two
+-- such sums.
 use Rattle.std.proofs.Common.{◌≡◌, ◌≢◌, ◌∙◌, sym, refl, ap, arith, subst, true≢false, ℕ, zero, suc, ◌+◌, ◌<◌, ◌≤◌, inl, inr, Bool, true, false, ◌||◌, cond, if◌then◌else◌, nat_eq, List, [], ◌∷◌, map, All}
 use Rattle.std.specs.Prelude.{count_by}
 use Rattle.std.specs.List.{IsDistinct, AllByRecursion, range_with_len, sum_by, flat_map}

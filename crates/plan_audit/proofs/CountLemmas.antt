@@ -1,4 +1,6 @@
--- The counters of a leg, one after the other: what was passed is stepped, and what is left is stepped from its number on.
+-- The counters of a leg, one after the other: what was passed is stepped, and what is left is stepped from its number
+-- on. A leg brings a counter no farther than the minutes of the calendar, so fewer than 2^64 legs leave it within 128
+-- bits.
 use Rattle.std.proofs.Common.{◌≡◌, ℕ, ◌+◌, ◌<◌, ℤ, pos, arith, List, [], ◌∷◌, ◌++◌, length, get_or, set, take, drop, sym, refl, ◌∙◌, ap, ap₂, append_assoc}
 use Rattle.std.proofs.lemmas.List.{drop_more, take_more_set}
 use Rattle.tail_book.specs.Seen.{CounterSeen, BookSeen}

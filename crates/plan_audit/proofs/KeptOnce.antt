@@ -1,4 +1,5 @@
--- Every kept plan has a route for each aircraft, of activities of the book, and flies none twice.
+-- Every kept plan has a route for each aircraft, of activities of the book, and flies none twice: it flies an activity
+-- as often as it was met, and the activities that were met differ.
 use Rattle.std.proofs.Common.{sym, subst, arith, ℕ, ◌<◌, ◌≤◌, inl, inr, Bool, true, false, if◌then◌else◌, nat_eq, List, [], ◌∷◌, All}
 use Rattle.std.specs.Prelude.{count_by}
 use Rattle.std.specs.List.{IsDistinct}

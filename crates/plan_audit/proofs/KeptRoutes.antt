@@ -1,4 +1,7 @@
 -- The routes that legs make one after the other, and those of the kept plan.
+--
+-- A leg goes to the end of the route of its aircraft and leaves the others as they are. An aircraft is met once, so its
+-- legs are the activities behind its line and no others, in their order: that is its kept route.
 use Rattle.std.proofs.Common.{◌≡◌, ◌≢◌, ◌∙◌, sym, refl, ap, arith, true≢false, ℕ, zero, suc, ◌+◌, ◌<◌, ◌≤◌, inl, inr, Bool, true, false, cond, if◌then◌else◌, nat_eq, List, [], ◌∷◌, ◌++◌, map, length, set, get_or, take, replicate}
 use Rattle.std.specs.List.{filter, range_with_len, IsDistinct}
 use Rattle.std.proofs.lemmas.Bool.{cases_eq, eq-eqb, eqb-true}

@@ -1,4 +1,8 @@
 -- Each line of an audit is told exactly where the kept plan breaks that rule.
+--
+-- An audit is seven lists one behind the other, each of one rule, so a line is told where its own list has it. That
+-- list is of the legs, or the activities, that fail one test. And the legs of the kept plan are the activities of its
+-- routes, each with the place at the end of the front before it.
 use Rattle.std.proofs.Common.{◌≡◌, ◌∙◌, sym, refl, ap, arith, subst, true≢false, ℕ, zero, suc, ◌+◌, ◌<◌, ◌↔◌, inl, inr, pos, Bool, true, false, ◌||◌, cond, nat_eq, List, [], ◌∷◌, ◌++◌, map, length, replicate, Contains}
 use Rattle.std.specs.Prelude.{not, count_by}
 use Rattle.std.specs.List.{filter, range_with_len, flat_map}

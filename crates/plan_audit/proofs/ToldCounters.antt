@@ -1,4 +1,8 @@
--- A counter is told after a leg exactly where it is past its limit, counted from the carry-in along the front of the route.
+-- A counter is told after a leg exactly where it is past its limit, counted from the carry-in along the front of the
+-- route.
+--
+-- By induction on the names as they are met, with the counters before each: an activity steps them, a name that is
+-- dropped leaves them, and the next aircraft begins with its own, so what was counted before its line does not matter.
 use Rattle.std.proofs.Common.{◌≡◌, ◌∙◌, sym, refl, ap, arith, subst, true≢false, ℕ, zero, suc, ◌+◌, ◌<◌, ◌⊎◌, inl, inr, ℤ, pos, ◌<ℤ◌, Bool, true, false, if◌then◌else◌, nat_eq, List, [], ◌∷◌, ◌++◌, length, get_or, Contains, All}
 use Rattle.std.specs.List.{IsDistinct}
 use Rattle.std.proofs.lemmas.Bool.{eq-eqb, eqb-true}

@@ -1,6 +1,7 @@
 //! The audit of a plan.
 //!
 //! The names are read once, and then each rule is looked at along the legs, so the work grows with the plan's length.
+//! Where no rule is broken the kept plan is legal, by a law, so no second look is needed before its cost is told.
 
 ghost use Rattle.std.specs.Prelude.{◌≡◌, IfOk, All};
 ghost use Rattle.tail_book.specs.Plan.{IsLegalPlan};
@@ -30,7 +31,6 @@ use tail_book::laws::{
 };
 use tail_book::{Book, CostTable, Memory, Plan, RawPlan};
 
-/// The rules that a plan breaks.
 fn broken_rules(
     alloc: Global,
     book: &Book,
@@ -71,7 +71,6 @@ pub fn audit(alloc: Global, book: &Book, raw: &RawPlan) -> Result<Audit, Memory>
     Ok(Audit::Broken(list))
 }
 
-/// Every table keeps its maxima.
 fn table_is_sound(table: &CostTable)
     ensures { IsCostTable table.now }
 {
@@ -79,7 +78,6 @@ fn table_is_sound(table: &CostTable)
     let _ = &table.n;
 }
 
-/// What a legal plan costs in a table.
 fn legal_cost(book: &Book, table: &CostTable, plan: &Plan) -> u64
     requires table { IsTableFor book.now table.now }
     requires legal { IsLegalPlan book.now plan.now }

@@ -32,7 +32,6 @@ pub fn names_of<'a>(alloc: Global, book: &'a Book) -> Result<BookNames<'a>, Memo
     })
 }
 
-/// The names of aircraft, of which no two are equal.
 fn names_of_tails(alloc: Global, tails: &[Tail]) -> Result<IndexSet<Name>, Memory>
     requires { AllPairs (λ a b. a.name ≢ b.name) tails.now }
     ensures { IfOk result (λ set. set.keys ≡ map (λ t. t.name) tails.now) }
@@ -44,7 +43,6 @@ fn names_of_tails(alloc: Global, tails: &[Tail]) -> Result<IndexSet<Name>, Memor
     Ok(set)
 }
 
-/// The ids of activities, of which no two are equal.
 fn ids_of(alloc: Global, activities: &[Activity]) -> Result<IndexSet<Name>, Memory>
     requires { AllPairs (λ a b. a.id ≢ b.id) activities.now }
     ensures { IfOk result (λ set. set.keys ≡ map (λ a. a.id) activities.now) }

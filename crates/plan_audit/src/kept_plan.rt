@@ -14,7 +14,6 @@ use crate::met_names::read_names;
 use std::alloc::Global;
 use tail_book::{Book, Memory, Plan, RawPlan, Route};
 
-/// So many empty routes.
 fn empty_routes(alloc: Global, n: usize) -> Result<Vec<Route>, Memory>
     ensures { IfOk result (λ routes. routes.items ≡ replicate n []) }
 {
@@ -25,7 +24,6 @@ fn empty_routes(alloc: Global, n: usize) -> Result<Vec<Route>, Memory>
     Ok(routes)
 }
 
-/// Adds an activity to a route, at its end.
 fn fly_next(route: &mut Route, b: u32) -> Result<(), Memory>
     ensures { IfOk result (λ _. route.new ≡ route.old ++ b ∷ []) }
 {
@@ -33,7 +31,6 @@ fn fly_next(route: &mut Route, b: u32) -> Result<(), Memory>
     Ok(())
 }
 
-/// Adds a leg to the route of its aircraft.
 fn add_leg(leg: Leg, routes: &mut Vec<Route>) -> Result<(), Memory>
     requires { leg.tail < length routes.old.items }
     ensures { IfOk result (λ _. routes.new.items ≡ set routes.old.items leg.tail (slice_index_or routes.old.items leg.tail [] ++ leg.activity ∷ [])) }
@@ -41,7 +38,6 @@ fn add_leg(leg: Leg, routes: &mut Vec<Route>) -> Result<(), Memory>
     fly_next(&mut routes[leg.tail as usize], leg.activity)
 }
 
-/// The routes of legs, one for each aircraft.
 fn routes_in(alloc: Global, book: &Book, legs: &[Leg]) -> Result<Vec<Route>, Memory>
     requires { All (IsLegOf book.now) legs.now }
     ensures { IfOk result (λ routes. routes.items ≡ map (route_in legs.now) (range_with_len 0 (aircraft book.now))) }

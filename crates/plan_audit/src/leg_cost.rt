@@ -1,4 +1,7 @@
 //! What the legs of a plan cost, in cost units.
+//!
+//! A leg costs its activity and the connection to it, so the legs cost together what their routes cost. Each leg is
+//! asked for once, so the rules are asked and no table is made.
 
 ghost use Rattle.std.specs.Prelude.{◌≡◌, ◌<◌, ◌≤◌, ◌^◌, All};
 ghost use Rattle.tail_book.specs.Lookup.{activities, aircraft};
@@ -12,7 +15,6 @@ use maint_counters::flown;
 use tail_book::Book;
 use tail_book::laws::{activities_cost_at_most, connections_cost_at_most, every_book_is_sound};
 
-/// What an activity costs an aircraft: the type's rate for each minute flown, and the fixed amount.
 fn activity_cost(book: &Book, k: u32, a: u32) -> u64
     requires aircraft { k < aircraft book.now }
     requires activity { a < activities book.now }

@@ -1,4 +1,7 @@
 //! What a plan costs in a table, in cost units, where it is legal.
+//!
+//! An activity is one read of the table, and a connection is looked up among its bands. No sum wraps: what a legal plan
+//! costs is bounded by the table's two maxima.
 
 ghost use Rattle.std.specs.Prelude.{◌≡◌, ◌<◌, ◌^◌, length, All};
 ghost use Rattle.tail_book.specs.Lookup.{activities, aircraft};
@@ -8,7 +11,6 @@ use crate::connections::connection_cost;
 use tail_book::laws::every_book_is_sound;
 use tail_book::{Book, CostTable, Place, Route};
 
-/// What a route costs an aircraft.
 fn route_cost(book: &Book, table: &CostTable, k: u32, route: &[u32]) -> u64
     requires table { IsTableFor book.now table.now }
     requires aircraft { k < aircraft book.now }

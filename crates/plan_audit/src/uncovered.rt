@@ -21,7 +21,6 @@ fn is_flown(book: &Book, met_names: &MetNames, a: usize) -> bool
     met_names.activities[a]
 }
 
-/// Adds an activity, unless a route has it.
 fn add_unless_flown(a: u32, flown: bool, list: &mut Vec<Broken>) -> Result<(), Memory>
     ensures { IfOk result (λ _. list.new.items ≡ list.old.items ++ map Broken.Uncovered (filter (λ _. not flown) (a ∷ []))) }
 {

@@ -1,4 +1,5 @@
--- An empty trial, and a plan built from an assignment.
+-- An empty trial, and a plan built from an assignment: the loop over the fliers has the route so far, and that over the
+-- aircraft the routes so far, each before what the definition gives for the rest.
 use Rattle.std.proofs.Common.{◌≡◌, ◌∙◌, ℕ, suc, ◌+◌, ◌-◌, ◌<◌, arith, List, [], ◌∷◌, ◌++◌, length, get_or, drop, refl, sym, ap, append_assoc}
 use Rattle.std.proofs.lemmas.List.{drop_more}
 use Rattle.std.proofs.lemmas.Bool.{eq-eqb, ne_eqb}

@@ -1,4 +1,8 @@
 -- One activity more: whether an assignment stays legal, what it costs, and what its completions owe.
+--
+-- The activity has the largest number, so it goes to the end of one route and leaves the others. That route is legal
+-- exactly where it was and the activity goes on from its end, and it costs the activity and the connection more. What
+-- completes an assignment keeps these routes as fronts, so it is legal only where they are.
 use Rattle.std.proofs.Common.{◌≡◌, ◌≢◌, ◌∙◌, ℕ, zero, suc, ℤ, ◌+◌, ◌<◌, ◌≤◌, inl, inr, Bool, true, false, arith, List, [], ◌∷◌, ◌++◌, length, refl, sym, ap, if◌then◌else◌, subst, add_assoc}
 use Rattle.std.specs.Prelude.{nat_eq}
 use Rattle.std.proofs.lemmas.Bool.{eqb-true, eq-eqb, ne_eqb, both_ways, cases_Bool}

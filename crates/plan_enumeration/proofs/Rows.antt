@@ -1,4 +1,5 @@
--- Rows of counters in one list of values.
+-- Rows of counters in one list of values: row x takes as many places as there are counters, from x times that number
+-- on. So rows do not overlap, and one that is written leaves those before it and behind it as they were.
 use Rattle.std.proofs.Common.{◌≡◌, ◌∙◌, ℕ, suc, ℤ, ◌+◌, ◌*◌, ◌<◌, ◌≤◌, arith, List, ◌++◌, length, take, drop, refl, sym, ap, subst, append_assoc, length-append, length-drop, length-take-le}
 use Rattle.std.proofs.Math.Nat.{mul-le-mul_right}
 use Rattle.std.proofs.Math.Seq.{take-append_seam, drop-append_seam}

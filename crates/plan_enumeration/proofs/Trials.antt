@@ -1,4 +1,9 @@
 -- The steps of the enumeration: going on with one activity, coming back, and what is tried then.
+--
+-- Going on writes the activity's flier and row, and that flier's place, and coming back puts the place as it was. So
+-- below the activity nothing has changed, and each aircraft is tried from the same state. All that begins with an
+-- assignment begins with one of its next steps, and no cost is below 0: so once each next step was tried, or the cost
+-- already reaches the best, nothing that begins so is better.
 use Rattle.std.proofs.Common.{◌≡◌, ◌≢◌, ◌∙◌, ℕ, ℤ, pos, ◌+◌, ◌*◌, ◌<◌, ◌≤◌, ◌⊎◌, inl, inr, arith, List, [], ◌∷◌, ◌++◌, length, get_or, take, drop, true, refl, sym, ap, ap₂, subst, append_assoc, add-one, length-append, length-take-le}
 use Rattle.std.proofs.lemmas.Int.{ints}
 use Rattle.std.proofs.lemmas.Bool.{eqb-true, eq-eqb, both_ways, cases_Bool}

@@ -1,4 +1,5 @@
--- The best of all assignments is a least plan.
+-- The best of all assignments is a least plan: every legal plan is the plan of an assignment, and every assignment was
+-- tried. So no legal plan costs less than the best one found, and where none was found, no plan is legal.
 use Rattle.std.proofs.Common.{◌≡◌, ℕ, ◌≤◌, false, true, List, [], subst}
 use Rattle.std.proofs.lemmas.Bool.{both_ways}
 use Rattle.tail_book.specs.Seen.{BookSeen}

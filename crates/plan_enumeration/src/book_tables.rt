@@ -1,4 +1,7 @@
 //! What the enumeration asks of the book once.
+//!
+//! What an activity costs an aircraft, and whether it may fly it, depends on no assignment. Places and counters do, and
+//! are looked at on the way.
 
 ghost use Rattle.std.specs.Prelude.{IfOk};
 ghost use Rattle.plan_enumeration.specs.inside.BookTables.{AreTablesOf};

@@ -1,4 +1,6 @@
 //! What activities and connections cost by the book's own table.
+//!
+//! An activity is one read. A connection takes the first of at most 8 bands that reaches its minutes on the ground.
 
 ghost use Rattle.std.specs.Prelude.{◌≡◌, ◌<◌, ◌≤◌, ◌+◌};
 ghost use Rattle.tail_book.specs.Lookup.{activities, aircraft};
@@ -9,7 +11,6 @@ ghost use Rattle.tail_book.specs.inside.Place.{IsPlaceOf};
 use tail_book::{Book, CostTable, Place, laws};
 use turn_rules::gap;
 
-// What a connection costs by a table.
 fn waiting_cost(book: &Book, costs: &CostTable, k: u32, from: Place, b: u32) -> u64
     requires aircraft { k < aircraft book.now }
     requires place { IsPlaceOf book.now from }

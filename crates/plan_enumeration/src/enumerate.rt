@@ -26,7 +26,8 @@ use std::alloc::Global;
 use tail_book::{Book, Memory, Outcome, Place, Plan, Route, laws};
 use turn_rules::link_by;
 
-/// The best assignment so far: for each activity the aircraft that flies it.
+/// The best assignment so far: for each activity the aircraft that flies it, and its cost in cost units. Neither means
+/// anything before one is found.
 #[derive(Debug, Drop)]
 pub struct Best {
     pub found: bool,
@@ -43,7 +44,7 @@ pub struct Trial {
     pub values: Vec<i64>,
 }
 
-/// What it costs an aircraft to go on with the next activity, and the place that it goes on from.
+/// What it costs an aircraft to go on with the next activity, in cost units, and the place that it goes on from.
 #[derive(Debug, Drop)]
 pub struct Advance {
     pub from: Place,
@@ -65,7 +66,6 @@ fn keep(book: &Book, best: &mut Best, fliers: &[u32], cost: u64)
     best.cost = cost;
 }
 
-// The row of an activity.
 fn row_of(values: &[i64], x: usize, width: usize) -> &[i64]
     requires { x * width + width ≤ length values.now }
     ensures { result.now ≡ row_of width values.now x }
@@ -124,7 +124,6 @@ fn step_row(book: &Book, values: &mut [i64], k: u32, from: Place, a: u32) -> boo
     step_into(book, before, &mut rest[..width], k, from, a)
 }
 
-// Where an aircraft is.
 fn place_of(trial: &Trial, k: u32) -> Place
     requires { k < length trial.now.places.items }
     ensures { result ≡ slice_index_or trial.now.places.items k Place.Carry }
@@ -253,7 +252,6 @@ fn assign_from(
     }
 }
 
-// The best assignment of all.
 fn best_assignment(alloc: Global, book: &Book) -> Result<Best, Memory>
     ensures best { IfOk result (IsBest book.now) }
     ensures tried { IfOk result (λ best. HasTried book.now best []) }
@@ -274,7 +272,6 @@ fn best_assignment(alloc: Global, book: &Book) -> Result<Best, Memory>
     Ok(best)
 }
 
-// The route of an aircraft: its activities in rising number.
 fn route_of(alloc: Global, fliers: &[u32], k: u32) -> Result<Route, Memory>
     requires { length fliers.now < 2 ^ 32 }
     ensures { IfOk result (λ route. route ≡ route_flown k fliers.now) }
@@ -288,7 +285,6 @@ fn route_of(alloc: Global, fliers: &[u32], k: u32) -> Result<Route, Memory>
     Ok(Route(route))
 }
 
-// The plan of an assignment to so many aircraft.
 fn plan_of(alloc: Global, fliers: &[u32], count: u32) -> Result<Plan, Memory>
     requires { length fliers.now < 2 ^ 32 }
     ensures { IfOk result (λ plan. plan ≡ routes_from 0 count fliers.now) }
@@ -300,7 +296,6 @@ fn plan_of(alloc: Global, fliers: &[u32], count: u32) -> Result<Plan, Memory>
     Ok(Plan(routes))
 }
 
-// What the best assignment of all says of the book.
 fn outcome_of(alloc: Global, book: &Book, best: &Best) -> Result<Outcome, Memory>
     requires best { IsBest book.now best.now }
     requires tried { HasTried book.now best.now [] }

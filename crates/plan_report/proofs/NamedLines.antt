@@ -1,4 +1,7 @@
 -- The line of an aircraft is read as its name and the ids of its route.
+--
+-- A line is a name with a colon, and then a space and an id for each activity. None of these has a space or a newline
+-- inside, so the words between spaces are what was written, and by induction on the routes so is line after line.
 use Rattle.std.proofs.Common.{◌≡◌, ◌∙◌, ℕ, ◌+◌, ◌-◌, ◌*◌, ◌<◌, ◌≤◌, true, false, List, [], ◌∷◌, ◌++◌, Ok, length, length-append, refl, ap, map, arith, nat_lt, nat_le, slice_index, ◌==◌}
 use Rattle.std.proofs.lemmas.Bool.Decides.{nat_tests}
 use Rattle.std.proofs.lemmas.List.{append-nil, length-map}

@@ -1,4 +1,5 @@
--- A text that was put together of lines has these lines again.
+-- A text that was put together of lines has these lines again, by induction on them: none has a newline inside, so the
+-- first newline of the text ends the first line, and what is behind it is the text of the others.
 use Rattle.std.proofs.Common.{◌≡◌, ◌∙◌, ℕ, List, [], ◌∷◌, ◌++◌, refl, ap, map, append_assoc}
 use Rattle.std.proofs.lemmas.List.Splits.{slice_split_at}
 use Rattle.std.specs.List.{AllByRecursion}

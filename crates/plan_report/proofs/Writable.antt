@@ -1,4 +1,5 @@
--- The plan of a true outcome can be written: a legal plan has a route for each aircraft, of activities of the book.
+-- The plan of a true outcome can be written: a legal plan has a route for each aircraft, and the numbers of a legal
+-- route rise and stay below the number of activities, so each is of the book.
 use Rattle.std.proofs.Common.{◌≡◌, ℕ, zero, suc, ◌<◌, arith, List, [], ◌∷◌, length, get_or}
 use Rattle.std.proofs.lemmas.List.{get_or_default}
 use Rattle.tail_book.specs.Seen.{BookSeen}

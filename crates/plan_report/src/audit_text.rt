@@ -1,4 +1,7 @@
-//! The text of an audit.
+//! The text of an audit: what was found, and a line for each broken rule.
+//!
+//! Numbers are printed as the book's names, so they have to be of the book, as those of every audit are: a law says it.
+//! All lines are made before the first is put.
 
 ghost use Rattle.std.specs.Prelude.{◌≡◌, ◌++◌, ◌<◌, ◌≤◌, false, length, map, All, IfOk, OnOk, OnErr, IsErrOf, decimal};
 ghost use Rattle.tail_book.specs.Lookup.{activities, activity_of, aircraft};
@@ -35,7 +38,6 @@ pub fn write_audit<S: Sink>(
     write_lines(&lines, out)
 }
 
-// The lines of what an audit found.
 fn audit_lines(alloc: Global, book: &Book, audit: &Audit) -> Result<Vec<Line>, Memory>
     requires { AreOfBook book.now audit.now }
     ensures { IfOk result (λ lines. lines.items ≡ audit_lines book.now audit.now) }
@@ -61,7 +63,6 @@ fn counted_line(alloc: Global, front: &[u8], count: u64) -> Result<Line, Memory>
     Ok(line)
 }
 
-// Adds the lines of the broken rules.
 fn add_broken(
     alloc: Global,
     book: &Book,
@@ -87,7 +88,6 @@ fn broken_line(alloc: Global, book: &Book, rule: &Broken) -> Result<Line, Memory
     Ok(line)
 }
 
-// Adds which rule is broken, and by whom.
 fn add_rule(book: &Book, rule: &Broken, line: &mut Line) -> Result<(), Memory>
     requires { IsOfBook book.now rule.now }
     ensures { OnOk result (line.new ≡ line.old ++ broken_text book.now rule.now) }

@@ -1,4 +1,7 @@
 //! The lines of a text, one after the other.
+//!
+//! They are the parts between newlines. What stands behind the last newline is a line only where it is not empty, and
+//! then it has no newline of its own.
 
 ghost use Rattle.std.specs.Prelude.{◌≡◌, ◌∷◌, [], MatchOption};
 ghost use Rattle.plan_report.specs.TextLines.{lines_of};

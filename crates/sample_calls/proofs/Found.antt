@@ -1,5 +1,5 @@
--- Numbers that pass a test, found by a look at each in turn: one that passes comes behind those before it, which are all
--- smaller, and one that fails leaves the list as it is.
+-- Numbers that pass a test, found by a look at each in turn: one that passes comes behind those before it, which are
+-- all smaller, and one that fails leaves the list as it is.
 use Rattle.std.proofs.Common.{◌≡◌, ◌∙◌, ◌↔◌, ◌⊎◌, inl, inr, sym, ap, arith, ℕ, zero, suc, ◌+◌, ◌<◌, Bool, true, false, List, [], ◌∷◌, ◌++◌, length, get_or, Contains, length-append}
 use Rattle.std.proofs.lemmas.Bool.{false≢true}
 use Rattle.std.proofs.lemmas.List.{get_or_append_left, get_or_default}

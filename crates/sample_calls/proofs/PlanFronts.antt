@@ -1,5 +1,5 @@
--- A plan's file that is read up to one byte more than it may have reads as the whole of it: where that cuts it, both are
--- too big, and else nothing is cut.
+-- A plan's file that is read up to one byte more than it may have reads as the whole of it: where that cuts it, both
+-- are too big, and else nothing is cut.
 use Rattle.std.proofs.Common.{◌≡◌, ◌∙◌, ℕ, ◌+◌, ◌<◌, ◌≤◌, ◌⊎◌, inl, inr, false, arith, List, length, take, ap, sym, subst, refl, length-take-le}
 use Rattle.std.proofs.lemmas.Bool.Decides.{nat_tests}
 use Rattle.std.proofs.lemmas.List.{take_all}

@@ -45,7 +45,8 @@ fn connection_cost(book: &Book, table: &CostTable, k: u32, from: Place, b: u32) 
     }
 }
 
-/// What it costs an aircraft to fly an activity next, by any table for the book: the activity, and the connection to it.
+/// What it costs an aircraft to fly an activity next, by any table for the book: the activity and the connection to it,
+/// in cost units.
 pub fn leg_cost(book: &Book, table: &CostTable, k: u32, from: Place, b: u32) -> u64
     requires table { IsTableFor book.now table.now }
     requires aircraft { k < aircraft book.now }

@@ -39,8 +39,8 @@ fn add_flier(k: u32, may: bool, list: &mut Vec<u32>) -> Result<(), Memory>
     Ok(())
 }
 
-/// The aircraft that may fly an activity, in the book's order. The table is the book's, from `PermissionTable::of`: it is
-/// made once, and then each question is one read.
+/// The aircraft that may fly an activity, in the book's order. The table is the book's, from `PermissionTable::of`: it
+/// is made once, and then each question is one read.
 pub fn who_may_fly(
     alloc: Global,
     book: &Book,

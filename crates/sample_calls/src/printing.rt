@@ -13,7 +13,7 @@ use tail_book::{Book, RawPlan, laws};
 use tail_outside::Sink;
 
 /// Finds a plan of least cost and prints its report, or that no plan is legal. All assignments are tried, so the book
-/// has to be small: ten activities and four aircraft take a moment.
+/// has to be small: the planner takes ten activities and four aircraft.
 pub fn print_least_plan<S: Sink>(alloc: Global, book: &Book, out: &mut S) -> Result<(), ReportFail>
     ensures printed { OnOk result (PrintsLeastPlan book.now (S.shows out.old) (S.shows out.new)) }
     ensures cause { IsErrOf result ReportFail.Write → PieceHasFailed (S.shows out.old) (S.shows out.new) }

@@ -1,4 +1,7 @@
 //! Whether an aircraft can fly a route, and how far it comes.
+//!
+//! A route is followed by its place and one row of counters, which is all that the rules ask of what was flown before.
+//! So it takes one pass over the route, and no memory but that row.
 
 ghost use Rattle.std.specs.Prelude.{◌≡◌, ◌<◌, ◌↔◌, ◌&&◌, length, nat_lt, IfOk, IsTrue};
 ghost use Rattle.tail_book.specs.Counters.{step};

@@ -60,7 +60,6 @@ impl<'a> Parts<'a> {
     }
 }
 
-// The place of the first byte of this value.
 fn place_of(text: &[u8], byte: u8) -> Option<usize>
     ensures { result ≡ position (λ b. b == byte) text.now }
 {

@@ -1,4 +1,6 @@
--- What the checks of a record say.
+-- What the checks of a record say. A span that passes is from a minute to two days, so the end lies that far behind the
+-- start; ground time that passes ends where it starts; and a flight that passes resets nothing, since its list is
+-- empty.
 use Rattle.std.proofs.Common.{◌≡◌, ℕ, Bool, true, false, List, [], ◌∷◌, length, ◌==◌, ◌+◌, add-one, sym, refl, arith, ℤ, pos, ◌-ℤ◌, ◌+ℤ◌, ◌≤ℤ◌}
 use Rattle.std.proofs.lemmas.Bool.Decides.{nat_tests}
 use Rattle.std.proofs.lemmas.Bool.{and_parts}

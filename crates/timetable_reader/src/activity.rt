@@ -1,4 +1,6 @@
 //! An activity as its record in the timetable says it.
+//!
+//! It keeps what a record has to keep by itself, so whoever takes one need not look again.
 
 use std::marker::Model;
 use tail_book::Name;

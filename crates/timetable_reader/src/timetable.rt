@@ -1,4 +1,8 @@
 //! The timetable, record by record.
+//!
+//! What tables have in common is for `read_table`. Here stands what one record says: its fields from left to right,
+//! with the span right behind the end, and then the record as a whole. The first that is bad decides. Names are in
+//! their grammar from here on, and are looked up when all three tables are read.
 
 ghost use Rattle.std.specs.Prelude.{◌≡◌, ◌≤◌, length, ◌+ℤ◌, ◌≤ℤ◌, pos, IfOk};
 ghost use Rattle.tail_book.specs.declared.limits.TheConstants.{ACTIVITY_LIMIT, SPAN_LIMIT};

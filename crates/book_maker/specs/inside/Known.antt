@@ -1,4 +1,4 @@
--- The names that the tables declare.
+-- The names that the tables declare, each kind by itself. The number of a name is its place in the list of its kind.
 use Rattle.std.specs.Prelude.{ℕ, ◌≡◌, ◌<◌, ◌^◌, List, length}
 use Rattle.tail_book.specs.Seen.{RulesSeen}
 use Rattle.fleet_rules.specs.RawRules.{RawRulesSeen}

@@ -1,4 +1,4 @@
--- What holds of the names of a book.
+-- What holds of the index of a book's names: a name's place in it is its number.
 use Rattle.std.specs.Prelude.{◌≡◌, ◌<◌, ◌^◌, length}
 use Rattle.plan_audit.specs.declared.book_names.BookNames.{BookNames}
 use Rattle.plan_audit.specs.Met.{tail_names, activity_ids}

@@ -1,4 +1,4 @@
--- Laws of the audit.
+-- Laws of the audit: what a kept plan is, and that no rule is broken exactly where it is legal and every name was good.
 use Rattle.std.specs.Prelude.{ℕ, ◌≡◌, ◌<◌, ◌≤◌, ◌+◌, List, [], ◌∷◌, map, length, All}
 use Rattle.tail_book.specs.Seen.{BookSeen, RawLineSeen, RawPlanSeen}
 use Rattle.tail_book.specs.Lookup.{activities, aircraft, activity_of, tail_of}

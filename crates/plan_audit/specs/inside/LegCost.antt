@@ -1,4 +1,4 @@
--- What the legs of a plan cost.
+-- What the legs of a plan cost, in cost units: together what the kept plan costs.
 use Rattle.std.specs.Prelude.{ℕ, ◌+◌, List, sum_by}
 use Rattle.tail_book.specs.Seen.{BookSeen}
 use Rattle.tail_book.specs.Cost.{activity_cost, connection_cost}

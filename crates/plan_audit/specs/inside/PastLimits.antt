@@ -1,4 +1,4 @@
--- A counter before a leg, and how far it can get.
+-- A counter before a leg, and how far from 0 so many legs can bring it.
 use Rattle.std.specs.Prelude.{ℕ, ℤ, pos, ◌+ℤ◌, ◌*ℤ◌, ◌≤ℤ◌, slice_index_or}
 use Rattle.tail_book.specs.Seen.{BookSeen}
 use Rattle.tail_book.specs.Lookup.{carry_of}

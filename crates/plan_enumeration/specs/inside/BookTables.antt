@@ -1,4 +1,4 @@
--- What the enumeration asks of the book once.
+-- What the enumeration asks of the book once: costs and permissions, which depend on no assignment.
 use Rattle.std.specs.Prelude.{◌≡◌}
 use Rattle.tail_book.specs.Seen.{BookSeen}
 use Rattle.tail_book.specs.inside.CostTable.{costs_of}

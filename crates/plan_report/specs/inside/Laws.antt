@@ -1,4 +1,5 @@
--- The laws of reports.
+-- The laws of reports: what is found can be written, and a report whose plan flies nothing twice is read back as the
+-- names of that plan.
 use Rattle.std.specs.Prelude.{ℕ, ◌≡◌, ◌+◌, ◌<◌, ◌≤◌, ◌^◌, ⊤, List, [], ◌∷◌, map, Ok}
 use Rattle.tail_book.specs.Lookup.{activities, activity_of, tail_of}
 use Rattle.tail_book.specs.Plan.{times_flown}
