@@ -65,7 +65,7 @@ fn rules(alloc: Global) -> Result<Rules, Memory> {
     })
 }
 
-// Five flights to and fro, two hours apart, and two aircraft that may fly them all and stand where the first one starts.
+// Five flights to and fro, two hours apart, and two aircraft that may fly them all and stand where the first starts.
 fn book(alloc: Global) -> Result<Book, Fail> {
     let (mut flights, mut leg, mut start) = (Vec::new(alloc), (0, 1), 60i64);
     for id in [
@@ -192,8 +192,8 @@ fn alive_by_fact(rt: HostRuntime) -> Result<(), Fail> {
     Ok(())
 }
 
-// Links after each kind of fact: a Must strictly between, a Must of the first activity before the carry-in's link, a Cut
-// of this link and of another, and a Tie looked at from both ends.
+// Links after each kind of fact: a Must strictly between, a Must of the first activity before the carry-in's link, a
+// Cut of this link and of another, and a Tie looked at from both ends.
 #[test]
 fn usable_by_fact(rt: HostRuntime) -> Result<(), Fail> {
     let book = book(rt.alloc())?;
