@@ -16,7 +16,8 @@ Offers old new node parent row (Kept i) =
 
 -- the same of rows and one bucket
 abbrev pub OffersTo : RowsSeen → RowsSeen → List ℕ → List ℕ → ℕ → Option ℕ → List ℤ → Offered → Type 0
-OffersTo old new bucket later node parent row (Covered j) = IsCoveredBy old.rows bucket row j × (new ≡ old) × (later ≡ bucket)
+OffersTo old new bucket later node parent row (Covered j) =
+    IsCoveredBy old.rows bucket row j × (new ≡ old) × (later ≡ bucket)
 OffersTo old new bucket later node parent row (Kept i) =
     (¬ IsCovered old.rows bucket row) × (i ≡ length old.rows) × (i < 2 ^ 32) × (new ≡ rows_with old node parent row)
     × (later ≡ bucket_with old.rows bucket row i)

@@ -5,7 +5,13 @@ use Rattle.label_store.specs.Buckets.{bucket_with, EachApart}
 
 -- rows with their buckets
 abbrev pub store_of : RowsSeen → List (List ℕ) → StoreSeen
-store_of rows buckets = record { width = rows.width; rows = rows.rows; parents = rows.parents; nodes = rows.nodes; buckets = buckets }
+store_of rows buckets = record {
+  width = rows.width;
+  rows = rows.rows;
+  parents = rows.parents;
+  nodes = rows.nodes;
+  buckets = buckets;
+}
 
 -- the row that a row came from, its node, and the bucket of a node
 abbrev pub parent_of : StoreSeen → ℕ → Option ℕ

@@ -1,7 +1,8 @@
 //! Dominance in a bucket: what covers a row, what it covers, and what it leaves.
 //!
-//! The innermost loops of pricing. The weight of a label is at place 0 of its row, where most pairs are decided. Rows are
-//! compared where they stand: nothing is copied, and nothing is asked of memory but the growths of a row that enters.
+//! The innermost loops of pricing. The weight of a label is at place 0 of its row, where most pairs are decided. Rows
+//! are compared where they stand: nothing is copied, and nothing is asked of memory but the growths of a row that
+//! enters.
 
 ghost use Rattle.std.specs.Prelude.{◌≡◌, ◌<◌, ◌≤◌, ◌^◌, ℕ, All, length, IfOk, OnErr, MatchOption, vec_capacity, vec_len};
 ghost use Rattle.std.specs.List.{filter};

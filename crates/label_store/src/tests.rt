@@ -61,8 +61,8 @@ fn numbers(
     Ok(numbers)
 }
 
-// What an equal row, a dearer one, one that is better in all, and one that is better in one value alone get: the numbers
-// in the bucket afterwards.
+// What an equal row, a dearer one, one that is better in all, and one that is better in one value alone get, and the
+// numbers in the bucket afterwards.
 #[test]
 fn one_bucket(rt: HostRuntime) -> Result<(), Fail> {
     let mut store = Store::new(rt.alloc(), 1, 2)?;

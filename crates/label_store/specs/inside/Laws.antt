@@ -16,20 +16,21 @@ IsCoveredAt store node row = IsCovered store.rows (bucket_of store node) row
 -- where the parent is a kept row or none, a row of the width that is kept or covered leaves a store
 abbrev pub OffersKeepStores : Type 0
 OffersKeepStores = (old new : StoreSeen) (node : ℕ) (parent : Option ℕ) (row : List ℤ) (offered : Offered) → IsStore old
-    → node < length old.buckets → IfSome parent (λ j. j < length old.rows) → length row ≡ old.width → length old.rows < 2 ^ 32
-    → Offers old new node parent row offered → IsStore new
+    → node < length old.buckets → IfSome parent (λ j. j < length old.rows) → length row ≡ old.width
+    → length old.rows < 2 ^ 32 → Offers old new node parent row offered → IsStore new
 
 -- what was covered at a node stays covered there, whatever is offered to any node
 abbrev pub OffersKeepCovered : Type 0
-OffersKeepCovered = (old new : StoreSeen) (node : ℕ) (parent : Option ℕ) (row : List ℤ) (offered : Offered) → IsStore old
-    → Offers old new node parent row offered → (v : ℕ) (other : List ℤ) → IsCoveredAt old v other → IsCoveredAt new v other
+OffersKeepCovered = (old new : StoreSeen) (node : ℕ) (parent : Option ℕ) (row : List ℤ) (offered : Offered)
+    → IsStore old → Offers old new node parent row offered
+    → (v : ℕ) (other : List ℤ) → IsCoveredAt old v other → IsCoveredAt new v other
 
 -- after an offer the offered row is covered at its node
 abbrev pub OfferedRowsAreCovered : Type 0
-OfferedRowsAreCovered = (old new : StoreSeen) (node : ℕ) (parent : Option ℕ) (row : List ℤ) (offered : Offered) → IsStore old
-    → node < length old.buckets → Offers old new node parent row offered → IsCoveredAt new node row
+OfferedRowsAreCovered = (old new : StoreSeen) (node : ℕ) (parent : Option ℕ) (row : List ℤ) (offered : Offered)
+    → IsStore old → node < length old.buckets → Offers old new node parent row offered → IsCoveredAt new node row
 
--- the rows of one store are kept in the other: their number does not fall, and each has its values, its parent and its node
+-- the rows of one store are kept in the other: there are no fewer, and each has its values, its parent and its node
 pub record KeepsRows (old new : StoreSeen) : Type 0 where
   pub longer : length old.rows ≤ length new.rows
   pub rows : (i : ℕ) → i < length old.rows → row_at new.rows i ≡ row_at old.rows i
@@ -54,9 +55,10 @@ KeptRowsAreOffered = (old new : StoreSeen) (node : ℕ) (parent : Option ℕ) (r
 
 -- what the bucket has behind an offer that was kept: the new row, and those of before that it does not cover
 abbrev pub BucketsHaveTheRest : Type 0
-BucketsHaveTheRest = (old new : StoreSeen) (node : ℕ) (parent : Option ℕ) (row : List ℤ) (i : ℕ) → node < length old.buckets
-    → Offers old new node parent row (Kept i) → (j : ℕ)
-    → Contains (bucket_of new node) j ↔ ((Contains (bucket_of old node) j × (¬ EachAtMost row (row_at old.rows j))) ⊎ (i ≡ j))
+BucketsHaveTheRest = (old new : StoreSeen) (node : ℕ) (parent : Option ℕ) (row : List ℤ) (i : ℕ)
+    → node < length old.buckets → Offers old new node parent row (Kept i) → (j : ℕ)
+    → Contains (bucket_of new node) j
+    ↔ ((Contains (bucket_of old node) j × (¬ EachAtMost row (row_at old.rows j))) ⊎ (i ≡ j))
 
 -- an offer to one node changes no bucket of another one
 abbrev pub OthersStay : Type 0
@@ -67,4 +69,5 @@ OthersStay = (old new : StoreSeen) (node : ℕ) (parent : Option ℕ) (row : Lis
 abbrev pub RowsOfBucketsAreApart : Type 0
 RowsOfBucketsAreApart = (store : StoreSeen) → IsStore store → (node : ℕ) → node < length store.buckets → (p q : ℕ)
     → p < length (bucket_of store node) → q < length (bucket_of store node) → p ≢ q
-    → ¬ EachAtMost (row_at store.rows (slice_index_or (bucket_of store node) p 0)) (row_at store.rows (slice_index_or (bucket_of store node) q 0))
+    → ¬ EachAtMost (row_at store.rows (slice_index_or (bucket_of store node) p 0))
+    (row_at store.rows (slice_index_or (bucket_of store node) q 0))
