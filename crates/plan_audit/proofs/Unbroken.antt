@@ -1,4 +1,5 @@
 -- Where no rule is broken, the kept plan is legal: each route is, and each activity is met, and so flown, exactly once.
+-- The list of broken rules is empty only where each of its parts is, so no leg and no activity fails a test.
 use Rattle.std.proofs.Common.{◌≡◌, ◌≢◌, ◌∙◌, sym, refl, ap, arith, ℕ, zero, suc, ◌+◌, ◌<◌, ◌≤◌, inl, inr, Bool, true, false, List, [], ◌++◌, map, length, replicate, pos}
 use Rattle.std.specs.Prelude.{not, ◌==◌}
 use Rattle.std.specs.List.{filter, range_with_len}

@@ -1,4 +1,5 @@
--- Assignments and legal plans are the same: a legal plan's routes rise, and each activity stands in one of them.
+-- The plan of a legal assignment is legal: it has a route for each aircraft, and an activity stands once in the route
+-- of its flier and in no other, so each activity is flown exactly once in all.
 use Rattle.std.proofs.Common.{◌≡◌, ◌≢◌, ◌∙◌, ℕ, zero, suc, ◌+◌, ◌<◌, ◌≤◌, ◌⊎◌, inl, inr, Bool, true, false, cond, arith, List, [], ◌∷◌, ◌++◌, length, get_or, refl, ap, zero-add, if◌then◌else◌}
 use Rattle.std.specs.Prelude.{count_by, nat_eq}
 use Rattle.std.proofs.lemmas.Bool.{eqb-true, eq-eqb, ne_eqb, both_ways, cases_Bool}
