@@ -1,4 +1,4 @@
--- A fact that follows holds in each legal plan of which the marks hold. What is dead stands in no route that fits, since
+-- Whatever legal plan the marks hold of, what follows from them holds of it too. What is dead stands in no route that fits, since
 -- along such a route there are floors with which it goes on; the flier of an activity is one for whom it is alive.
 use Rattle.std.proofs.Common.{◌≡◌, ℕ, ℤ, ◌<◌, inl, inr, true, arith, List, refl, subst, Option}
 use Rattle.std.proofs.lemmas.Bool.{false_from_ne_true}

@@ -84,7 +84,7 @@ FollowingFactsAreOfBook = (book : BookSeen) (marks : List Fact) (fact : Fact) �
 abbrev pub FollowingFactsAreNew : Type 0
 FollowingFactsAreNew = (book : BookSeen) (marks : List Fact) (fact : Fact) → Follows book marks fact → ¬ Contains marks fact
 
--- a fact that follows holds in each legal plan of which the marks hold
+-- what follows from marks holds of every legal plan that they hold of
 abbrev pub FollowingFactsHold : Type 0
 FollowingFactsHold = (book : BookSeen) → IsBook book → (marks : List Fact) (fact : Fact) → Follows book marks fact
     → (plan : List (List ℕ)) → IsLegalPlan book plan → HoldAll marks plan → Holds fact plan

@@ -27,7 +27,7 @@ pub fn undecided_pairs_are_of_book()
     ensures { UndecidedPairsAreOfBook }
 {}
 
-/// Of the two branches of a split exactly one holds in each plan.
+/// Every plan is in one branch of a split, and in one alone.
 pub fn one_branch_holds()
     ensures { OneBranchHolds }
 {}
