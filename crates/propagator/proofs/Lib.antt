@@ -1,0 +1,5 @@
+pub mod LeastOver
+pub mod MoreMarks
+pub mod SameFor
+pub mod DeadBars
+pub mod DeadCuts

@@ -1,0 +1,5 @@
+pub mod InTurn
+pub mod Closed
+pub mod LeastOver
+pub mod SameFor
+pub mod OneMore

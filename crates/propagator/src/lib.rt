@@ -1,0 +1,7 @@
+//! Propagation: all facts that follow from marks are added to them.
+#![tactic(auto)]
+
+mod hole;
+pub mod laws;
+
+pub use hole::Closed;
