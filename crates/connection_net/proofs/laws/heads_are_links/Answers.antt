@@ -1,0 +1,5 @@
+use Rattle.connection_net.proofs.RowsSaid.{heads_said}
+use Rattle.connection_net.proofs.laws.heads_are_links.Goals as goal
+
+pub returns : goal.returns
+returns c = heads_said c.link_decides.ensures

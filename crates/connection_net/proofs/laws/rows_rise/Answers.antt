@@ -1,0 +1,5 @@
+use Rattle.connection_net.proofs.RowsSaid.{rows_rise}
+use Rattle.connection_net.proofs.laws.rows_rise.Goals as goal
+
+pub returns : goal.returns
+returns c = rows_rise

@@ -1,0 +1,5 @@
+use Rattle.connection_net.proofs.RowsSaid.{both_directions}
+use Rattle.connection_net.proofs.laws.successors_face_predecessors.Goals as goal
+
+pub returns : goal.returns
+returns c = both_directions c.link_decides.ensures

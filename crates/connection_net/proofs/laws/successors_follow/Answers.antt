@@ -1,0 +1,5 @@
+use Rattle.connection_net.proofs.RowsSaid.{successor_follows}
+use Rattle.connection_net.proofs.laws.successors_follow.Goals as goal
+
+pub returns : goal.returns
+returns c = successor_follows c.link_decides.ensures c.links_rise.ensures
