@@ -1,3 +1,7 @@
+pub mod Bits
+pub mod Places
+pub mod FactTables
+pub mod Parts
 pub mod Decisions
 pub mod BelowDecided
 pub mod MarksDecided
@@ -9,5 +13,11 @@ pub mod LesserFloors
 pub mod Floors
 pub mod AlongFloors
 pub mod Following
+pub mod Weights
+pub mod Duality
+pub mod Pool
+pub mod Settled
+pub mod LeastPlan
 pub mod WorkedBook
 mod WorkedMarks
+mod WorkedFollowing

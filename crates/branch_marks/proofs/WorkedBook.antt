@@ -1,9 +1,10 @@
 -- A book small enough to be worked by hand: two aircraft at Arlanda, and four flights there and back.
-use Rattle.std.proofs.Common.{ℕ, pos, ◌+◌, true, List, [], ◌∷◌, None}
+use Rattle.std.proofs.Common.{ℕ, ℤ, pos, ◌+◌, true, List, [], ◌∷◌, None}
 use Rattle.std.specs.Prelude.{codes}
 use Rattle.tail_book.specs.Seen.{ActivitySeen, TailSeen, AirportSeen, CounterSeen, BookSeen}
 use Rattle.tail_book.specs.declared.rules.AircraftType.{AircraftType}
 use Rattle.tail_book.specs.declared.rules.Band.{Band}
+use Rattle.tail_book.specs.declared.rules.CounterKind.TheVariants.{Minutes}
 
 -- a flight of an hour, from the hour of the day; the airports are Arlanda, 0, and Oslo, 1
 abbrev pub flight : List ℕ → ℕ → ℕ → ℕ → ActivitySeen
@@ -13,8 +14,11 @@ flight id from to start = record { id = id; flight = true; from = from; to = to;
 abbrev pub flights : List ActivitySeen
 flights = flight (codes "F1") 0 1 360 ∷ flight (codes "F2") 1 0 450 ∷ flight (codes "F3") 0 1 540 ∷ flight (codes "F4") 1 0 630 ∷ []
 
+abbrev pub aircraft_with : List ℕ → ℕ → List ℤ → TailSeen
+aircraft_with name kind carry = record { name = name; kind = kind; at = 0; ready = pos 300; fixed = 0; tags = []; avoid = []; carry = carry }
+
 abbrev pub aircraft_of : List ℕ → ℕ → TailSeen
-aircraft_of name kind = record { name = name; kind = kind; at = 0; ready = pos 300; fixed = 0; tags = []; avoid = []; carry = [] }
+aircraft_of name kind = aircraft_with name kind []
 
 -- the second type costs twice as much a minute
 abbrev pub kinds : List AircraftType
@@ -33,3 +37,17 @@ book_with activities tails counters bands = record {
 -- the four flights, and two aircraft that both may fly all of them: 0 to 1 or 3, 1 to 2, 2 to 3, and both begin with 0 or 2
 abbrev pub two_aircraft : BookSeen
 two_aircraft = book_with flights (aircraft_of (codes "A1") 0 ∷ aircraft_of (codes "A2") 0 ∷ []) [] []
+
+-- the same flights and one aircraft, whose minutes flown are limited; no stop between them is long enough to clear the counter
+abbrev pub counted : ℕ → BookSeen
+counted limit =
+    book_with flights (aircraft_with (codes "A1") 0 (pos 0 ∷ []) ∷ [])
+    (record { name = codes "fh"; kind = Minutes; limit = pos limit; bases = 0 ∷ []; stop = pos 60 } ∷ []) []
+
+-- the first two flights, one aircraft, and a turn that may be longer than the half hour between them
+abbrev pub turning : ℕ → BookSeen
+turning turn = record {
+  activities = flight (codes "F1") 0 1 360 ∷ flight (codes "F2") 1 0 450 ∷ [];
+  tails = aircraft_of (codes "A1") 0 ∷ [];
+  rules = record { kinds = record { name = codes "P"; rate = 1; turn = pos turn } ∷ []; airports = airports; curfews = []; counters = []; bands = [] };
+}

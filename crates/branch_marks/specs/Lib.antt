@@ -7,3 +7,13 @@ pub mod FactTests
 pub mod Floors
 pub mod Following
 pub mod FollowingTests
+pub mod Weights
+pub mod Bound
+pub mod Pool
+pub mod Settled
+pub mod BitRows
+pub mod Named
+pub mod MarksSeen
+pub mod MarkTables
+pub mod MarkParts
+pub mod MarkCalls

@@ -1,0 +1,94 @@
+-- Tables that say what facts say still do when they note one fact more.
+use Rattle.std.proofs.Common.{◌≡◌, ◌∙◌, ℕ, arith, ap, Bool, true, false, refl, sym, List, [], ◌∷◌, ◌++◌, length, get_or, Option}
+use Rattle.std.specs.Prelude.{◌||◌, ◌&&◌}
+use Rattle.std.specs.List.{list_all, list_any}
+use Rattle.std.proofs.lemmas.List.Folds.{list_all-append, list_any-append}
+use Rattle.tail_book.specs.Seen.{BookSeen}
+use Rattle.tail_book.specs.Lookup.{activities, aircraft}
+use Rattle.tail_book.specs.Tests.{is_allowed}
+use Rattle.branch_marks.specs.declared.fact.Fact.{Fact}
+use Rattle.branch_marks.specs.declared.fact.Fact.TheVariants.{Bar, Must, Cut, Tie}
+use Rattle.branch_marks.specs.declared.named.Named.{Named}
+use Rattle.branch_marks.specs.declared.named.Named.TheVariants.{Nothing}
+use Rattle.branch_marks.specs.Facts.{IsFactOf}
+use Rattle.branch_marks.specs.MarkTests.{is_alive, lets_fly}
+use Rattle.branch_marks.specs.BitRows.{BitRowsSeen, has_pair, AreChanged}
+use Rattle.branch_marks.specs.Named.{AreNoted, named_from, with_named}
+use Rattle.branch_marks.specs.MarkTables.{IsAliveTable, IsFactTable, IsNamedTable, IsFactWithin}
+
+all_more : {X : Type 0} (p : X → Bool) (xs : List X) (x : X) → list_all p (xs ++ x ∷ []) ≡ (list_all p xs && p x)
+all_more p xs x = list_all-append p xs (x ∷ []) ∙ ap (λ t. list_all p xs && t) (last (p x))
+  where
+    last : (t : Bool) → (t && true) ≡ t
+    last t = grind arith
+
+any_more : {X : Type 0} (p : X → Bool) (xs : List X) (x : X) → list_any p (xs ++ x ∷ []) ≡ (list_any p xs || p x)
+any_more p xs x = list_any-append p xs (x ∷ []) ∙ ap (λ t. list_any p xs || t) (last (p x))
+  where
+    last : (t : Bool) → (t || false) ≡ t
+    last t = grind arith
+
+-- with no fact, who is alive is who may fly
+pub alive_none : (book : BookSeen) (k a : ℕ) (had in_range : Bool) → had ≡ false → in_range ≡ true → (had || (in_range && is_allowed book k a)) ≡ is_alive book [] k a
+unfolding is_alive
+alive_none book k a had in_range none within = only had in_range (is_allowed book k a) none within
+  where
+    only : (x y z : Bool) → x ≡ false → y ≡ true → (x || (y && z)) ≡ (z && true)
+    only x y z e f = grind arith
+
+-- with one fact more, who is alive is who was and is let fly by it
+alive_with : (book : BookSeen) (marks : List Fact) (fact : Fact) (k a : ℕ) → (is_alive book marks k a && lets_fly k a fact) ≡ is_alive book (marks ++ fact ∷ []) k a
+unfolding is_alive
+alive_with book marks fact k a = three (is_allowed book k a) (list_all (lets_fly k a) marks) (lets_fly k a fact) ∙ ap (λ t. is_allowed book k a && t) (sym (all_more (lets_fly k a) marks fact))
+  where
+    three : (x y z : Bool) → ((x && y) && z) ≡ (x && (y && z))
+    three x y z = grind arith
+
+pub alive_more : (book : BookSeen) (marks : List Fact) (fact : Fact) (old new : BitRowsSeen) → IsAliveTable book marks old → AreChanged (λ a k had. had && lets_fly k a fact) old new
+    → IsAliveTable book (marks ++ fact ∷ []) new
+alive_more book marks fact old new table changed = record {
+  rows = changed.rows ∙ table.rows;
+  columns = changed.columns ∙ table.columns;
+  pairs = λ a k la lk. changed.pairs a k (rw table.columns lk) ∙ ap (λ t. t && lets_fly k a fact) (table.pairs a k la lk) ∙ alive_with book marks fact k a;
+}
+
+pub facts_more : (rows columns : ℕ) (kind : ℕ → ℕ → Fact → Bool) (marks : List Fact) (fact : Fact) (old new : BitRowsSeen) → IsFactTable rows columns kind marks old
+    → AreChanged (λ r c had. had || kind r c fact) old new → IsFactTable rows columns kind (marks ++ fact ∷ []) new
+facts_more rows columns kind marks fact old new table changed = record {
+  rows_are = changed.rows ∙ table.rows_are;
+  columns_are = changed.columns ∙ table.columns_are;
+  pairs = λ r c lr lc. changed.pairs r c (rw table.columns_are lc) ∙ ap (λ t. t || kind r c fact) (table.pairs r c lr lc) ∙ sym (any_more (kind r c) marks fact);
+}
+
+named_last : (names : Fact → Option ℕ) (so_far : Named) (marks : List Fact) (fact : Fact) → named_from names so_far (marks ++ fact ∷ []) ≡ with_named (named_from names so_far marks) (names fact)
+named_last names so_far [] fact = refl
+named_last names so_far (first ∷ rest) fact = named_last names (with_named so_far (names first)) rest fact
+
+pub named_more : (n : ℕ) (names : ℕ → Fact → Option ℕ) (marks : List Fact) (fact : Fact) (old new : List Named) → IsNamedTable n names marks old
+    → AreNoted (λ a. names a fact) old new → IsNamedTable n names (marks ++ fact ∷ []) new
+named_more n names marks fact old new table noted = record {
+  count = noted.count ∙ table.count;
+  each = λ a la. noted.each a (rw table.count la) ∙ ap (λ t. with_named t (names a fact)) (table.each a la) ∙ sym (named_last (names a) Nothing marks fact);
+}
+
+-- a fact of the book is within the numbers of the book's marks
+pub within_marks : (book : BookSeen) (m n : ℕ) (fact : Fact) → m ≡ aircraft book → n ≡ activities book → IsFactOf book fact → IsFactWithin m n fact
+within_marks book m n (Bar k a) em en h = (omega (arith, h.0, em), omega (arith, h.1, en))
+within_marks book m n (Must k a) em en h = (omega (arith, h.0, em), omega (arith, h.1, en))
+within_marks book m n (Cut a b) em en h = (omega (arith, h.0, en), omega (arith, h.1, en))
+within_marks book m n (Tie a b) em en h = (omega (arith, h.0, en), omega (arith, h.1, en))
+
+-- tables that have nothing say what no fact says
+pub facts_none : (rows columns : ℕ) (kind : ℕ → ℕ → Fact → Bool) (table : BitRowsSeen) → table.rows ≡ rows → table.columns ≡ columns → ((r c : ℕ) → has_pair table r c ≡ false)
+    → IsFactTable rows columns kind [] table
+facts_none rows columns kind table er ec none = record { rows_are = er; columns_are = ec; pairs = λ r c lr lc. none r c }
+
+pub named_none : (n : ℕ) (names : ℕ → Fact → Option ℕ) (named : List Named) → length named ≡ n → ((a : ℕ) → get_or named a Nothing ≡ Nothing) → IsNamedTable n names [] named
+named_none n names named count none = record { count = count; each = λ a la. none a }
+
+-- and what is within them is of the book
+pub of_book : (book : BookSeen) (m n : ℕ) (fact : Fact) → m ≡ aircraft book → n ≡ activities book → IsFactWithin m n fact → IsFactOf book fact
+of_book book m n (Bar k a) em en h = (omega (arith, h.0, em), omega (arith, h.1, en))
+of_book book m n (Must k a) em en h = (omega (arith, h.0, em), omega (arith, h.1, en))
+of_book book m n (Cut a b) em en h = (omega (arith, h.0, en), omega (arith, h.1, en))
+of_book book m n (Tie a b) em en h = (omega (arith, h.0, en), omega (arith, h.1, en))

@@ -1,0 +1,8 @@
+use Rattle.std.proofs.Common.{◌≡◌, take, false}
+use Rattle.std.specs.List.{list_any}
+use Rattle.branch_marks.specs.MarkTables.{is_tie}
+use Rattle.branch_marks.proofs.marks.ties.Given as goal
+
+-- none of the facts so far does
+abbrev pub invariant-loop-fact : goal.invariant-loop-fact
+invariant-loop-fact l = list_any (is_tie l.a l.b) (take l.fact-index l.facts) ≡ false
