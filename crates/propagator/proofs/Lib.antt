@@ -3,3 +3,4 @@ pub mod MoreMarks
 pub mod SameFor
 pub mod DeadBars
 pub mod DeadCuts
+pub mod KeptFloors

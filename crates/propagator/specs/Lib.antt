@@ -1,5 +1,6 @@
 pub mod InTurn
 pub mod Closed
+pub mod FloorRow
 pub mod LeastOver
 pub mod SameFor
 pub mod OneMore

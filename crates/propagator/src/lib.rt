@@ -1,6 +1,7 @@
 //! Propagation: all facts that follow from marks are added to them.
 #![tactic(auto)]
 
+mod floor_row;
 mod hole;
 pub mod laws;
 
