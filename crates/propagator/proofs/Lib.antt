@@ -4,3 +4,4 @@ pub mod SameFor
 pub mod DeadBars
 pub mod DeadCuts
 pub mod KeptFloors
+pub mod Neighbours

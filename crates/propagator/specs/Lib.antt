@@ -4,3 +4,4 @@ pub mod FloorRow
 pub mod LeastOver
 pub mod SameFor
 pub mod OneMore
+pub mod Neighbours

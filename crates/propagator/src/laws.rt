@@ -3,8 +3,13 @@
 ghost use Rattle.propagator.specs.LeastOver.{FloorsAreLeast, LeastAreFloors};
 ghost use Rattle.propagator.specs.SameFor.{SameFloors, SameDead, BarsLeaveOthers, MustsLeaveOthers};
 ghost use Rattle.propagator.specs.OneMore.{BarsTakeOneFloor, BarsKillNothingLater, CutsTakeNoFloor, CutsMakeNothingFollow};
+ghost use Rattle.propagator.specs.Neighbours.{LinksLeaveTime, PredecessorsComeBefore, PredecessorsBringAll, SuccessorsAreOfBook, SuccessorsTell};
+ghost use Rattle.tail_book.specs.Seen.{BookSeen};
+ghost use Rattle.std.specs.Prelude.{ℕ, ℤ, List};
+ghost use Rattle.branch_marks.specs.declared.fact.Fact.{Fact as MarkFact};
 
 use branch_marks::laws::{alive_decides, may_end_decides, usable_decides};
+use connection_net::laws::{predecessors_are_links, rows_rise, successors_are_links};
 use tail_book::laws::{limits_decide, links_rise};
 
 /// Each floor is the least of what the places before it bring.
@@ -82,4 +87,45 @@ pub fn cuts_make_nothing_follow()
     alive_decides();
     usable_decides();
     may_end_decides();
+}
+
+/// Where there is a link, the aircraft is free in time.
+pub fn links_leave_time()
+    ensures { LinksLeaveTime }
+{}
+
+/// Predecessors have smaller numbers.
+pub fn predecessors_come_before()
+    ensures { PredecessorsComeBefore }
+{
+    predecessors_are_links();
+    rows_rise();
+    links_rise();
+}
+
+/// What is brought to an activity is brought by its predecessors.
+pub fn predecessors_bring_all()
+    ensures { PredecessorsBringAll }
+{
+    predecessors_are_links();
+    rows_rise();
+    links_rise();
+    usable_decides();
+}
+
+/// Successors are of the book.
+pub fn successors_are_of_book()
+    ensures { SuccessorsAreOfBook }
+{
+    rows_rise();
+}
+
+/// Successors tell whether an aircraft can go on.
+pub fn successors_tell()
+    ensures { (book : BookSeen) (marks : List MarkFact) (k a : ℕ) (values : List ℤ) → SuccessorsTell book marks k a values }
+{
+    successors_are_links();
+    rows_rise();
+    usable_decides();
+    limits_decide();
 }
