@@ -5,3 +5,5 @@ pub mod DeadBars
 pub mod DeadCuts
 pub mod KeptFloors
 pub mod Neighbours
+pub mod NotAlive
+pub mod ComeOn

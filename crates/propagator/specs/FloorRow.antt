@@ -1,5 +1,7 @@
 -- The floors of one aircraft as two flat lists: whether there is a floor, and its values.
-use Rattle.std.specs.Prelude.{ℕ, ℤ, ◌≡◌, ◌*◌, ◌≤◌, ⊤, List, [], ◌∷◌, Bool, Option, None, Some, All, if◌then◌else◌, length, take, drop}
+use Rattle.std.specs.Prelude.{ℕ, ℤ, ◌≡◌, ◌≢◌, ◌*◌, ◌≤◌, ⊤, List, [], ◌∷◌, Bool, Option, None, Some, All, if◌then◌else◌, length, take, drop, slice_index_or}
+use Rattle.tail_book.specs.Seen.{BookSeen}
+use Rattle.tail_book.specs.Lookup.{activities}
 use Rattle.maint_counters.specs.Counts.{AreCounts}
 
 -- what contracts see of the floors: how many values each has, and for each activity its floor or none
@@ -23,3 +25,19 @@ pub record IsFloorRow (width : ℕ) (flags : List Bool) (values : List ℤ) : Ty
   pub few : length flags ≤ 4096
   pub narrow : width ≤ 6
   pub kept : All (IsKept width) (kept_floors width flags values)
+
+-- the floor of a number in a row
+abbrev pub floor_in : FloorRowSeen → ℕ → Option (List ℤ)
+floor_in row a = slice_index_or row.floors a None
+
+-- the rows differ at b alone, where the new one has this floor
+pub record IsSetAt (b : ℕ) (floor : Option (List ℤ)) (old new : FloorRowSeen) : Type 0 where
+  pub width : new.width ≡ old.width
+  pub count : length new.floors ≡ length old.floors
+  pub here : floor_in new b ≡ floor
+  pub others : (a : ℕ) → a ≢ b → floor_in new a ≡ floor_in old a
+
+-- the row has room for the book's floors
+pub record IsRowOf (book : BookSeen) (row : FloorRowSeen) : Type 0 where
+  pub width : row.width ≡ length book.rules.counters
+  pub count : length row.floors ≡ activities book

@@ -1,10 +1,11 @@
 -- The floor at an activity as the least of what each place before it brings.
-use Rattle.std.specs.Prelude.{ℕ, ℤ, ◌≡◌, ◌<◌, List, [], ◌∷◌, Option, Some, None}
+use Rattle.std.specs.Prelude.{ℕ, ℤ, ◌≡◌, ◌<◌, false, List, [], ◌∷◌, Option, Some, None}
 use Rattle.std.specs.List.{range_with_len}
 use Rattle.tail_book.specs.Seen.{BookSeen}
 use Rattle.tail_book.specs.declared.place.Place.TheVariants.{Carry, After}
 use Rattle.tail_book.specs.Lookup.{activities, carry_of}
 use Rattle.branch_marks.specs.declared.fact.Fact.{Fact}
+use Rattle.branch_marks.specs.MarkTests.{is_alive}
 use Rattle.branch_marks.specs.Floors.{lesser_floor, stepped_floor, floor_at}
 
 -- the floor of aircraft k at activity a
@@ -37,3 +38,7 @@ abbrev pub LeastAreFloors : Type 0
 LeastAreFloors = (book : BookSeen) (marks : List Fact) (k : ℕ) (floor : ℕ → Option (List ℤ))
     → ((b : ℕ) → b < activities book → floor b ≡ least_at book marks k floor b)
     → (b : ℕ) → b < activities book → floor b ≡ floor_of book marks k b
+
+-- where an activity is not alive, there is no floor
+abbrev pub NoFloorWithout : Type 0
+NoFloorWithout = (book : BookSeen) (marks : List Fact) (k b : ℕ) → b < activities book → is_alive book marks k b ≡ false → floor_of book marks k b ≡ None

@@ -1,6 +1,6 @@
 //! Laws over the definitions alone: the contract of each function is the law.
 
-ghost use Rattle.propagator.specs.LeastOver.{FloorsAreLeast, LeastAreFloors};
+ghost use Rattle.propagator.specs.LeastOver.{FloorsAreLeast, LeastAreFloors, NoFloorWithout};
 ghost use Rattle.propagator.specs.SameFor.{SameFloors, SameDead, BarsLeaveOthers, MustsLeaveOthers};
 ghost use Rattle.propagator.specs.OneMore.{BarsTakeOneFloor, BarsKillNothingLater, CutsTakeNoFloor, CutsMakeNothingFollow};
 ghost use Rattle.propagator.specs.Neighbours.{LinksLeaveTime, PredecessorsComeBefore, PredecessorsBringAll, SuccessorsAreOfBook, SuccessorsTell};
@@ -128,4 +128,11 @@ pub fn successors_tell()
     rows_rise();
     usable_decides();
     limits_decide();
+}
+
+/// Where an activity is not alive, there is no floor.
+pub fn no_floor_without()
+    ensures { NoFloorWithout }
+{
+    floors_are_least();
 }

@@ -2,6 +2,7 @@
 #![tactic(auto)]
 
 mod floor_row;
+mod floors;
 mod hole;
 pub mod laws;
 
