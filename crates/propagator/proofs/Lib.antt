@@ -7,3 +7,4 @@ pub mod KeptFloors
 pub mod Neighbours
 pub mod NotAlive
 pub mod ComeOn
+pub mod InTurn

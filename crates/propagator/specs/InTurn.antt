@@ -28,3 +28,7 @@ pub record GrowInTurn (book : BookSeen) (old new listed listing : List Fact) : T
   pub list : listing ≡ listed ++ added
   pub follow : FollowInTurn book old added
   pub wait : WaitInTurn book old added
+
+-- what follows is not yet there
+abbrev pub WhatFollowsIsNew : Type 0
+WhatFollowsIsNew = (book : BookSeen) (marks : List Fact) (fact : Fact) → Follows book marks fact → ¬ Contains marks fact

@@ -5,3 +5,4 @@ pub mod LeastOver
 pub mod SameFor
 pub mod OneMore
 pub mod Neighbours
+pub mod Settling

@@ -7,6 +7,7 @@ ghost use Rattle.propagator.specs.Neighbours.{LinksLeaveTime, PredecessorsComeBe
 ghost use Rattle.tail_book.specs.Seen.{BookSeen};
 ghost use Rattle.std.specs.Prelude.{ℕ, ℤ, List};
 ghost use Rattle.branch_marks.specs.declared.fact.Fact.{Fact as MarkFact};
+ghost use Rattle.propagator.specs.InTurn.{WhatFollowsIsNew};
 
 use branch_marks::laws::{alive_decides, may_end_decides, usable_decides};
 use connection_net::laws::{predecessors_are_links, rows_rise, successors_are_links};
@@ -136,3 +137,8 @@ pub fn no_floor_without()
 {
     floors_are_least();
 }
+
+/// What follows is not yet there.
+pub fn what_follows_is_new()
+    ensures { WhatFollowsIsNew }
+{}

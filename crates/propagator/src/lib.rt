@@ -1,6 +1,7 @@
 //! Propagation: all facts that follow from marks are added to them.
 #![tactic(auto)]
 
+mod adding;
 mod floor_row;
 mod floors;
 mod hole;
