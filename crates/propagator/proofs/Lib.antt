@@ -8,3 +8,4 @@ pub mod Neighbours
 pub mod NotAlive
 pub mod ComeOn
 pub mod InTurn
+pub mod Settling

@@ -38,3 +38,23 @@ pub fn add_next(
     }
     Ok(())
 }
+
+/// Adds a Bar that follows.
+pub fn add_bar(
+    book: &Book,
+    marks: &mut Marks,
+    facts: &mut Vec<Fact>,
+    k: u32,
+    a: u32,
+) -> Result<(), Memory>
+    requires marks { AreMarksOf book.now marks.old }
+    requires dead { IsDead book.now marks.old.facts k a }
+    ensures marks { AreMarksOf book.now marks.new }
+    ensures added { OnOk result (marks.new.facts ≡ marks.old.facts ++ FactBar k a ∷ []) }
+    ensures memory { OnErr result (marks.new.facts ≡ marks.old.facts) }
+    ensures grows { GrowInTurn book.now marks.old.facts marks.new.facts facts.old.items facts.new.items }
+    ensures acts { ActsOn book.now k marks.old.facts marks.new.facts }
+{
+    bars_leave_others();
+    add_next(book, marks, facts, Fact::Bar(k, a))
+}

@@ -2,6 +2,7 @@
 #![tactic(auto)]
 
 mod adding;
+mod arrivals;
 mod floor_row;
 mod floors;
 mod hole;
