@@ -9,3 +9,4 @@ pub mod NotAlive
 pub mod ComeOn
 pub mod InTurn
 pub mod Settling
+pub mod DeadEnds

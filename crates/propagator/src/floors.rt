@@ -4,9 +4,12 @@
 //! predecessors in the network can bring anything to it. An activity that is not alive takes no step at all, and one
 //! that is takes a step for each predecessor with a floor.
 
-ghost use Rattle.std.specs.Prelude.{◌≡◌, ◌<◌, ℕ, IsTrue, None, Some, if◌then◌else◌, length};
+ghost use Rattle.std.specs.Prelude.{◌≡◌, ◌<◌, ◌&&◌, ℕ, IsTrue, None, Some, if◌then◌else◌, length};
 ghost use Rattle.tail_book.specs.Lookup.{activities, aircraft};
 ghost use Rattle.tail_book.specs.Place.{IsPlaceOf};
+ghost use Rattle.tail_book.specs.Counters.{step};
+ghost use Rattle.tail_book.specs.Tests.{within_limits};
+ghost use Rattle.branch_marks.specs.MarkTests.{is_usable};
 ghost use Rattle.maint_counters.specs.Counts.{AreCounts};
 ghost use Rattle.maint_counters.specs.StepTable.{IsStepTableOf};
 ghost use Rattle.connection_net.specs.Net.{net_of};
@@ -45,6 +48,7 @@ pub fn goes_to(
     requires activity { b < activities book.now }
     requires width { length values.old ≡ length book.now.rules.counters }
     requires range { AreCounts values.old }
+    ensures tests { result ≡ (is_usable book.now marks.now.facts k from b && within_limits book.now.rules.counters (step book.now k from b values.old)) }
     ensures brings { stepped_floor book.now marks.now.facts k from b (Some values.old) ≡ (if result then Some values.new else None) }
     ensures range { IsTrue result → AreCounts values.new }
 {
