@@ -26,7 +26,7 @@ use Rattle.propagator.specs.Settling.{ActsOn, ComesBelow}
 use Rattle.propagator.proofs.ComeOn.{same_list}
 use Rattle.propagator.proofs.InTurn.{grow_both}
 use Rattle.propagator.proofs.MoreMarks.{barred, elsewhere_alive}
-use Rattle.propagator.proofs.Settling.{acts_on}
+use Rattle.propagator.proofs.Arriving.{acts_on}
 
 not_true : (g : Bool) → IsTrue (not g) → g ≡ false
 not_true true h = sym h

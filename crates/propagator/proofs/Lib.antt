@@ -8,5 +8,6 @@ pub mod Neighbours
 pub mod NotAlive
 pub mod ComeOn
 pub mod InTurn
-pub mod Settling
+pub mod Arriving
 pub mod DeadEnds
+pub mod Settled

@@ -1,7 +1,7 @@
 -- The floors of one aircraft as two flat lists: whether there is a floor, and its values.
 use Rattle.std.specs.Prelude.{ℕ, ℤ, ◌≡◌, ◌≢◌, ◌*◌, ◌≤◌, ⊤, List, [], ◌∷◌, Bool, Option, None, Some, All, if◌then◌else◌, length, take, drop, slice_index_or}
 use Rattle.tail_book.specs.Seen.{BookSeen}
-use Rattle.tail_book.specs.Lookup.{activities}
+use Rattle.tail_book.specs.Lookup.{activities, aircraft}
 use Rattle.maint_counters.specs.Counts.{AreCounts}
 
 -- what contracts see of the floors: how many values each has, and for each activity its floor or none
@@ -41,3 +41,20 @@ pub record IsSetAt (b : ℕ) (floor : Option (List ℤ)) (old new : FloorRowSeen
 pub record IsRowOf (book : BookSeen) (row : FloorRowSeen) : Type 0 where
   pub width : row.width ≡ length book.rules.counters
   pub count : length row.floors ≡ activities book
+
+-- what stands where there is no row
+abbrev pub no_row : FloorRowSeen
+no_row = record { width = 0; floors = [] }
+
+-- there is a row for each aircraft, with room for the book's floors
+pub record AreRowsOf (book : BookSeen) (rows : List FloorRowSeen) : Type 0 where
+  pub count : length rows ≡ aircraft book
+  pub each : All (IsRowOf book) rows
+
+-- the floors in the row of aircraft k
+abbrev pub floors_in : List FloorRowSeen → ℕ → List (Option (List ℤ))
+floors_in rows k = (slice_index_or rows k no_row).floors
+
+-- the rows differ at most in that of aircraft k
+abbrev pub ChangesOnly : ℕ → List FloorRowSeen → List FloorRowSeen → Type 0
+ChangesOnly k old new = (j : ℕ) → j ≢ k → floors_in new j ≡ floors_in old j

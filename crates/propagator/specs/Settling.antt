@@ -5,6 +5,8 @@ use Rattle.tail_book.specs.Lookup.{activities}
 use Rattle.branch_marks.specs.declared.fact.Fact.{Fact}
 use Rattle.branch_marks.specs.MarkTests.{is_alive}
 use Rattle.branch_marks.specs.Following.{IsDead}
+use Rattle.branch_marks.specs.Floors.{floors}
+use Rattle.propagator.specs.FloorRow.{FloorRowSeen, floors_in}
 use Rattle.propagator.specs.LeastOver.{floor_of}
 use Rattle.propagator.specs.SameFor.{SameFor}
 
@@ -20,3 +22,12 @@ ComesBelow book marks k n = (a : ℕ) → a < n → is_alive book marks k a ≡ 
 -- nothing is dead for aircraft k
 abbrev pub IsSettledFor : BookSeen → List Fact → ℕ → Type 0
 IsSettledFor book marks k = (a : ℕ) → a < activities book → ¬ IsDead book marks k a
+
+-- nothing is dead for aircraft k, and its row has its floors
+pub record StandsFor (book : BookSeen) (marks : List Fact) (rows : List FloorRowSeen) (k : ℕ) : Type 0 where
+  pub settled : IsSettledFor book marks k
+  pub floors : floors_in rows k ≡ floors book marks k
+
+-- and so for each aircraft below n
+abbrev pub StandBelow : BookSeen → List Fact → List FloorRowSeen → ℕ → Type 0
+StandBelow book marks rows n = (k : ℕ) → k < n → StandsFor book marks rows k

@@ -8,5 +8,6 @@ mod floor_row;
 mod floors;
 mod hole;
 pub mod laws;
+mod settling;
 
 pub use hole::Closed;

@@ -7,7 +7,7 @@ use Rattle.branch_marks.specs.MarkTests.{is_alive}
 use Rattle.branch_marks.specs.Floors.{floors}
 use Rattle.propagator.specs.LeastOver.{floor_of}
 use Rattle.propagator.proofs.MoreMarks.{barred}
-use Rattle.propagator.proofs.Settling.{arrival_floors, dead_arrival}
+use Rattle.propagator.proofs.Arriving.{arrival_floors, dead_arrival}
 use Rattle.propagator.proofs.arrivals.bar_arrival.Goals as goal
 
 pub returns-in_ok-add_bar-clause-floors : goal.returns-in_ok-add_bar-clause-floors

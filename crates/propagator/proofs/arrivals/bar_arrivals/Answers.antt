@@ -2,7 +2,7 @@ use Rattle.std.proofs.Common.{◌<◌, arith, ap, length}
 use Rattle.tail_book.specs.Seen.{BookSeen}
 use Rattle.tail_book.specs.Lookup.{activities}
 use Rattle.propagator.proofs.InTurn.{grow_both}
-use Rattle.propagator.proofs.Settling.{acts_on, arrive_next}
+use Rattle.propagator.proofs.Arriving.{acts_on, arrive_next}
 use Rattle.propagator.proofs.arrivals.bar_arrivals.Goals as goal
 
 -- what was added before the memory failed, and what was added then

@@ -1,4 +1,4 @@
-use Rattle.propagator.proofs.Settling.{IsArriving}
+use Rattle.propagator.proofs.Arriving.{IsArriving}
 use Rattle.propagator.proofs.arrivals.bar_arrivals.Given as goal
 
 -- the activities below a are alive only where the aircraft comes

@@ -1,7 +1,7 @@
 use Rattle.std.proofs.Common.{◌∙◌, ◌-◌, ℤ, List, Option, ap, arith, length}
 use Rattle.propagator.proofs.DeadEnds.{end_next}
 use Rattle.propagator.proofs.InTurn.{grow_both}
-use Rattle.propagator.proofs.Settling.{acts_on}
+use Rattle.propagator.proofs.Arriving.{acts_on}
 use Rattle.propagator.proofs.dead_ends.bar_ends.Goals as goal
 
 pub bar_end-requires-clause-row : goal.bar_end-requires-clause-row
