@@ -11,3 +11,4 @@ pub mod InTurn
 pub mod Arriving
 pub mod DeadEnds
 pub mod Settled
+pub mod OnlyCarriers

@@ -6,3 +6,4 @@ pub mod SameFor
 pub mod OneMore
 pub mod Neighbours
 pub mod Settling
+pub mod Unnamed

@@ -3,6 +3,7 @@
 
 mod adding;
 mod arrivals;
+mod carriers;
 mod dead_ends;
 mod floor_row;
 mod floors;
