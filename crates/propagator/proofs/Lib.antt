@@ -12,3 +12,4 @@ pub mod Arriving
 pub mod DeadEnds
 pub mod Settled
 pub mod OnlyCarriers
+pub mod DeadLinks

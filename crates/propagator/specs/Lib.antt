@@ -7,3 +7,4 @@ pub mod OneMore
 pub mod Neighbours
 pub mod Settling
 pub mod Unnamed
+pub mod Cutting

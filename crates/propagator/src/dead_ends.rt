@@ -20,7 +20,7 @@ ghost use Rattle.propagator.specs.Settling.{ActsOn, ComesBelow, IsSettledFor};
 
 use crate::adding::add_bar;
 use crate::floor_row::FloorRow;
-use crate::floors::goes_to;
+use crate::floors::goes_on_to;
 use crate::laws::{
     bars_kill_nothing_later, bars_take_one_floor, successors_are_of_book, successors_tell,
 };
@@ -31,29 +31,6 @@ use connection_net::laws::rows_for_each;
 use maint_counters::StepTable;
 use tail_book::laws::every_book_is_sound;
 use tail_book::{Book, Memory, Place};
-
-// Whether an aircraft can go on from an activity to another one, by its floor there.
-fn goes_on_to(
-    book: &Book,
-    steps: &StepTable,
-    marks: &Marks,
-    k: u32,
-    a: u32,
-    b: u32,
-    row: &FloorRow,
-    values: &mut [i64],
-) -> bool
-    requires steps { IsStepTableOf book.now steps.now }
-    requires marks { AreMarksOf book.now marks.now }
-    requires aircraft { k < aircraft book.now }
-    requires place { a < activities book.now }
-    requires activity { b < activities book.now }
-    requires row { IsRowOf book.now row.now }
-    requires width { length values.old ≡ length book.now.rules.counters }
-    ensures { (low : List ℤ) → floor_in row.now a ≡ Some low → result ≡ goes_on_to book.now marks.now.facts k a low b }
-{
-    row.read(a as usize, values) && goes_to(book, steps, marks, k, Place::After(a), b, values)
-}
 
 // Whether an aircraft can go on from an activity, by its floor there.
 fn goes_on(

@@ -4,7 +4,7 @@
 //! predecessors in the network can bring anything to it. An activity that is not alive takes no step at all, and one
 //! that is takes a step for each predecessor with a floor.
 
-ghost use Rattle.std.specs.Prelude.{◌≡◌, ◌<◌, ◌&&◌, ℕ, IsTrue, None, Some, if◌then◌else◌, length};
+ghost use Rattle.std.specs.Prelude.{◌≡◌, ◌<◌, ◌&&◌, ℕ, ℤ, List, false, IsTrue, None, Some, if◌then◌else◌, length};
 ghost use Rattle.tail_book.specs.Lookup.{activities, aircraft};
 ghost use Rattle.tail_book.specs.Place.{IsPlaceOf};
 ghost use Rattle.tail_book.specs.Counters.{step};
@@ -17,6 +17,7 @@ ghost use Rattle.branch_marks.specs.MarkTables.{AreMarksOf};
 ghost use Rattle.branch_marks.specs.Floors.{floors, lesser_floor, stepped_floor};
 ghost use Rattle.propagator.specs.FloorRow.{floor_in, IsSetAt, IsRowOf};
 ghost use Rattle.propagator.specs.LeastOver.{floor_of, brought_first, brought};
+ghost use Rattle.propagator.specs.Neighbours.{goes_on_to};
 
 use crate::floor_row::FloorRow;
 use crate::laws::{
@@ -55,6 +56,30 @@ pub fn goes_to(
     every_book_is_sound(book);
     links_leave_time();
     marks.usable(book, k, from, b) && step_by(book, steps, k, from, b, values)
+}
+
+/// Whether an aircraft can go on from an activity to another one, by its floor there.
+pub fn goes_on_to(
+    book: &Book,
+    steps: &StepTable,
+    marks: &Marks,
+    k: u32,
+    a: u32,
+    b: u32,
+    row: &FloorRow,
+    values: &mut [i64],
+) -> bool
+    requires steps { IsStepTableOf book.now steps.now }
+    requires marks { AreMarksOf book.now marks.now }
+    requires aircraft { k < aircraft book.now }
+    requires place { a < activities book.now }
+    requires activity { b < activities book.now }
+    requires row { IsRowOf book.now row.now }
+    requires width { length values.old ≡ length book.now.rules.counters }
+    ensures some { (low : List ℤ) → floor_in row.now a ≡ Some low → result ≡ goes_on_to book.now marks.now.facts k a low b }
+    ensures none { floor_in row.now a ≡ None → result ≡ false }
+{
+    row.read(a as usize, values) && goes_to(book, steps, marks, k, Place::After(a), b, values)
 }
 
 // Lowers the floor at an activity to what the carry-in brings there.

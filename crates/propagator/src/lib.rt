@@ -5,6 +5,7 @@ mod adding;
 mod arrivals;
 mod carriers;
 mod dead_ends;
+mod dead_links;
 mod floor_row;
 mod floors;
 mod hole;
