@@ -1,8 +1,12 @@
 -- Judging a link by going over the aircraft, and cutting links one after the other.
-use Rattle.std.specs.Prelude.{◌≢◌, ◌&&◌, Contains, IsTrue}
-use Rattle.std.proofs.Common.{◌≡◌, ◌∙◌, ℕ, ℤ, ◌<◌, ◌≤◌, ◌+◌, Bool, true, false, List, [], ◌∷◌, ◌++◌, length, get_or, refl, sym, ap, subst, arith, below_more, Option, None, Some}
+use Rattle.std.specs.Prelude.{◌≢◌, ◌&&◌, ◌||◌, Contains, IsTrue, nat_eq}
+use Rattle.std.proofs.lemmas.List.Elements.{Contains-push}
+use Rattle.tail_book.specs.Numbers.{contains}
+use Rattle.connection_net.specs.Laws.{SuccessorsAreLinks}
+use Rattle.connection_net.specs.Net.{net_of, successors_in}
+use Rattle.std.proofs.Common.{◌≡◌, ◌∙◌, ℕ, ℤ, ◌<◌, ◌≤◌, ◌+◌, suc, inl, inr, Bool, true, false, List, [], ◌∷◌, ◌++◌, length, get_or, refl, sym, ap, subst, arith, below_more, Option, None, Some}
 use Rattle.std.proofs.lemmas.List.{get_or_default}
-use Rattle.std.proofs.lemmas.Bool.{both_ways, and_from, and_parts}
+use Rattle.std.proofs.lemmas.Bool.{both_ways, and_from, and_parts, or_cases, eqb-true}
 use Rattle.tail_book.specs.Seen.{BookSeen}
 use Rattle.tail_book.specs.declared.place.Place.TheVariants.{After}
 use Rattle.tail_book.specs.Lookup.{activities, aircraft}
@@ -82,3 +86,62 @@ asked_unused book marks a b n used now asked not e = record {
   none = λ off. below_more (λ (k : ℕ). ¬ IsUsable book marks k (After a) b) n (asked.none (sym e ∙ off)) not;
   dead = below_more (λ (k : ℕ). IsUsable book marks k (After a) b → CannotGoBy book k a b (floor_of book marks k a)) n asked.dead (λ link. absurd (not link));
 }
+
+pub nothing_itself : (book : BookSeen) (marks : List Fact) → NothingNewFollows book marks marks
+nothing_itself book marks fact f = f
+
+-- what is shut for floors stays so where nothing new follows
+pub shut_kept : (book : BookSeen) (old new : List Fact) → IsShutForFloors book old → NothingNewFollows book old new → IsShutForFloors book new
+shut_kept book old new shut nothing (Bar k a) of f = shut (Bar k a) of (nothing (Bar k a) f)
+shut_kept book old new shut nothing (Must k a) of f = f
+shut_kept book old new shut nothing (Cut a b) of f = f
+shut_kept book old new shut nothing (Tie a b) of f = f
+
+-- a Cut that follows leaves the rows right
+pub cut_floors : CutsTakeNoFloor → FloorsCount → (book : BookSeen) (marks : List Fact) (c d : ℕ) (rows : List FloorRowSeen) → IsDeadConnection book marks c d
+    → AreFloorsOf book marks rows → AreFloorsOf book (marks ++ Cut c d ∷ []) rows
+cut_floors take count book marks c d rows dead are k lt =
+    let more = count book (marks ++ Cut c d ∷ []) k in
+    let same = count book marks k in
+    are k lt ∙ sym (same_list (floors book (marks ++ Cut c d ∷ []) k) (floors book marks k) None (omega (arith, more, same))
+    (λ i less. take book marks c d dead k i (omega (arith, more, less))))
+
+-- a connection that is cut is not dead any more: it is there
+pub cut_once : (book : BookSeen) (marks : List Fact) (c d : ℕ) → ¬ IsDeadConnection book (marks ++ Cut c d ∷ []) c d
+cut_once book marks c d dead = dead.new (Contains-push marks (Cut c d))
+
+-- links have been cut, from old marks to new ones
+pub record AreCut (book : BookSeen) (old new : MarksSeen) (listed listing : List Fact) (rows : List FloorRowSeen) : Type 0 where
+  pub marks : AreMarksOf book new
+  pub grows : GrowInTurn book old.facts new.facts listed listing
+  pub floors : AreFloorsOf book new.facts rows
+  pub nothing : NothingNewFollows book old.facts new.facts
+
+pub cut_more : (book : BookSeen) (a b c : MarksSeen) (l m o : List Fact) (rows : List FloorRowSeen) → AreCut book a b l m rows → AreMarksOf book c
+    → GrowInTurn book b.facts c.facts m o → AreFloorsOf book c.facts rows → NothingNewFollows book b.facts c.facts → AreCut book a c l o rows
+cut_more book a b c l m o rows so_far marks grows floors nothing = record {
+  marks = marks;
+  grows = grow_both book a.facts b.facts c.facts l m o so_far.grows grows;
+  floors = floors;
+  nothing = λ fact f. so_far.nothing fact (nothing fact f);
+}
+
+-- what is not dead stays so
+pub never_new : (book : BookSeen) (old new : List Fact) (a b : ℕ) → NothingNewFollows book old new → ¬ IsDeadConnection book old a b → ¬ IsDeadConnection book new a b
+never_new book old new a b nothing not dead = not (nothing (Cut a b) dead)
+
+-- what a list contains stands at some number
+stands_at : (xs : List ℕ) (y : ℕ) → contains xs y ≡ true → (i : ℕ) × (i < length xs) × (get_or xs i 0 ≡ y)
+stands_at [] y h = absurd (both_ways false refl h)
+stands_at (x ∷ xs) y h = elim (or_cases (nat_eq y x) (contains xs y) h) [
+  | inl t ↦ (0, omega arith, sym (eqb-true y x t))
+  | inr t ↦ (let (i, lt, e) = stands_at xs y t in (suc i, omega (arith, lt), e))
+]
+
+-- where no successor is dead to come to, no connection is
+pub none_dead : SuccessorsAreLinks → (book : BookSeen) (marks : List Fact) (a : ℕ) (items : List ℕ) → items ≡ successors_in (net_of book) a
+    → ((i : ℕ) → i < length items → ¬ IsDeadConnection book marks a (get_or items i 0)) → (b : ℕ) → ¬ IsDeadConnection book marks a b
+none_dead links book marks a items are none b dead =
+    let (k, lt, link) = dead.usable in
+    let (i, within, e) = stands_at items b (ap (λ (xs : List ℕ). contains xs b) are ∙ (links book a b).1 (k, lt, link.link)) in
+    none i within (subst (λ (z : ℕ). IsDeadConnection book marks a z) (sym e) dead)
