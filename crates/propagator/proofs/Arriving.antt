@@ -1,6 +1,6 @@
 -- Adding Bars of one aircraft: each leaves all others the same, and those of arrivals leave even its own floors.
-use Rattle.std.specs.Prelude.{Result, Ok, Err, OnOk, OnErr, ◌≢◌, ◌&&◌, is_some, nat_eq, if◌then◌else◌}
-use Rattle.std.proofs.Common.{◌≡◌, ◌∙◌, ℕ, ℤ, ◌<◌, ◌≤◌, ◌+◌, Bool, true, false, inl, inr, List, [], ◌∷◌, ◌++◌, refl, sym, ap, subst, arith, get_or, below_more, Option, None, Some}
+use Rattle.std.specs.Prelude.{Result, Ok, Err, OnOk, OnErr, is_some, nat_eq}
+use Rattle.std.proofs.Common.{◌≡◌, ◌∙◌, ℕ, ℤ, ◌<◌, ◌+◌, true, false, inl, inr, List, [], ◌∷◌, ◌++◌, refl, sym, ap, subst, arith, get_or, below_more, Option, None, Some}
 use Rattle.std.proofs.lemmas.Bool.{and_parts, both_ways, cond-true, cond-false}
 use Rattle.std.proofs.lemmas.Bool.Decides.{eqb_tells}
 use Rattle.tail_book.specs.Seen.{BookSeen}
@@ -20,7 +20,7 @@ use Rattle.propagator.specs.SameFor.{SameFor, BarsLeaveOthers}
 use Rattle.propagator.specs.Settling.{ActsOn, ComesBelow}
 use Rattle.propagator.proofs.ComeOn.{same_list}
 use Rattle.propagator.proofs.InTurn.{grow_both}
-use Rattle.propagator.proofs.MoreMarks.{alive_more, barred}
+use Rattle.propagator.proofs.MoreMarks.{alive_more}
 
 pub same_as_itself : (book : BookSeen) (k : ℕ) (marks : List Fact) → SameFor book k marks marks
 same_as_itself book k marks = record { alive = λ a. refl; usable = λ x b. refl; ends = λ x. refl }

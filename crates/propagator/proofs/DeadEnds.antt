@@ -1,7 +1,7 @@
 -- Going over the dead ends of one aircraft from the last activity to the first.
-use Rattle.std.specs.Prelude.{◌≢◌, IsTrue, not, is_some, nat_eq, if◌then◌else◌}
-use Rattle.std.proofs.Common.{◌≡◌, ◌∙◌, ℕ, ℤ, ◌<◌, ◌≤◌, ◌+◌, ◌⊎◌, Bool, true, false, inl, inr, List, [], ◌∷◌, ◌++◌, refl, sym, ap, subst, arith, get_or, length, Option, None, Some}
-use Rattle.std.proofs.lemmas.Bool.{both_ways, cond-true, cond-false, false_from_ne_true, ne_eqb, cases_order}
+use Rattle.std.specs.Prelude.{IsTrue, not, is_some, nat_eq}
+use Rattle.std.proofs.Common.{◌≡◌, ◌∙◌, ℕ, ℤ, ◌<◌, ◌≤◌, ◌+◌, Bool, true, false, inl, inr, List, [], ◌∷◌, ◌++◌, refl, sym, ap, subst, arith, get_or, length, Option, None, Some}
+use Rattle.std.proofs.lemmas.Bool.{both_ways, cond-true, cond-false, false_from_ne_true, cases_order}
 use Rattle.std.proofs.Math.ListN.{set}
 use Rattle.std.proofs.lemmas.List.{length-set, get_or-set_other}
 use Rattle.std.proofs.lemmas.Grind.{get_or-set_at}
@@ -17,7 +17,7 @@ use Rattle.branch_marks.specs.MarksSeen.{MarksSeen}
 use Rattle.branch_marks.specs.MarkTables.{AreMarksOf}
 use Rattle.branch_marks.specs.Floors.{floors, FloorsCount}
 use Rattle.branch_marks.specs.Following.{IsDeadBy, IsDead}
-use Rattle.propagator.specs.FloorRow.{FloorRowSeen, IsRowOf}
+use Rattle.propagator.specs.FloorRow.{FloorRowSeen}
 use Rattle.propagator.specs.InTurn.{GrowInTurn}
 use Rattle.propagator.specs.LeastOver.{floor_of}
 use Rattle.propagator.specs.Neighbours.{goes_on_from, SuccessorsTell}
@@ -48,7 +48,7 @@ end_tells book marks k a hk ha alive stays (Some low) e some tell g goes = (
     dead = subst (λ (floor : Option (List ℤ)). IsDeadBy book marks k a floor) (sym e) (stays, (tell low).none (sym (goes low e) ∙ not_true g h));
   }),
   (λ d. true_not g (goes low e ∙ false_from_ne_true (goes_on_from book marks k a low)
-    (λ t. (tell low).goes t (subst (λ (floor : Option (List ℤ)). IsDeadBy book marks k a floor) e d.dead).1))),
+      (λ t. (tell low).goes t (subst (λ (floor : Option (List ℤ)). IsDeadBy book marks k a floor) e d.dead).1))),
 )
 
 -- once the floor is taken away, the row has the floors that are left

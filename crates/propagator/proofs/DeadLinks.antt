@@ -1,15 +1,15 @@
 -- Judging a link by going over the aircraft, and cutting links one after the other.
-use Rattle.std.specs.Prelude.{◌≢◌, ◌&&◌, ◌||◌, Contains, IsTrue, nat_eq}
+use Rattle.std.specs.Prelude.{nat_eq}
 use Rattle.std.proofs.lemmas.List.Elements.{Contains-push}
 use Rattle.tail_book.specs.Numbers.{contains}
 use Rattle.connection_net.specs.Laws.{SuccessorsAreLinks}
 use Rattle.connection_net.specs.Net.{net_of, successors_in}
-use Rattle.std.proofs.Common.{◌≡◌, ◌∙◌, ℕ, ℤ, ◌<◌, ◌≤◌, ◌+◌, suc, inl, inr, Bool, true, false, List, [], ◌∷◌, ◌++◌, length, get_or, refl, sym, ap, subst, arith, below_more, Option, None, Some}
+use Rattle.std.proofs.Common.{◌≡◌, ◌∙◌, ℕ, ℤ, ◌<◌, ◌+◌, suc, inl, inr, Bool, true, false, List, [], ◌∷◌, ◌++◌, length, get_or, refl, sym, ap, subst, arith, below_more, Option, None, Some}
 use Rattle.std.proofs.lemmas.List.{get_or_default}
 use Rattle.std.proofs.lemmas.Bool.{both_ways, and_from, and_parts, or_cases, eqb-true}
 use Rattle.tail_book.specs.Seen.{BookSeen}
 use Rattle.tail_book.specs.declared.place.Place.TheVariants.{After}
-use Rattle.tail_book.specs.Lookup.{activities, aircraft}
+use Rattle.tail_book.specs.Lookup.{aircraft}
 use Rattle.tail_book.specs.Counters.{step}
 use Rattle.tail_book.specs.Tests.{within_limits, LimitsDecide}
 use Rattle.branch_marks.specs.declared.fact.Fact.{Fact}
@@ -19,12 +19,12 @@ use Rattle.branch_marks.specs.MarkTests.{is_usable, UsableDecides}
 use Rattle.branch_marks.specs.MarksSeen.{MarksSeen}
 use Rattle.branch_marks.specs.MarkTables.{AreMarksOf}
 use Rattle.branch_marks.specs.Floors.{floors, FloorsCount}
-use Rattle.branch_marks.specs.Following.{CannotGoBy, IsDeadConnection, IsOnlyCarrier, IsShutForFloors, Follows}
+use Rattle.branch_marks.specs.Following.{CannotGoBy, IsDeadConnection, IsShutForFloors}
 use Rattle.propagator.specs.FloorRow.{FloorRowSeen, floor_in, no_row}
 use Rattle.propagator.specs.InTurn.{GrowInTurn}
 use Rattle.propagator.specs.LeastOver.{floor_of}
 use Rattle.propagator.specs.Neighbours.{goes_on_to}
-use Rattle.propagator.specs.OneMore.{CutsTakeNoFloor, CutsMakeNothingFollow}
+use Rattle.propagator.specs.OneMore.{CutsTakeNoFloor}
 use Rattle.propagator.specs.Cutting.{AreFloorsOf, NothingNewFollows}
 use Rattle.propagator.proofs.ComeOn.{same_list}
 use Rattle.propagator.proofs.InTurn.{grow_both}

@@ -13,3 +13,4 @@ pub mod DeadEnds
 pub mod Settled
 pub mod OnlyCarriers
 pub mod DeadLinks
+pub mod Shut

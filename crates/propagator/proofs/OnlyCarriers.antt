@@ -1,9 +1,8 @@
 -- An activity has an only carrier where the first aircraft that is alive there is the last one too, and no Must names it. A
 -- Must gives the activity to that aircraft, so that one activity less is unnamed from then on.
-use Rattle.std.specs.Prelude.{Result, Ok, Err, OnOk, ◌≢◌, ◌||◌, ◌&&◌, Contains, nat_eq, if◌then◌else◌}
+use Rattle.std.specs.Prelude.{Result, Ok, Err, OnOk, ◌≢◌, Contains, nat_eq, if◌then◌else◌}
 use Rattle.std.proofs.Common.{◌≡◌, ◌∙◌, ℕ, zero, suc, ◌<◌, ◌≤◌, ◌+◌, Bool, true, false, inl, inr, List, [], ◌∷◌, ◌++◌, refl, sym, ap, subst, arith}
-use Rattle.std.specs.List.{list_any}
-use Rattle.std.proofs.lemmas.Bool.{both_ways, cases_order, cases_Bool, or_left, or_right, or_cases, and_from, eq-eqb, false_from_ne_true}
+use Rattle.std.proofs.lemmas.Bool.{both_ways, cases_order, or_left, or_right, or_cases, and_from, eq-eqb, false_from_ne_true}
 use Rattle.std.proofs.lemmas.List.Elements.{All-contains}
 use Rattle.std.proofs.lemmas.List.Folds.{list_any-append}
 use Rattle.tail_book.specs.Seen.{BookSeen}

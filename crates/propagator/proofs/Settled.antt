@@ -1,12 +1,10 @@
 -- Settling one aircraft after the other: what is done for one stands while the others are settled.
 use Rattle.std.specs.Prelude.{◌≢◌}
-use Rattle.std.proofs.Common.{◌≡◌, ◌∙◌, ℕ, ℤ, ◌<◌, ◌+◌, List, sym, arith, below_more, Option}
+use Rattle.std.proofs.Common.{◌≡◌, ◌∙◌, ℕ, ◌+◌, List, sym, arith, below_more}
 use Rattle.tail_book.specs.Seen.{BookSeen}
-use Rattle.tail_book.specs.Lookup.{activities, aircraft}
 use Rattle.branch_marks.specs.declared.fact.Fact.{Fact}
 use Rattle.branch_marks.specs.MarksSeen.{MarksSeen}
 use Rattle.branch_marks.specs.MarkTables.{AreMarksOf}
-use Rattle.branch_marks.specs.Floors.{floors}
 use Rattle.propagator.specs.FloorRow.{FloorRowSeen, floors_in, AreRowsOf, ChangesOnly}
 use Rattle.propagator.specs.InTurn.{GrowInTurn}
 use Rattle.propagator.specs.SameFor.{SameFor, SameFloors, SameDead}
@@ -37,5 +35,5 @@ settle_next same_floors same_dead book n a b c l m o rows next so_far marks grow
   room = room;
   stand = below_more (λ (k : ℕ). StandsFor book c.facts next k) n
       (λ k lt. let apart : k ≢ n = omega (arith, lt) in
-        stands_on same_floors same_dead book k b.facts c.facts rows next (acts.others k apart) (others k apart) (so_far.stand k lt)) stands;
+      stands_on same_floors same_dead book k b.facts c.facts rows next (acts.others k apart) (others k apart) (so_far.stand k lt)) stands;
 }

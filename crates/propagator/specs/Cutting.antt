@@ -1,7 +1,7 @@
 -- What is told of marks while dead connections are cut.
 use Rattle.std.specs.Prelude.{ℕ, ◌≡◌, ◌<◌, List}
 use Rattle.tail_book.specs.Seen.{BookSeen}
-use Rattle.tail_book.specs.Lookup.{activities, aircraft}
+use Rattle.tail_book.specs.Lookup.{aircraft}
 use Rattle.branch_marks.specs.declared.fact.Fact.{Fact}
 use Rattle.branch_marks.specs.Floors.{floors}
 use Rattle.branch_marks.specs.Following.{Follows}

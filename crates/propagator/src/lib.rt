@@ -4,12 +4,14 @@
 mod adding;
 mod arrivals;
 mod carriers;
+mod closing;
 mod dead_ends;
 mod dead_links;
 mod floor_row;
 mod floors;
-mod hole;
+mod hole_at;
 pub mod laws;
 mod settling;
 
-pub use hole::Closed;
+pub use closing::close;
+pub use hole_at::Closed;

@@ -80,7 +80,16 @@ pub fn settle_at(
     ensures stands { OnOk result (StandsFor book.now marks.new.facts rows.new k) }
 {
     floors_count();
-    settle(book, net, steps, marks, facts, k, &mut rows[k as usize], values)
+    settle(
+        book,
+        net,
+        steps,
+        marks,
+        facts,
+        k,
+        &mut rows[k as usize],
+        values,
+    )
 }
 
 /// Settles all aircraft.

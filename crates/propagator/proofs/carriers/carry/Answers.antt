@@ -1,6 +1,5 @@
-use Rattle.std.proofs.Common.{◌<◌, ◌∙◌, ◌++◌, ◌∷◌, [], List, ℕ, ap, sym, subst}
+use Rattle.std.proofs.Common.{◌<◌, ◌∙◌, ◌++◌, List, ap, sym, subst}
 use Rattle.branch_marks.specs.declared.fact.Fact.{Fact}
-use Rattle.branch_marks.specs.declared.fact.Fact.TheVariants.{Must}
 use Rattle.propagator.specs.Unnamed.{unnamed}
 use Rattle.propagator.proofs.InTurn.{grow_both}
 use Rattle.propagator.proofs.OnlyCarriers.{on_ok, carried, fewer_unnamed}
@@ -26,5 +25,5 @@ returns-clause-fewer c =
     let less = fewer_unnamed c.has_fact_decides.ensures c.args.book.now c.args.marks.now.facts grown.added c.args.k c.args.a c.requires.carrier in
     on_ok c.settle_at.result
     (λ _. subst (λ (marks : List Fact). unnamed c.args.book.now marks < unnamed c.args.book.now c.args.marks.now.facts)
-      (sym (grown.marks ∙ ap (λ (marks : List Fact). marks ++ grown.added) c.in_ok-add_next.ensures.added)) less)
+    (sym (grown.marks ∙ ap (λ (marks : List Fact). marks ++ grown.added) c.in_ok-add_next.ensures.added)) less)
     c.settle_at.ensures.stands

@@ -1,7 +1,6 @@
-use Rattle.std.proofs.Common.{◌≡◌, ◌∙◌, ◌++◌, ◌∷◌, [], List, ap, refl, sym, subst, None}
+use Rattle.std.proofs.Common.{◌∙◌, List, ap, refl, sym, subst}
 use Rattle.tail_book.specs.Lookup.{activities}
 use Rattle.branch_marks.specs.declared.fact.Fact.{Fact}
-use Rattle.branch_marks.specs.declared.fact.Fact.TheVariants.{Bar}
 use Rattle.branch_marks.specs.Floors.{floors}
 use Rattle.branch_marks.specs.Following.{IsDead}
 use Rattle.propagator.specs.FloorRow.{FloorRowSeen}

@@ -1,5 +1,4 @@
-use Rattle.std.proofs.Common.{◌≡◌, false, sym, ◌∙◌, ℤ, List, Option, Some, None, ap, get_or, refl}
-use Rattle.branch_marks.specs.Marks.{MayEnd}
+use Rattle.std.proofs.Common.{false, sym, ◌∙◌, ℤ, List, Option, None, ap, get_or, refl}
 use Rattle.std.proofs.lemmas.Bool.{both_ways}
 use Rattle.propagator.specs.LeastOver.{floor_of}
 use Rattle.propagator.proofs.DeadEnds.{end_tells}

@@ -1,4 +1,4 @@
-use Rattle.std.proofs.Common.{◌≡◌, ◌++◌, ◌∷◌, [], List, refl, subst, sym}
+use Rattle.std.proofs.Common.{◌≡◌, ◌++◌, ◌∷◌, [], List, refl, subst}
 use Rattle.branch_marks.specs.declared.fact.Fact.{Fact}
 use Rattle.branch_marks.specs.declared.fact.Fact.TheVariants.{Cut}
 use Rattle.branch_marks.specs.Following.{IsDeadConnection}
@@ -31,5 +31,5 @@ returns-clause-cut c =
     let old = c.args.marks.now.facts in
     on_ok c.add_next.result
     (λ (e : c.add_next.new.marks.facts ≡ old ++ Cut c.args.a c.args.b ∷ []) (dead : IsDeadConnection book c.add_next.new.marks.facts c.args.a c.args.b).
-      cut_once book old c.args.a c.args.b (subst (λ (marks : List Fact). IsDeadConnection book marks c.args.a c.args.b) e dead))
+    cut_once book old c.args.a c.args.b (subst (λ (marks : List Fact). IsDeadConnection book marks c.args.a c.args.b) e dead))
     c.add_next.ensures.added

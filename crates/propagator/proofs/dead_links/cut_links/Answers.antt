@@ -16,12 +16,13 @@ returns-in_err-cut_links_of-clause-grows c =
     c.args.facts.now.items c.loop-a.facts.items c.cut_links_of.new.facts.items c.loop-a.invariant.0.grows c.cut_links_of.ensures.grows
 
 pub loop-a-preserved : goal.loop-a-preserved
-loop-a-preserved c =
-    (cut_more c.args.book.now c.args.marks.now c.loop-a.marks c.cut_links_of.new.marks c.args.facts.now.items c.loop-a.facts.items c.cut_links_of.new.facts.items
+loop-a-preserved c = (
+  cut_more c.args.book.now c.args.marks.now c.loop-a.marks c.cut_links_of.new.marks c.args.facts.now.items c.loop-a.facts.items c.cut_links_of.new.facts.items
       c.args.rows.now c.loop-a.invariant.0 c.cut_links_of.ensures.marks c.cut_links_of.ensures.grows c.cut_links_of.ensures.floors c.cut_links_of.ensures.nothing,
-      below_more (λ (a : ℕ). (b : ℕ) → ¬ IsDeadConnection c.args.book.now c.cut_links_of.new.marks.facts a b) c.loop-a.a
+  below_more (λ (a : ℕ). (b : ℕ) → ¬ IsDeadConnection c.args.book.now c.cut_links_of.new.marks.facts a b) c.loop-a.a
       (λ a lt b. never_new c.args.book.now c.loop-a.marks.facts c.cut_links_of.new.marks.facts a b c.cut_links_of.ensures.nothing (c.loop-a.invariant.1 a lt b))
-      c.in_ok-cut_links_of.ensures.cut)
+      c.in_ok-cut_links_of.ensures.cut,
+)
 
 pub returns-clause-cut : goal.returns-clause-cut
 returns-clause-cut c a b dead =
