@@ -1,6 +1,6 @@
 -- Tests and their words: how a test of a part decides a word of the whole.
-use Rattle.std.specs.Prelude.{⊤, not, nat_le, int_lt, ◌&&◌, ◌||◌, All, Any}
-use Rattle.std.proofs.Common.{◌≡◌, ℕ, ℤ, ◌≤ℤ◌, ◌≤◌, Bool, true, false, arith, List, refl}
+use Rattle.std.specs.Prelude.{⊤, not, nat_le, int_lt, ◌&&◌, ◌||◌, All, Any, AllPairs}
+use Rattle.std.proofs.Common.{◌≡◌, ℕ, ℤ, ◌≤ℤ◌, ◌≤◌, Bool, true, false, arith, List, refl, suc, [], ◌∷◌}
 use lib.Signed.{◌<ℤ◌}
 use Rattle.std.specs.Bool.{Decides}
 use Rattle.std.specs.List.{list_any, list_all}
@@ -10,7 +10,9 @@ use Rattle.std.proofs.lemmas.Bool.Decides.{Decides-and, Decides-not, Decides-lik
 use Rattle.std.proofs.lemmas.List.Sums.{AllPass-from_list_all, list_all-from_AllPass}
 use Rattle.std.proofs.lemmas.List.Folds.{Any-from_list_any, list_any-from_Any}
 use Rattle.std.proofs.lemmas.List.Elements.{All-weaker}
+use Rattle.std.proofs.lemmas.List.Kept.{AllPairs-cons}
 use Rattle.tail_book.specs.Numbers.{int_le}
+use Rattle.tail_book.specs.SoundTests.{each_pair}
 
 pub always : Decides true ⊤
 always = ((λ h. tt), (λ h. refl))
@@ -54,3 +56,11 @@ int_lt_tested a b = grind (arith, ints)
 
 pub int_le_tested : (a b : ℤ) → Decides (int_le a b) (a ≤ℤ b)
 int_le_tested a b = Decides-like (int_le a b) (λ n. by_lt_z b a (λ l. absurd (n l)) (λ h. h)) (λ h l. absurd (omega (arith, ints, h, l))) (Decides-not (int_lt b a) (int_lt_tested b a))
+
+-- each element beside the later ones: the first beside all others, and these among themselves
+pub pairs_tested : {X : Type 0} (test : X → X → Bool) (R : X → X → Type 0) → ((x y : X) → Decides (test x y) (R x y)) → (xs : List X) → Decides (each_pair test xs) (AllPairs R xs)
+pairs_tested test R each [] = ((λ e i j d l m. absurd (omega (arith, m))), (λ h. refl))
+pairs_tested test R each (x ∷ xs) =
+    Decides-like (each_pair test (x ∷ xs)) (λ h. AllPairs-cons R x xs h.0 h.1)
+    (λ h. ((λ k d l. h 0 (suc k) d (omega arith) (omega (arith, l))), (λ i j d l m. h (suc i) (suc j) d (omega (arith, l)) (omega (arith, m)))))
+    (Decides-and _ _ (all_tested (test x) (R x) (each x) xs) (pairs_tested test R each xs))

@@ -9,15 +9,28 @@ pub mod FactsDecided
 pub mod FollowingDecided
 pub mod Neighbours
 pub mod Fitting
+pub mod UsableAlong
+pub mod LeastRoutes
 pub mod LesserFloors
 pub mod Floors
 pub mod AlongFloors
 pub mod Following
+pub mod InTurn
 pub mod Weights
 pub mod Duality
 pub mod Pool
 pub mod Settled
 pub mod LeastPlan
+pub mod LeastWeights
+pub mod Dominance
+pub mod FamiliesDecided
+pub mod DeadEnds
+pub mod Branches
+pub mod Fewer
+pub mod Shown
+pub mod TreesDecided
 pub mod WorkedBook
 mod WorkedMarks
 mod WorkedFollowing
+mod WorkedWeights
+mod WorkedTrees

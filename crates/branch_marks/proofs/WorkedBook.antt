@@ -51,3 +51,11 @@ turning turn = record {
   tails = aircraft_of (codes "A1") 0 ∷ [];
   rules = record { kinds = record { name = codes "P"; rate = 1; turn = pos turn } ∷ []; airports = airports; curfews = []; counters = []; bands = [] };
 }
+
+-- two flights at once, of an hour and of two, and two aircraft of which the second costs twice as much a minute
+abbrev pub rates : BookSeen
+rates = book_with (flight (codes "F1") 0 1 360 ∷ record (flight (codes "F2") 0 1 360) { end = pos 480 } ∷ []) (aircraft_of (codes "A1") 0 ∷ aircraft_of (codes "A2") 1 ∷ []) [] []
+
+-- the four flights again, with a band that charges a connection of up to half an hour
+abbrev pub banded : BookSeen
+banded = book_with flights (aircraft_of (codes "A1") 0 ∷ []) [] (record { upto = pos 30; cost = 7 } ∷ [])

@@ -1,5 +1,5 @@
 -- Which facts follow from marks: the rules of propagation.
-use Rattle.std.specs.Prelude.{◌≡◌, ℕ, ℤ, ◌<◌, ⊤, List, Option, Some, None, Contains}
+use Rattle.std.specs.Prelude.{◌≡◌, ◌↔◌, ℕ, ℤ, ◌<◌, ⊤, List, [], ◌∷◌, ◌++◌, Option, Some, None, Contains}
 use Rattle.tail_book.specs.Seen.{BookSeen}
 use Rattle.tail_book.specs.declared.place.Place.TheVariants.{After}
 use Rattle.tail_book.specs.Lookup.{activities, aircraft}
@@ -80,7 +80,26 @@ IsShut book marks = (fact : Fact) → IsFactOf book fact → ¬ Follows book mar
 abbrev pub FollowingFactsAreOfBook : Type 0
 FollowingFactsAreOfBook = (book : BookSeen) (marks : List Fact) (fact : Fact) → Follows book marks fact → IsFactOf book fact
 
+-- and is not among the marks
+abbrev pub FollowingFactsAreNew : Type 0
+FollowingFactsAreNew = (book : BookSeen) (marks : List Fact) (fact : Fact) → Follows book marks fact → ¬ Contains marks fact
+
 -- a fact that follows holds in each legal plan of which the marks hold
 abbrev pub FollowingFactsHold : Type 0
 FollowingFactsHold = (book : BookSeen) → IsBook book → (marks : List Fact) (fact : Fact) → Follows book marks fact
     → (plan : List (List ℕ)) → IsLegalPlan book plan → HoldAll marks plan → Holds fact plan
+
+-- each of these facts follows from the marks with those before it, as marks grow when one fact after the other is added
+abbrev pub FollowInTurn : BookSeen → List Fact → List Fact → Type 0
+FollowInTurn book marks [] = ⊤
+FollowInTurn book marks (fact ∷ facts) = Follows book marks fact × FollowInTurn book (marks ++ fact ∷ []) facts
+
+-- so it is with one fact more that follows at their end
+abbrev pub FollowInTurnWithOneMore : Type 0
+FollowInTurnWithOneMore = (book : BookSeen) (marks facts : List Fact) (fact : Fact)
+    → FollowInTurn book marks (facts ++ fact ∷ []) ↔ (FollowInTurn book marks facts × Follows book (marks ++ facts) fact)
+
+-- and marks with such facts hold of each legal plan of which the marks hold
+abbrev pub FollowedMarksHold : Type 0
+FollowedMarksHold = (book : BookSeen) → IsBook book → (marks facts : List Fact) → FollowInTurn book marks facts
+    → (plan : List (List ℕ)) → IsLegalPlan book plan → HoldAll marks plan → HoldAll (marks ++ facts) plan

@@ -71,8 +71,8 @@ IsFactWithin m n (Must k a) = (k < m) × (a < n)
 IsFactWithin m n (Cut a b) = (a < n) × (b < n)
 IsFactWithin m n (Tie a b) = (a < n) × (b < n)
 
--- what all marks keep: they are of few aircraft and activities, the numbers in the facts are in range, and each table says
--- what the facts say
+-- what all marks keep: aircraft and activities are few, the numbers in the facts are in range, and each table says what
+-- the facts say
 pub record IsMarks (marks : MarksSeen) : Type 0 where
   pub few_aircraft : marks.aircraft ≤ 4096
   pub few_activities : marks.activities ≤ 4096

@@ -4,8 +4,9 @@ use Rattle.branch_marks.specs.declared.fact.Fact.{Fact}
 use Rattle.branch_marks.specs.declared.named.Named.{Named}
 use Rattle.branch_marks.specs.BitRows.{BitRowsSeen}
 
--- how many aircraft and activities the book has, the facts in the order in which they came, and the tables beside them: who is alive at each activity; the Bars and the
--- Musts of each aircraft; the Cuts of each activity; what Ties name behind each activity and before it; whom Musts name
+-- how many aircraft and activities the book has, the facts in the order in which they came, and the tables beside them:
+-- who is alive at each activity; the Bars and the Musts of each aircraft; the Cuts of each activity; what Ties name behind
+-- each activity and before it; whom Musts name
 pub record MarksSeen : Type 0 where
   pub aircraft : ℕ
   pub activities : ℕ

@@ -6,6 +6,7 @@ use Rattle.tail_book.specs.CostTable.{IsInBox, cost_unit, plan_cost_in}
 use Rattle.tail_book.specs.Plan.{times_flown, route_of, IsLegalPlan}
 use Rattle.tail_book.specs.Sound.{IsBook}
 use Rattle.branch_marks.specs.declared.fact.Fact.{Fact}
+use Rattle.branch_marks.specs.DeadEnds.{IsStuck}
 use Rattle.branch_marks.specs.Weights.{IsRouteOfWeight}
 use Rattle.branch_marks.specs.Bound.{value_of, AreLeastWeights, lagrangian, MarkedPlansCostAtLeast}
 use Rattle.branch_marks.specs.Pool.{Pooled, IsFittingEntry, least_in, sum_in}
@@ -22,6 +23,11 @@ with_dual duals a value = slice_set duals a value
 -- this is the Lagrangian sum of the duals: all of them, and the least weight of each aircraft; so none is stuck
 abbrev pub IsSum : CostTableSeen → BookSeen → List Fact → List ℤ → ℤ → Type 0
 IsSum table book marks duals sum = (values : List ℤ) × AreLeastWeights table book marks duals values × (sum ≡ lagrangian duals values)
+
+-- where no aircraft is stuck there is such a sum
+abbrev pub SumsExist : Type 0
+SumsExist = (table : CostTableSeen) (book : BookSeen) → IsBook book → (marks : List Fact) (duals : List ℤ)
+    → ((k : ℕ) → k < aircraft book → ¬ IsStuck book marks k) → (sum : ℤ) × IsSum table book marks duals sum
 
 -- the duals are settled over all legal routes that fit: there is a sum, and no change of one dual inside the box raises it by a cost unit
 pub record IsSettled (table : CostTableSeen) (book : BookSeen) (marks : List Fact) (duals : List ℤ) : Type 0 where

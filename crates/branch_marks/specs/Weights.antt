@@ -1,13 +1,15 @@
 -- The weight of a route: its reduced cost under duals, one for each activity. Duals and weights are in thousandths of a cost unit.
-use Rattle.std.specs.Prelude.{◌≡◌, ℕ, ℤ, pos, ◌+◌, ◌*◌, ◌+ℤ◌, ◌-ℤ◌, ◌≤ℤ◌, List, [], ◌∷◌, ◌++◌, map, slice_index_or}
+use Rattle.std.specs.Prelude.{◌≡◌, ℕ, ℤ, pos, ◌+◌, ◌*◌, ◌+ℤ◌, ◌-ℤ◌, ◌≤ℤ◌, ◌⊎◌, List, [], ◌∷◌, ◌++◌, map, slice_index_or}
 use Rattle.tail_book.specs.Seen.{BookSeen, CostTableSeen}
 use Rattle.tail_book.specs.declared.place.Place.{Place}
 use Rattle.tail_book.specs.declared.place.Place.TheVariants.{Carry, After}
 use Rattle.tail_book.specs.CostTable.{cost_unit, activity_cost_in, connection_cost_in, cost_from_in, route_cost_in}
 use Rattle.tail_book.specs.OneMore.{end_place}
 use Rattle.tail_book.specs.Route.{IsLegalRoute}
+use Rattle.tail_book.specs.Sound.{IsBook}
 use Rattle.tail_book.specs.Sums.{total}
 use Rattle.branch_marks.specs.declared.fact.Fact.{Fact}
+use Rattle.branch_marks.specs.DeadEnds.{IsStuck}
 use Rattle.branch_marks.specs.Marks.{Fits}
 
 -- the dual of an activity, 0 past the end
@@ -62,11 +64,12 @@ pub record IsLeastWeight (table : CostTableSeen) (book : BookSeen) (marks : List
   pub least : WeighsAtLeast table book marks k duals value
   pub attained : (route : List ℕ) × IsRouteOfWeight table book marks k duals value route
 
--- aircraft k is stuck: no legal route of it fits
-abbrev pub IsStuck : BookSeen → List Fact → ℕ → Type 0
-IsStuck book marks k = (route : List ℕ) → IsLegalRoute book k route → ¬ Fits book marks k route
-
 -- there is one least weight at most
 abbrev pub LeastWeightsAreOne : Type 0
 LeastWeightsAreOne = (table : CostTableSeen) (book : BookSeen) (marks : List Fact) (k : ℕ) (duals : List ℤ) (one other : ℤ)
     → IsLeastWeight table book marks k duals one → IsLeastWeight table book marks k duals other → one ≡ other
+
+-- and an aircraft that is not stuck has one
+abbrev pub LeastWeightsExist : Type 0
+LeastWeightsExist = (table : CostTableSeen) (book : BookSeen) → IsBook book → (marks : List Fact) (k : ℕ) (duals : List ℤ)
+    → IsStuck book marks k ⊎ ((value : ℤ) × IsLeastWeight table book marks k duals value)

@@ -1,24 +1,39 @@
 //! Laws over the definitions alone: the contract of each function is the law.
 
+mod branching;
+mod covering;
 mod deciding;
 mod fitting;
 mod following;
 mod settling;
+mod showing;
 mod weighing;
 
+pub use branching::{
+    branches_decide, branches_leave_fewer, facts_decide, facts_leave_no_more, holes_leave_no_plan,
+    one_branch_holds, stuck_leaves_no_plan, undecided_decides, undecided_pairs_are_of_book,
+};
+pub use covering::{
+    closed_families_bound, closed_family_decides, covered_steps_are_covered, covers_chain,
+    covers_decides, endless_families_stick, ends_decide, labels_cover_themselves, no_end_decides,
+};
 pub use deciding::{
     alive_decides, fact_of_decides, fits_decides, follows_decides, has_fact_decides,
     may_end_decides, shut_decides, usable_decides,
 };
-pub use fitting::marked_routes_fit;
+pub use fitting::{fits_is_usable_to_its_end, marked_routes_fit, usable_with_one_more};
 pub use following::{
-    floors_are_low, floors_count, following_facts_are_of_book, following_facts_hold,
+    floors_are_low, floors_count, follow_in_turn_with_one_more, followed_marks_hold,
+    following_facts_are_new, following_facts_are_of_book, following_facts_hold,
 };
 pub use settling::{
     least_in_is_least, routes_of_least_weights_cost_least, routes_of_weights_are_plan,
-    settled_over_pool_is_settled,
+    settled_over_pool_is_settled, sums_exist,
+};
+pub use showing::{
+    bounds_decide, shown_decides, shown_roots_bound, shown_trees_bound, shown_trees_refute,
 };
 pub use weighing::{
-    least_weights_are_one, least_weights_bound, low_weights_bound, rounded_up_is_least,
-    weight_is_along, weight_with_one_more, weights_along,
+    least_weights_are_one, least_weights_bound, least_weights_exist, low_weights_bound,
+    rounded_up_is_least, weight_is_along, weight_with_one_more, weights_along,
 };

@@ -13,6 +13,8 @@ ghost use Rattle.branch_marks.specs.MarkTables.{AreMarksOf, IsFactWithin, is_tie
 ghost use Rattle.branch_marks.specs.MarkCalls.{AddsOnce};
 
 mod questions;
+#[cfg(test)]
+mod tests;
 mod walks;
 
 use crate::Fact;

@@ -1,6 +1,6 @@
 //! Laws of routes that fit the marks.
 
-ghost use Rattle.branch_marks.specs.Fitting.{MarkedRoutesFit};
+ghost use Rattle.branch_marks.specs.Fitting.{MarkedRoutesFit, FitsIsUsableToItsEnd, UsableWithOneMore};
 
 use tail_book::laws::{each_is_flown_once, legal_routes_rise};
 
@@ -11,3 +11,13 @@ pub fn marked_routes_fit()
     legal_routes_rise();
     each_is_flown_once();
 }
+
+/// A route fits exactly where its links are usable and the aircraft may end at its end.
+pub fn fits_is_usable_to_its_end()
+    ensures { FitsIsUsableToItsEnd }
+{}
+
+/// With an activity more the links of a route are usable exactly where they were, and the one to it is.
+pub fn usable_with_one_more()
+    ensures { UsableWithOneMore }
+{}

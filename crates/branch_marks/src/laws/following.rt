@@ -1,7 +1,7 @@
 //! Laws of floors, and of the facts that follow from marks.
 
 ghost use Rattle.branch_marks.specs.Floors.{FloorsCount, FloorsAreLow};
-ghost use Rattle.branch_marks.specs.Following.{FollowingFactsAreOfBook, FollowingFactsHold};
+ghost use Rattle.branch_marks.specs.Following.{FollowingFactsAreOfBook, FollowingFactsAreNew, FollowingFactsHold, FollowInTurnWithOneMore, FollowedMarksHold};
 
 use crate::laws::{marked_routes_fit, usable_decides};
 use tail_book::laws::{
@@ -31,6 +31,11 @@ pub fn following_facts_are_of_book()
     ensures { FollowingFactsAreOfBook }
 {}
 
+/// A fact that follows is not among the marks.
+pub fn following_facts_are_new()
+    ensures { FollowingFactsAreNew }
+{}
+
 /// A fact that follows from marks holds in each legal plan of which they hold.
 pub fn following_facts_hold()
     ensures { FollowingFactsHold }
@@ -42,4 +47,16 @@ pub fn following_facts_hold()
     each_at_most_chains();
     steps_keep_order();
     lower_stays_within();
+}
+
+/// Facts follow in turn with one more at their end exactly where they do and that one follows from the marks with them.
+pub fn follow_in_turn_with_one_more()
+    ensures { FollowInTurnWithOneMore }
+{}
+
+/// Marks with facts that follow in turn hold of each legal plan of which the marks hold.
+pub fn followed_marks_hold()
+    ensures { FollowedMarksHold }
+{
+    following_facts_hold();
 }

@@ -1,15 +1,26 @@
 //! Laws of pools, of settled duals, and of least routes that are a plan.
 
 ghost use Rattle.branch_marks.specs.Pool.{LeastInIsLeast};
-ghost use Rattle.branch_marks.specs.Settled.{SettledOverPoolIsSettled, RoutesOfWeightsArePlan, RoutesOfLeastWeightsCostLeast};
+ghost use Rattle.branch_marks.specs.Settled.{SumsExist, SettledOverPoolIsSettled, RoutesOfWeightsArePlan, RoutesOfLeastWeightsCostLeast};
 
-use crate::laws::{least_weights_are_one, least_weights_bound, rounded_up_is_least};
-use tail_book::laws::{total_by_number, total_of_legal_plan};
+use crate::laws::{fits_decides, least_weights_are_one, least_weights_bound, rounded_up_is_least};
+use tail_book::laws::{
+    legal_route_decides, legal_routes_rise, total_by_number, total_of_legal_plan,
+};
 
 /// The least weight in a pool is one that a route of the aircraft has and none undercuts.
 pub fn least_in_is_least()
     ensures { LeastInIsLeast }
 {}
+
+/// Where no aircraft is stuck, duals have a Lagrangian sum.
+pub fn sums_exist()
+    ensures { SumsExist }
+{
+    legal_routes_rise();
+    legal_route_decides();
+    fits_decides();
+}
 
 /// Duals that are settled over a pool with the least weights are settled over all legal routes that fit.
 pub fn settled_over_pool_is_settled()

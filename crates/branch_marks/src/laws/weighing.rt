@@ -1,10 +1,13 @@
 //! Laws of weights, and of the bounds that they give.
 
-ghost use Rattle.branch_marks.specs.Weights.{WeightsAlong, WeightIsAlong, WeightWithOneMore, LeastWeightsAreOne};
+ghost use Rattle.branch_marks.specs.Weights.{WeightsAlong, WeightIsAlong, WeightWithOneMore, LeastWeightsAreOne, LeastWeightsExist};
 ghost use Rattle.branch_marks.specs.Bound.{RoundedUpIsLeast, LowWeightsBound, LeastWeightsBound};
 
-use crate::laws::marked_routes_fit;
-use tail_book::laws::{cost_with_one_more_in, total_by_number, total_of_legal_plan};
+use crate::laws::{fits_decides, marked_routes_fit};
+use tail_book::laws::{
+    cost_with_one_more_in, legal_route_decides, legal_routes_rise, total_by_number,
+    total_of_legal_plan,
+};
 
 /// What is added up along a route is its cost less its duals.
 pub fn weights_along()
@@ -29,6 +32,15 @@ pub fn weight_with_one_more()
 pub fn least_weights_are_one()
     ensures { LeastWeightsAreOne }
 {}
+
+/// An aircraft that is not stuck has a least weight.
+pub fn least_weights_exist()
+    ensures { LeastWeightsExist }
+{
+    legal_routes_rise();
+    legal_route_decides();
+    fits_decides();
+}
 
 /// Rounding up gives the least number of cost units that are as many thousandths.
 pub fn rounded_up_is_least()

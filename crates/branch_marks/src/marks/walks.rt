@@ -14,7 +14,7 @@ use super::Marks;
 use tail_book::Book;
 
 impl Marks {
-    /// The least aircraft from a number on that is alive at an activity, and the number of aircraft where there is none.
+    /// The least aircraft from a number on that is alive at an activity, or the number of aircraft where none is.
     pub fn next_alive(&self, book: &Book, a: u32, from: u32) -> u32
         requires marks { AreMarksOf book.now self.now }
         requires activity { a < activities book.now }
@@ -27,7 +27,7 @@ impl Marks {
         self.alive.next(a as usize, from as usize, self.aircraft) as u32
     }
 
-    /// The least activity from a number on that a Must gives to an aircraft, and the number of activities where there is none.
+    /// The least activity from a number on that a Must gives to an aircraft, or the number of activities.
     pub fn next_must(&self, k: u32, from: u32) -> u32
         requires aircraft { k < self.now.aircraft }
         requires from { from ≤ self.now.activities }
@@ -39,7 +39,7 @@ impl Marks {
         self.musts.next(k as usize, from as usize, self.activities) as u32
     }
 
-    /// The least activity from a number on that is cut from an activity, and the number of activities where there is none.
+    /// The least activity from a number on that is cut from an activity, or the number of activities where none is.
     pub fn next_cut(&self, a: u32, from: u32) -> u32
         requires activity { a < self.now.activities }
         requires from { from ≤ self.now.activities }

@@ -12,11 +12,11 @@ invariant_of-result c =
     rw c.new.ensures.items record {
       few_aircraft = few_aircraft;
       few_activities = few_activities;
-  facts = All-nil (IsFactWithin c.len-m.result c.len-n.result);
-  bars = facts_none c.len-m.result c.len-n.result is_bar _ c.in_ok-new.ensures.rows c.in_ok-new.ensures.columns c.in_ok-new.ensures.none;
-  musts = facts_none c.len-m.result c.len-n.result is_must _ c.in_ok-new-2.ensures.rows c.in_ok-new-2.ensures.columns c.in_ok-new-2.ensures.none;
-  cuts = facts_none c.len-n.result c.len-n.result is_cut _ c.in_ok-new-3.ensures.rows c.in_ok-new-3.ensures.columns c.in_ok-new-3.ensures.none;
-  next = named_none c.len-n.result tied_after _ c.in_ok-nothing_named.ensures.count c.in_ok-nothing_named.ensures.each;
-  previous = named_none c.len-n.result tied_before _ c.in_ok-nothing_named-2.ensures.count c.in_ok-nothing_named-2.ensures.each;
-  carriers = named_none c.len-n.result given_to _ c.in_ok-nothing_named-3.ensures.count c.in_ok-nothing_named-3.ensures.each;
-}
+      facts = All-nil (IsFactWithin c.len-m.result c.len-n.result);
+      bars = facts_none c.len-m.result c.len-n.result is_bar _ c.in_ok-new.ensures.rows c.in_ok-new.ensures.columns c.in_ok-new.ensures.none;
+      musts = facts_none c.len-m.result c.len-n.result is_must _ c.in_ok-new-2.ensures.rows c.in_ok-new-2.ensures.columns c.in_ok-new-2.ensures.none;
+      cuts = facts_none c.len-n.result c.len-n.result is_cut _ c.in_ok-new-3.ensures.rows c.in_ok-new-3.ensures.columns c.in_ok-new-3.ensures.none;
+      next = named_none c.len-n.result tied_after _ c.in_ok-nothing_named.ensures.count c.in_ok-nothing_named.ensures.each;
+      previous = named_none c.len-n.result tied_before _ c.in_ok-nothing_named-2.ensures.count c.in_ok-nothing_named-2.ensures.each;
+      carriers = named_none c.len-n.result given_to _ c.in_ok-nothing_named-3.ensures.count c.in_ok-nothing_named-3.ensures.each;
+    }

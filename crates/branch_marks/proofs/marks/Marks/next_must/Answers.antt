@@ -6,5 +6,5 @@ pub returns-clause-none : goal.returns-clause-none
 returns-clause-none c =
     let aircraft = rw (← c.self.view_is) at c.requires.aircraft in
     rw (← c.self.view_is) (λ a above below.
-        let within : a < c.self.inside.activities = omega (arith, below, c.next.ensures.end) in
-        sym (c.self.invariant.musts.pairs c.args.k a aircraft within) ∙ c.next.ensures.none a above below)
+    let within : a < c.self.inside.activities = omega (arith, below, c.next.ensures.end) in
+    sym (c.self.invariant.musts.pairs c.args.k a aircraft within) ∙ c.next.ensures.none a above below)

@@ -1,0 +1,460 @@
+//! Two aircraft, and what each kind of fact leaves open to them; and marks by chance, beside a walk over their facts.
+
+ghost use Rattle.std.specs.Prelude.{IfOk, IsTrue};
+ghost use Rattle.tail_book.specs.Place.{IsPlaceOf};
+ghost use Rattle.branch_marks.specs.Facts.{IsFactOf};
+ghost use Rattle.branch_marks.specs.MarkTables.{AreMarksOf};
+
+use crate::{Added, Fact, Marks, Named};
+use std::alloc::Global;
+use std::test::Fail;
+use tail_book::*;
+
+mod chance;
+
+// A flight between two airports.
+fn flight(alloc: Global, id: Name, leg: (u32, u32), time: (i64, i64)) -> Activity {
+    let ((from, to), (start, end)) = (leg, time);
+    Activity {
+        id,
+        flight: true,
+        from,
+        to,
+        start,
+        end,
+        types: Vec::new(alloc),
+        tags: Vec::new(alloc),
+        tail: None,
+        resets: Vec::new(alloc),
+    }
+}
+
+// An aircraft that is ready at an airport at minute 0.
+fn tail(alloc: Global, name: Name, at: u32) -> Tail {
+    Tail {
+        name,
+        kind: 0,
+        at,
+        ready: 0,
+        fixed: 0,
+        tags: Vec::new(alloc),
+        avoid: Vec::new(alloc),
+        carry: Vec::new(alloc),
+    }
+}
+
+// One type and two airports, with turns of half an hour.
+fn rules(alloc: Global) -> Result<Rules, Memory> {
+    let kind = AircraftType {
+        name: Name::new(b"P".as_slice()),
+        rate: 10,
+        turn: 30,
+    };
+    let (x, y) = (Name::new(b"X".as_slice()), Name::new(b"Y".as_slice()));
+    let airport = |name| Airport {
+        name,
+        offset: 0,
+        turn: 30,
+    };
+    Ok(Rules {
+        kinds: vec![in alloc; kind]?,
+        airports: vec![in alloc; airport(x), airport(y)]?,
+        curfews: Vec::new(alloc),
+        counters: Vec::new(alloc),
+        bands: Vec::new(alloc),
+    })
+}
+
+// Five flights to and fro, two hours apart, and two aircraft that may fly them all and stand where the first starts.
+fn book(alloc: Global) -> Result<Book, Fail> {
+    let (mut flights, mut leg, mut start) = (Vec::new(alloc), (0, 1), 60i64);
+    for id in [
+        Name::new(b"0".as_slice()),
+        Name::new(b"1".as_slice()),
+        Name::new(b"2".as_slice()),
+        Name::new(b"3".as_slice()),
+        Name::new(b"4".as_slice()),
+    ] {
+        flights.push(flight(alloc, id, leg, (start, start.saturating_add(60))))?;
+        (leg, start) = ((leg.1, leg.0), start.saturating_add(120));
+    }
+    let (a, b) = (Name::new(b"A".as_slice()), Name::new(b"B".as_slice()));
+    let tails = vec![in alloc; tail(alloc, a, 0), tail(alloc, b, 0)]?;
+    Ok(Book::new(flights, tails, rules(alloc)?).ok_or("no book")?)
+}
+
+// Whether the numbers in a fact are of the book.
+fn is_of(book: &Book, fact: Fact) -> bool
+    ensures { IsTrue result → IsFactOf book.now fact }
+{
+    let (m, n) = (book.tails.len() as u64, book.activities.len() as u64);
+    match fact {
+        Fact::Bar(k, a) => (k as u64) < m && (a as u64) < n,
+        Fact::Must(k, a) => (k as u64) < m && (a as u64) < n,
+        Fact::Cut(a, b) => (a as u64) < n && (b as u64) < n,
+        Fact::Tie(a, b) => (a as u64) < n && (b as u64) < n,
+    }
+}
+
+// Marks with these facts.
+fn marks(alloc: Global, book: &Book, facts: &[Fact]) -> Result<Marks, Fail>
+    ensures { IfOk result (AreMarksOf book.now) }
+{
+    let mut marks = Marks::new(alloc, book)?;
+    for fact in facts {
+        if is_of(book, *fact) {
+            marks.add(book, *fact)?;
+        }
+    }
+    Ok(marks)
+}
+
+// What marks with these facts say of an aircraft and an activity; nothing where the book does not have these.
+fn alive(alloc: Global, book: &Book, facts: &[Fact], k: u32, a: u32) -> Result<Option<bool>, Fail> {
+    let marks = marks(alloc, book, facts)?;
+    if k as usize >= book.tails.len() || a as usize >= book.activities.len() {
+        return Ok(None);
+    }
+    Ok(Some(marks.alive(book, k, a)))
+}
+
+// Whether a place is of the book.
+fn is_place_of(book: &Book, from: Place) -> bool
+    ensures { IsTrue result → IsPlaceOf book.now from }
+{
+    match from {
+        Place::Carry => true,
+        Place::After(x) => (x as usize) < book.activities.len(),
+    }
+}
+
+// The same of a link.
+fn usable(
+    alloc: Global,
+    book: &Book,
+    facts: &[Fact],
+    link: (u32, Place, u32),
+) -> Result<Option<bool>, Fail> {
+    let (k, from, b) = link;
+    let marks = marks(alloc, book, facts)?;
+    if k as usize >= book.tails.len() || b as usize >= book.activities.len() {
+        return Ok(None);
+    }
+    if !is_place_of(book, from) {
+        return Ok(None);
+    }
+    Ok(Some(marks.usable(book, k, from, b)))
+}
+
+// The same of a route's end.
+fn may_end(
+    alloc: Global,
+    book: &Book,
+    facts: &[Fact],
+    k: u32,
+    from: Place,
+) -> Result<Option<bool>, Fail> {
+    let marks = marks(alloc, book, facts)?;
+    if k as usize >= book.tails.len() || !is_place_of(book, from) {
+        return Ok(None);
+    }
+    Ok(Some(marks.may_end(book, k, from)))
+}
+
+// Whether marks with these facts have a fact.
+fn has(alloc: Global, book: &Book, facts: &[Fact], fact: Fact) -> Result<Option<bool>, Fail> {
+    let marks = marks(alloc, book, facts)?;
+    if !is_of(book, fact) {
+        return Ok(None);
+    }
+    marks.facts_are_of_book(book);
+    Ok(Some(marks.has(fact)))
+}
+
+// Who may fly an activity, after each kind of fact.
+#[test]
+fn alive_by_fact(rt: HostRuntime) -> Result<(), Fail> {
+    let book = book(rt.alloc())?;
+    for (fact, k, a, want) in [
+        (Fact::Bar(0, 1), 0, 1, false),
+        (Fact::Bar(0, 1), 1, 1, true),
+        (Fact::Bar(0, 1), 0, 2, true),
+        (Fact::Must(0, 1), 0, 1, true),
+        (Fact::Must(0, 1), 1, 1, false),
+        (Fact::Must(0, 1), 1, 0, true),
+        (Fact::Must(1, 1), 0, 1, false),
+        (Fact::Cut(0, 1), 0, 1, true),
+        (Fact::Tie(0, 1), 1, 1, true),
+    ] {
+        let answer = alive(rt.alloc(), &book, &[fact], k, a)?;
+        assert_eq!(rt; answer, Some(want), "{fact:?}: {k}, {a}");
+    }
+    Ok(())
+}
+
+// Links after each kind of fact: a Must strictly between, a Must of the first activity before the carry-in's link, a
+// Cut of this link and of another, and a Tie looked at from both ends.
+#[test]
+fn usable_by_fact(rt: HostRuntime) -> Result<(), Fail> {
+    let book = book(rt.alloc())?;
+    for (fact, k, from, b, want) in [
+        (Fact::Bar(0, 1), 0, Place::After(0), 1, false),
+        (Fact::Bar(0, 1), 0, Place::After(1), 2, false),
+        (Fact::Bar(0, 1), 1, Place::After(0), 1, true),
+        (Fact::Bar(0, 1), 0, Place::After(0), 3, true),
+        (Fact::Must(0, 1), 0, Place::After(0), 1, true),
+        (Fact::Must(0, 1), 0, Place::After(1), 2, true),
+        (Fact::Must(0, 1), 0, Place::After(0), 3, false),
+        (Fact::Must(0, 1), 0, Place::Carry, 2, false),
+        (Fact::Must(0, 1), 1, Place::After(0), 3, true),
+        (Fact::Must(0, 1), 1, Place::After(0), 1, false),
+        (Fact::Must(0, 0), 0, Place::Carry, 0, true),
+        (Fact::Must(0, 0), 0, Place::Carry, 2, false),
+        (Fact::Must(0, 0), 0, Place::After(0), 1, true),
+        (Fact::Cut(0, 1), 0, Place::After(0), 1, false),
+        (Fact::Cut(0, 1), 1, Place::After(0), 1, false),
+        (Fact::Cut(0, 1), 0, Place::After(0), 3, true),
+        (Fact::Cut(1, 0), 0, Place::After(0), 1, true),
+        (Fact::Cut(0, 1), 0, Place::Carry, 0, true),
+        (Fact::Tie(0, 3), 0, Place::After(0), 3, true),
+        (Fact::Tie(0, 3), 0, Place::After(0), 1, false),
+        (Fact::Tie(0, 3), 0, Place::After(2), 3, false),
+        (Fact::Tie(0, 3), 0, Place::After(1), 2, true),
+        (Fact::Tie(1, 2), 0, Place::Carry, 2, false),
+        (Fact::Tie(1, 2), 0, Place::Carry, 0, true),
+        (Fact::Tie(1, 2), 1, Place::After(1), 4, false),
+        (Fact::Cut(4, 4), 0, Place::After(1), 0, false),
+    ] {
+        let answer = usable(rt.alloc(), &book, &[fact], (k, from, b))?;
+        assert_eq!(rt; answer, Some(want), "{fact:?}: {k} from {from:?} to {b}");
+    }
+    Ok(())
+}
+
+// Ends after each kind of fact: behind a Must or at it, of this aircraft or another, and where a Tie begins or ends.
+#[test]
+fn ends_by_fact(rt: HostRuntime) -> Result<(), Fail> {
+    let book = book(rt.alloc())?;
+    for (fact, k, from, want) in [
+        (Fact::Must(0, 3), 0, Place::After(1), false),
+        (Fact::Must(0, 3), 0, Place::After(3), true),
+        (Fact::Must(0, 3), 0, Place::After(4), true),
+        (Fact::Must(0, 3), 0, Place::Carry, false),
+        (Fact::Must(0, 3), 1, Place::Carry, true),
+        (Fact::Must(0, 0), 0, Place::Carry, false),
+        (Fact::Must(0, 0), 0, Place::After(0), true),
+        (Fact::Tie(1, 2), 0, Place::After(1), false),
+        (Fact::Tie(1, 2), 1, Place::After(1), false),
+        (Fact::Tie(1, 2), 0, Place::After(2), true),
+        (Fact::Tie(0, 1), 0, Place::Carry, true),
+        (Fact::Bar(0, 1), 0, Place::After(0), true),
+        (Fact::Cut(1, 2), 0, Place::After(1), true),
+    ] {
+        let answer = may_end(rt.alloc(), &book, &[fact], k, from)?;
+        assert_eq!(rt; answer, Some(want), "{fact:?}: {k} at {from:?}");
+    }
+    Ok(())
+}
+
+// What adding a fact twice answers, and which fact then stands last.
+fn added(
+    alloc: Global,
+    book: &Book,
+    facts: &[Fact],
+    fact: Fact,
+) -> Result<(Added, Added, Option<Fact>), Fail> {
+    let mut marks = marks(alloc, book, facts)?;
+    if !is_of(book, fact) {
+        return Ok((Added::Known, Added::Known, None));
+    }
+    let first = marks.add(book, fact)?;
+    let second = marks.add(book, fact)?;
+    Ok((first, second, marks.facts().last().copied()))
+}
+
+// A fact is new once, stands last, and is known from then on; facts that were there before are known at once.
+#[test]
+fn each_fact_once(rt: HostRuntime) -> Result<(), Fail> {
+    let book = book(rt.alloc())?;
+    let last = Fact::Tie(0, 3);
+    let facts = [
+        Fact::Bar(0, 1),
+        Fact::Must(0, 2),
+        Fact::Cut(0, 1),
+        Fact::Tie(0, 1),
+        last,
+    ];
+    for (fact, first, end) in [
+        (Fact::Bar(0, 1), Added::Known, last),
+        (Fact::Must(0, 2), Added::Known, last),
+        (Fact::Cut(0, 1), Added::Known, last),
+        (Fact::Tie(0, 1), Added::Known, last),
+        (last, Added::Known, last),
+        (Fact::Bar(1, 1), Added::New, Fact::Bar(1, 1)),
+        (Fact::Must(0, 1), Added::New, Fact::Must(0, 1)),
+        (Fact::Cut(1, 0), Added::New, Fact::Cut(1, 0)),
+        (Fact::Tie(0, 4), Added::New, Fact::Tie(0, 4)),
+        (Fact::Tie(1, 0), Added::New, Fact::Tie(1, 0)),
+    ] {
+        let answer = added(rt.alloc(), &book, &facts, fact)?;
+        assert_eq!(rt; answer, (first, Added::Known, Some(end)), "{fact:?}");
+    }
+    Ok(())
+}
+
+// Each fact is there that was added, and no other of its kind is.
+#[test]
+fn each_fact_is_there(rt: HostRuntime) -> Result<(), Fail> {
+    let book = book(rt.alloc())?;
+    let facts = [
+        Fact::Bar(0, 1),
+        Fact::Must(1, 2),
+        Fact::Cut(0, 1),
+        Fact::Tie(0, 1),
+        Fact::Tie(0, 3),
+    ];
+    for (fact, want) in [
+        (Fact::Bar(0, 1), true),
+        (Fact::Bar(1, 0), false),
+        (Fact::Must(1, 2), true),
+        (Fact::Must(0, 1), false),
+        (Fact::Cut(0, 1), true),
+        (Fact::Cut(1, 0), false),
+        (Fact::Tie(0, 1), true),
+        (Fact::Tie(0, 3), true),
+        (Fact::Tie(0, 2), false),
+        (Fact::Tie(1, 2), false),
+    ] {
+        assert_eq!(rt;
+            has(rt.alloc(), &book, &facts, fact)?,
+            Some(want),
+            "{fact:?}"
+        );
+    }
+    Ok(())
+}
+
+// The last facts of marks and of a copy of them, each of which got a fact that the other did not.
+fn parted(
+    alloc: Global,
+    book: &Book,
+    here: Fact,
+    there: Fact,
+) -> Result<(Option<Fact>, Option<Fact>), Fail> {
+    let mut marks = marks(alloc, book, &[])?;
+    let mut copy = marks.copy()?;
+    if is_of(book, here) && is_of(book, there) {
+        marks.add(book, here)?;
+        copy.add(book, there)?;
+    }
+    Ok((marks.facts().last().copied(), copy.facts().last().copied()))
+}
+
+// What a copy adds the marks do not have, and the other way round.
+#[test]
+fn copy_goes_its_own_way(rt: HostRuntime) -> Result<(), Fail> {
+    let book = book(rt.alloc())?;
+    let (here, there) = (Fact::Bar(0, 2), Fact::Must(0, 1));
+    let answer = parted(rt.alloc(), &book, here, there)?;
+    assert_eq!(rt; answer, (Some(here), Some(there)));
+    Ok(())
+}
+
+// What is named for an activity: behind it, before it, and as its carrier.
+fn named(alloc: Global, book: &Book, facts: &[Fact], a: u32) -> Result<Option<[Named; 3]>, Fail> {
+    let marks = marks(alloc, book, facts)?;
+    if a as usize >= book.activities.len() {
+        return Ok(None);
+    }
+    Ok(Some([marks.tied_after(a), marks.tied_before(a), marks.carrier(a)]))
+}
+
+// From a number on: the next aircraft at an activity, and the next activity that is cut from it.
+fn next(
+    alloc: Global,
+    book: &Book,
+    facts: &[Fact],
+    a: u32,
+    from: u32,
+) -> Result<Option<(u32, u32)>, Fail> {
+    let marks = marks(alloc, book, facts)?;
+    if a as usize >= book.activities.len() || from as usize > book.tails.len() {
+        return Ok(None);
+    }
+    if from as usize > book.activities.len() {
+        return Ok(None);
+    }
+    Ok(Some((marks.next_alive(book, a, from), marks.next_cut(a, from))))
+}
+
+// From an activity on: the next Must of an aircraft.
+fn next_must(
+    alloc: Global,
+    book: &Book,
+    facts: &[Fact],
+    k: u32,
+    from: u32,
+) -> Result<Option<u32>, Fail> {
+    let marks = marks(alloc, book, facts)?;
+    if k as usize >= book.tails.len() || from as usize > book.activities.len() {
+        return Ok(None);
+    }
+    Ok(Some(marks.next_must(k, from)))
+}
+
+// One is named, several or nothing; and what comes next, or the end where nothing does.
+#[test]
+fn named_and_next(rt: HostRuntime) -> Result<(), Fail> {
+    let book = book(rt.alloc())?;
+    let facts = [
+        Fact::Tie(0, 1),
+        Fact::Tie(0, 3),
+        Fact::Must(1, 4),
+        Fact::Cut(3, 1),
+    ];
+    let (one, several, nothing) = (Named::One(0), Named::Several, Named::Nothing);
+    for (a, want) in [
+        (0, [several, nothing, nothing]),
+        (1, [nothing, one, nothing]),
+        (3, [nothing, one, nothing]),
+        (4, [nothing, nothing, Named::One(1)]),
+    ] {
+        assert_eq!(rt; named(rt.alloc(), &book, &facts, a)?, Some(want), "at {a}");
+    }
+    for (a, from, want) in [
+        (3, 0, (0, 1)),
+        (3, 1, (1, 1)),
+        (4, 0, (1, 5)),
+        (3, 2, (2, 5)),
+    ] {
+        assert_eq!(rt;
+            next(rt.alloc(), &book, &facts, a, from)?,
+            Some(want),
+            "at {a} from {from}"
+        );
+    }
+    for (k, from, want) in [(1, 0, 4), (1, 4, 4), (1, 5, 5), (0, 0, 5)] {
+        assert_eq!(rt;
+            next_must(rt.alloc(), &book, &facts, k, from)?,
+            Some(want),
+            "of {k} from {from}"
+        );
+    }
+    Ok(())
+}
+
+// Ties that no plan keeps let nothing through.
+#[test]
+fn contrary_ties(rt: HostRuntime) -> Result<(), Fail> {
+    let book = book(rt.alloc())?;
+    let facts = [Fact::Tie(0, 1), Fact::Tie(0, 3)];
+    for b in [1, 3] {
+        let answer = usable(rt.alloc(), &book, &facts, (0, Place::After(0), b))?;
+        assert_eq!(rt; answer, Some(false), "to {b}");
+    }
+    assert_eq!(rt;
+        may_end(rt.alloc(), &book, &facts, 0, Place::After(0))?,
+        Some(false)
+    );
+    Ok(())
+}
