@@ -1,9 +1,13 @@
 -- The items of a carry field, one by one: what is left decides.
+--
+-- The definition goes on from the items that were passed, the values so far and the items that are left, and a turn of
+-- the loop moves one item across. An unknown counter, or one that a passed item names, ends both at the same item.
 use Rattle.std.proofs.Common.{◌≡◌, ◌∙◌, ◌<◌, ◌≤◌, ℕ, ◌+◌, ℤ, true, false, List, [], ◌∷◌, ◌++◌, Result, Ok, Err, length, get_or, take, drop, slice_set, refl, ap}
 use Rattle.std.proofs.lemmas.List.{drop_all, drop_more, take_more}
+use Rattle.tail_text.specs.declared.codes.TheConstants.{TWICE}
 use Rattle.fleet_rules.specs.declared.tail.RawCarry.{RawCarry}
-use Rattle.book_maker.specs.Names.{number_in}
-use Rattle.book_maker.specs.TailFound.{carry_from, is_named}
+use Rattle.book_maker.specs.NameNumbers.{number_in}
+use Rattle.book_maker.specs.CarryFound.{carry_from, is_named}
 
 module _ (counters : List (List ℕ)) (items : List RawCarry) (i : ℕ) (values : List ℤ) (all : Result (List ℤ) ℕ)
     (known : all ≡ carry_from counters (take i items) values (drop i items)) where
@@ -23,7 +27,7 @@ module _ (counters : List (List ℕ)) (items : List RawCarry) (i : ℕ) (values 
     carry-unknown code e = next ∙ rw (← e) refl
 
     -- and so does one that an earlier item names
-    pub carry-twice : (c : ℕ) → Ok c ≡ number_in counters item.counter → is_named (take i items) item.counter ≡ true → all ≡ Err 11
+    pub carry-twice : (c : ℕ) → Ok c ≡ number_in counters item.counter → is_named (take i items) item.counter ≡ true → all ≡ Err TWICE
     unfolding carry_from
     carry-twice c e named = next ∙ rw (← e, named) refl
 

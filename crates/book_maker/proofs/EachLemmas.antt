@@ -1,24 +1,11 @@
 -- A list looked at from left to right: what is found so far stands before what the rest gives.
-use Rattle.std.proofs.Common.{◌≡◌, ◌∙◌, ◌<◌, ◌≤◌, ℕ, ◌+◌, List, [], ◌∷◌, ◌++◌, Result, Ok, Err, length, get_or, drop, refl, ap, append_assoc}
+--
+-- A turn moves what one element gives from the rest to what is found. An element that gives nothing makes the rest, and
+-- so the whole, give its code.
+use Rattle.std.proofs.Common.{◌≡◌, ◌∙◌, ◌<◌, ◌≤◌, ℕ, ◌+◌, List, [], ◌∷◌, ◌++◌, Result, Ok, Err, length, get_or, drop, refl, ap}
 use Rattle.std.proofs.lemmas.List.{append-nil, drop_all, drop_more}
-use Rattle.tail_text.specs.Checks.{look, look_each}
-
--- what is found before what a result gives
-abbrev pub joined : {B : Type 0} → List B → Result (List B) ℕ → Result (List B) ℕ
-joined found more = look more (λ rest. Ok (found ++ rest))
-
-joined-good : {B : Type 0} (found : List B) (r : Result B ℕ) (more : Result (List B) ℕ) (b : B) → Ok b ≡ r
-    → joined found (look r (λ first. look more (λ rest. Ok (first ∷ rest)))) ≡ joined (found ++ b ∷ []) more
-joined-good found r (Ok rest) b e = rw (← e, append_assoc) refl
-joined-good found r (Err code) b e = rw (← e) refl
-
-joined-bad : {B : Type 0} (found : List B) (r : Result B ℕ) (more : Result (List B) ℕ) (code : ℕ) → Err code ≡ r
-    → joined found (look r (λ first. look more (λ rest. Ok (first ∷ rest)))) ≡ Err code
-joined-bad found r more code e = rw (← e) refl
-
-pub joined-nil : {B : Type 0} (r : Result (List B) ℕ) → joined [] r ≡ r
-joined-nil (Ok items) = refl
-joined-nil (Err code) = refl
+use Rattle.tail_text.specs.Checks.{look_each}
+use Rattle.tail_text.specs.inside.Joined.{joined, joined-bad, joined-good}
 
 module _ {A B : Type 0} (give : A → Result B ℕ) (list : List A) (i : ℕ) (found : List B)
     (known : look_each give list ≡ joined found (look_each give (drop i list))) where

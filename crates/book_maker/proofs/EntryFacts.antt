@@ -1,4 +1,8 @@
--- What follows where all entries give something.
+-- What follows where all entries give something: as many are found as there are entries, what holds of what each entry
+-- gives holds of all that is found, and their own names differ.
+--
+-- All of it by induction on the entries: where a list gives something, its first entry has a new name and gives
+-- something, and the entries behind it give the rest.
 use Rattle.std.proofs.Common.{◌≡◌, ◌≢◌, ◌∙◌, ◌<◌, ℕ, ◌+◌, Bool, true, false, not, List, [], ◌∷◌, ◌++◌, map, Option, Some, None, Result, Ok, Err, length, get_or, All, AllPairs, refl, ap, arith, append_assoc, sym}
 use Rattle.std.specs.List.{IsDistinct}
 use Rattle.std.specs.Str.{bytes_eq}
@@ -9,11 +13,13 @@ use Rattle.std.proofs.lemmas.Map.Keys.{IsDistinct-push}
 use Rattle.std.proofs.lemmas.Map.Made.{AllPairs-from_IsDistinct}
 use Rattle.std.proofs.lemmas.Slice.Eq.{bytes_eq-Decides}
 use Rattle.tail_text.specs.Checks.{must}
+use Rattle.tail_text.specs.declared.codes.TheConstants.{TWICE}
 use Rattle.tail_text.specs.declared.refusal.Refusal.{Refusal}
 use Rattle.tail_text.specs.declared.refusal.Table.{Table}
-use Rattle.table_records.specs.Layout.{row_then}
-use Rattle.book_maker.specs.Names.{is_among}
-use Rattle.book_maker.specs.Entries.{entries_from, entries_in, is_new, names_after, with_own}
+use Rattle.table_records.specs.Table.{row_then}
+use Rattle.book_maker.specs.NameNumbers.{is_among}
+use Rattle.book_maker.specs.LookedUp.{looked_up_from, looked_up_in, is_new, with_own}
+use Rattle.book_maker.specs.inside.LookedUp.{names_after}
 
 -- the first entry gave something, and so did those behind it
 pub record Gave {B : Type 0} (new : Bool) (one : Result B ℕ) (others : Result (List B) Refusal) (found : List B) : Type 0 where
@@ -25,7 +31,7 @@ pub record Gave {B : Type 0} (new : Bool) (one : Result B ℕ) (others : Result 
   pub whole : found ≡ first ∷ rest
 
 gave : {B : Type 0} (table : Table) (place : ℕ) (new : Bool) (one : Result B ℕ) (others : Result (List B) Refusal) (found : List B)
-    → row_then table place (must new 11 one) others ≡ Ok found → Gave new one others found
+    → row_then table place (must new TWICE one) others ≡ Ok found → Gave new one others found
 gave table place true (Ok b) (Ok rest) found e = record { first = b; rest = rest; is_new = refl; gave = refl; left = refl; whole = cc e }
 gave table place true (Ok b) (Err refusal) found e = cc e
 gave table place true (Err code) others found e = cc e
@@ -33,15 +39,15 @@ gave table place false one others found e = cc e
 
 module _ {A B : Type 0} (table : Table) (own_name : A → Option (List ℕ)) (uses : A → Result B ℕ) where
   abbrev from : ℕ → List (List ℕ) → List A → Result (List B) Refusal
-  from = entries_from table own_name uses
+  from = looked_up_from table own_name uses
 
   pub taken : (place : ℕ) (before : List (List ℕ)) (entry : A) (more : List A) (found : List B) → from place before (entry ∷ more) ≡ Ok found
       → Gave (is_new before (own_name entry)) (uses entry) (from (place + 1) (with_own before (own_name entry)) more) found
-  unfolding entries_from
+  unfolding looked_up_from
   taken place before entry more found e = gave table place (is_new before (own_name entry)) (uses entry) (from (place + 1) (with_own before (own_name entry)) more) found e
 
   none : (place : ℕ) (before : List (List ℕ)) (found : List B) → from place before [] ≡ Ok found → found ≡ []
-  unfolding entries_from
+  unfolding looked_up_from
   none place before found e = cc e
 
   -- as much is found as there are entries
@@ -103,7 +109,7 @@ unmapped R f xs h i j d less within =
 -- where each entry has a name and what is found has it, the names differ
 pub found-differ : {A B : Type 0} (table : Table) (name : A → List ℕ) (name_found : B → List ℕ) (uses : A → Result B ℕ)
     (each : (entry : A) (b : B) → uses entry ≡ Ok b → name_found b ≡ name entry) (first : ℕ) (entries : List A) (found : List B)
-    → entries_in table first (λ e. Some (name e)) uses entries ≡ Ok found → AllPairs (λ a b. name_found a ≢ name_found b) found
+    → looked_up_in table first (λ e. Some (name e)) uses entries ≡ Ok found → AllPairs (λ a b. name_found a ≢ name_found b) found
 found-differ table name name_found uses each first entries found e =
     let apart : IsDistinct bytes_eq (map name entries) = rw (mapped_names name [] entries) at (distinct table (λ e. Some (name e)) uses first [] entries found e none_distinct) in
     let same : map name_found found ≡ map name entries = found-texts table (λ e. Some (name e)) uses name name_found each first [] entries found e in

@@ -5,9 +5,9 @@ use Rattle.tail_text.specs.Reading.{refusal_at}
 use Rattle.tail_text.specs.declared.refusal.Refusal.{Refusal}
 use Rattle.tail_text.specs.declared.refusal.Table.TheVariants.{Fleet}
 use Rattle.fleet_rules.specs.declared.tail.RawCarry.{RawCarry}
-use Rattle.book_maker.specs.Entries.{entries_from, entries_in}
-use Rattle.book_maker.specs.Names.{distinct_from, distinct_names, number_in, numbers_in}
-use Rattle.book_maker.specs.TailFound.{carry_from, carry_in}
+use Rattle.book_maker.specs.LookedUp.{looked_up_from, looked_up_in}
+use Rattle.book_maker.specs.NameNumbers.{distinct_from, distinct_names, number_in, numbers_in}
+use Rattle.book_maker.specs.CarryFound.{carry_from, carry_in}
 
 abbrev airports : List (List ℕ)
 airports = codes "OSL" ∷ codes "ARN" ∷ codes "BGO" ∷ []
@@ -24,12 +24,12 @@ distinct = refl
 
 -- entries of a fleet that are their own names, and each use an airport
 abbrev found : List (List ℕ) → Result (List ℕ) Refusal
-found names = entries_in Fleet 2 (λ x. Some x) (number_in airports) names
+found names = looked_up_in Fleet 2 (λ x. Some x) (number_in airports) names
 
 -- the own name comes before the one that is used, and an earlier entry before a later one
 entries : (found (codes "ARN" ∷ codes "OSL" ∷ []) ≡ Ok (1 ∷ 0 ∷ [])) × (found (codes "ARN" ∷ codes "CPH" ∷ codes "ARN" ∷ []) ≡ Err (refusal_at 12 Fleet 3))
     × (found (codes "ARN" ∷ codes "ARN" ∷ codes "CPH" ∷ []) ≡ Err (refusal_at 11 Fleet 3))
-unfolding entries_from
+unfolding looked_up_from
 entries = (refl, refl, refl)
 
 abbrev counters : List (List ℕ)

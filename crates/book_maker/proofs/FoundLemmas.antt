@@ -1,4 +1,7 @@
 -- What an entry keeps by itself it keeps with numbers in place of names, and its numbers are of the book.
+--
+-- A number that was found is the place of a name in a list, and so is below the list's length; a list of numbers is as
+-- long as the list of names that it stands for; every other field is the record's own.
 use Rattle.std.proofs.Common.{◌≡◌, ◌∙◌, ◌<◌, ℕ, ℤ, pos, Bool, true, false, not, cond, nat_lt, [], ◌∷◌, ◌++◌, List, length, map, replicate, slice_set, All, Option, Some, None, IsTrue, Result, Ok, Err, ap, arith, refl, sym}
 use Rattle.std.specs.List.{position_or_len}
 use Rattle.std.specs.Option.{ok_or}
@@ -8,15 +11,21 @@ use Rattle.std.proofs.lemmas.Int.{ints}
 use Rattle.std.proofs.lemmas.List.{length-map, length-set, length-replicate}
 use Rattle.std.proofs.lemmas.List.Elements.{All-cons, All-head, All-nil, All-replicate, All-set, All-tail}
 use Rattle.tail_text.specs.Checks.{look, must}
+use Rattle.tail_text.specs.declared.codes.TheConstants.{TWICE}
+use Rattle.tail_book.specs.declared.limits.TheConstants.{VALUE_LIMIT}
 use Rattle.tail_book.specs.Seen.{ActivitySeen, CounterSeen, CurfewSeen, RulesSeen, TailSeen}
-use Rattle.tail_book.specs.Sound.{IsActivity, IsCounter, IsCurfew, IsTail, IsWithin, is_none_or_below}
-use Rattle.timetable_reader.specs.Activity.{IsRawActivity, RawActivitySeen}
-use Rattle.fleet_rules.specs.RawRules.{IsRawCounter, IsRawCurfew, RawCounterSeen, RawCurfewSeen}
-use Rattle.fleet_rules.specs.Tail.{IsRawCarry, IsRawTail, RawTailSeen}
+use Rattle.tail_book.specs.inside.Sound.{IsActivity, IsCounter, IsCurfew, IsTail, IsWithin, is_none_or_below}
+use Rattle.timetable_reader.specs.inside.Activity.{IsRawActivity}
+use Rattle.timetable_reader.specs.Activity.{RawActivitySeen}
+use Rattle.fleet_rules.specs.inside.RawRules.{IsRawCounter, IsRawCurfew}
+use Rattle.fleet_rules.specs.RawRules.{RawCounterSeen, RawCurfewSeen}
+use Rattle.fleet_rules.specs.inside.Tail.{IsRawCarry, IsRawTail}
+use Rattle.fleet_rules.specs.Tail.{RawTailSeen}
 use Rattle.fleet_rules.specs.declared.tail.RawCarry.{RawCarry}
-use Rattle.book_maker.specs.Names.{number_in, numbers_in, optional_number_in, place_in}
+use Rattle.book_maker.specs.NameNumbers.{number_in, numbers_in, optional_number_in, place_in}
 use Rattle.book_maker.specs.RulesFound.{counter_in, curfew_in}
-use Rattle.book_maker.specs.TailFound.{carry_from, carry_in, is_named, tail_in}
+use Rattle.book_maker.specs.CarryFound.{carry_from, carry_in, is_named}
+use Rattle.book_maker.specs.TailFound.{tail_in}
 use Rattle.book_maker.specs.ActivityFound.{activity_in}
 
 -- what a look at a value gave, and what it went on to
@@ -115,7 +124,7 @@ counter_named airports raw c e =
 
 -- carry values, one for each counter
 abbrev IsCarry : ℤ → Type 0
-IsCarry = IsWithin (pos 0) (pos 10_000_000)
+IsCarry = IsWithin (pos 0) VALUE_LIMIT
 
 pub record AreCarry (counters : List (List ℕ)) (values : List ℤ) : Type 0 where
   pub each : All IsCarry values
@@ -129,7 +138,7 @@ carried counters before values [] carry so_far h e =
     rw (← is) so_far
 carried counters before values (item ∷ more) carry so_far h e =
     let known = looked (number_in counters item.counter) _ carry e in
-    let first = passed (not (is_named before item.counter)) 11 (carry_from counters (before ++ item ∷ []) (slice_set values known.value item.value) more) carry known.went_on in
+    let first = passed (not (is_named before item.counter)) TWICE (carry_from counters (before ++ item ∷ []) (slice_set values known.value item.value) more) carry known.went_on in
     carried counters (before ++ item ∷ []) (slice_set values known.value item.value) more carry
     (record {
       each = All-set IsCarry values known.value item.value (All-head IsRawCarry item more h).value so_far.each;

@@ -1,6 +1,7 @@
--- A look that gives nothing decides what an entry gives.
+-- A look that gives nothing decides what an entry gives: where the code returns early with a code, or for want of
+-- memory, the definition stops at the same look, whatever would have followed.
 use Rattle.std.proofs.Common.{◌≡◌, ℕ, List, Vec, Global, Result, Ok, Err, IsErrAnd, refl}
-use Rattle.table_records.specs.NoRow.{Judges}
+use Rattle.table_records.specs.inside.NoRow.{Judges}
 use Rattle.table_records.specs.declared.table.NoRow.{NoRow}
 use Rattle.table_records.specs.declared.table.NoRow.TheVariants.{Code, Memory}
 use Rattle.tail_text.specs.Checks.{look}

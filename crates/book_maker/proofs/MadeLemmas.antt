@@ -7,19 +7,22 @@ use Rattle.std.proofs.lemmas.List.{length-map}
 use Rattle.std.proofs.lemmas.List.Sorted.{All-permutation, length_permutation}
 use Rattle.tail_text.specs.declared.refusal.Table.TheVariants.{Fleet, Rules, Timetable}
 use Rattle.tail_book.specs.Seen.{ActivitySeen, AirportSeen, BookSeen, CounterSeen, CurfewSeen, RulesSeen, TailSeen}
-use Rattle.tail_book.specs.Sound.{IsActivity, IsBook, IsCounter, IsCurfew, IsRules, IsTail}
+use Rattle.tail_book.specs.inside.Sound.{IsActivity, IsBook, IsCounter, IsCurfew, IsRules, IsTail}
 use Rattle.tail_book.specs.declared.rules.AircraftType.{AircraftType}
-use Rattle.timetable_reader.specs.Activity.{IsRawActivity, RawActivitySeen}
-use Rattle.timetable_reader.specs.declared.timetable.TheConstants.{ACTIVITY_LIMIT}
-use Rattle.fleet_rules.specs.RawRules.{AreRawRules, IsRawCounter, IsRawCurfew, RawRulesSeen}
-use Rattle.fleet_rules.specs.Tail.{IsRawTail, RawTailSeen}
-use Rattle.fleet_rules.specs.declared.fleet.TheConstants.{TAIL_LIMIT}
-use Rattle.book_maker.specs.Known.{HasAsMany, KnownNames, with_rules}
-use Rattle.book_maker.specs.Entries.{entries_in}
+use Rattle.timetable_reader.specs.inside.Activity.{IsRawActivity}
+use Rattle.timetable_reader.specs.Activity.{RawActivitySeen}
+use Rattle.tail_book.specs.declared.limits.TheConstants.{ACTIVITY_LIMIT, TAIL_LIMIT}
+use Rattle.fleet_rules.specs.inside.RawRules.{AreRawRules, IsRawCounter, IsRawCurfew}
+use Rattle.fleet_rules.specs.RawRules.{RawRulesSeen}
+use Rattle.fleet_rules.specs.inside.Tail.{IsRawTail}
+use Rattle.fleet_rules.specs.Tail.{RawTailSeen}
+use Rattle.book_maker.specs.inside.Known.{HasAsMany, KnownNames, with_rules}
+use Rattle.book_maker.specs.LookedUp.{looked_up_in}
 use Rattle.book_maker.specs.RulesFound.{airport_names, counter_in, counter_names, curfew_in, kind_names, rules_in}
 use Rattle.book_maker.specs.TailFound.{tail_in}
 use Rattle.book_maker.specs.ActivityFound.{activity_in}
-use Rattle.book_maker.specs.Made.{activities_in, tags_of, tails_in}
+use Rattle.book_maker.specs.Made.{activities_in, tails_in}
+use Rattle.book_maker.specs.Tags.{tags_of}
 use Rattle.book_maker.specs.Order.{in_order}
 use Rattle.book_maker.proofs.EntryFacts.{found-all, found-differ, found-many, found-texts}
 use Rattle.book_maker.proofs.FoundLemmas.{activity_named, activity_sound, counter_named, counter_sound, curfew_sound, looked, tail_named, tail_sound}
@@ -38,10 +41,10 @@ unchanged xs ys e = sym (itself xs) ∙ e ∙ itself ys
 
 -- the four kinds of entries of the rules gave these
 pub record RulesGave (raw : RawRulesSeen) (kinds : List AircraftType) (airports : List AirportSeen) (curfews : List CurfewSeen) (counters : List CounterSeen) : Type 0 where
-  pub kinds_gave : entries_in Rules 1 (λ t. Some t.name) (λ t. Ok t) raw.kinds ≡ Ok kinds
-  pub airports_gave : entries_in Rules (1 + length raw.kinds) (λ p. Some p.name) (λ p. Ok p) raw.airports ≡ Ok airports
-  pub curfews_gave : entries_in Rules (1 + length raw.kinds + length raw.airports) (λ _. None) (curfew_in (airport_names raw) (kind_names raw)) raw.curfews ≡ Ok curfews
-  pub counters_gave : entries_in Rules (1 + length raw.kinds + length raw.airports + length raw.curfews) (λ c. Some c.name) (counter_in (airport_names raw)) raw.counters ≡ Ok counters
+  pub kinds_gave : looked_up_in Rules 1 (λ t. Some t.name) (λ t. Ok t) raw.kinds ≡ Ok kinds
+  pub airports_gave : looked_up_in Rules (1 + length raw.kinds) (λ p. Some p.name) (λ p. Ok p) raw.airports ≡ Ok airports
+  pub curfews_gave : looked_up_in Rules (1 + length raw.kinds + length raw.airports) (λ _. None) (curfew_in (airport_names raw) (kind_names raw)) raw.curfews ≡ Ok curfews
+  pub counters_gave : looked_up_in Rules (1 + length raw.kinds + length raw.airports + length raw.curfews) (λ c. Some c.name) (counter_in (airport_names raw)) raw.counters ≡ Ok counters
 
 module _ (raw : RawRulesSeen) (sound : AreRawRules raw) (kinds : List AircraftType) (airports : List AirportSeen) (curfews : List CurfewSeen) (counters : List CounterSeen)
     (gave : RulesGave raw kinds airports curfews counters) where
@@ -97,10 +100,10 @@ pub record AreFound (raw : RawRulesSeen) (rules : RulesSeen) : Type 0 where
 
 pub rules_in-found : (raw : RawRulesSeen) (found : RulesSeen) → AreRawRules raw → rules_in raw ≡ Ok found → AreFound raw found
 rules_in-found raw found sound e =
-    let kinds = looked (entries_in Rules 1 (λ t. Some t.name) (λ t. Ok t) raw.kinds) _ found e in
-    let airports = looked (entries_in Rules (1 + length raw.kinds) (λ p. Some p.name) (λ p. Ok p) raw.airports) _ found kinds.went_on in
-    let curfews = looked (entries_in Rules (1 + length raw.kinds + length raw.airports) (λ _. None) (curfew_in (airport_names raw) (kind_names raw)) raw.curfews) _ found airports.went_on in
-    let counters = looked (entries_in Rules (1 + length raw.kinds + length raw.airports + length raw.curfews) (λ c. Some c.name) (counter_in (airport_names raw)) raw.counters) _ found curfews.went_on in
+    let kinds = looked (looked_up_in Rules 1 (λ t. Some t.name) (λ t. Ok t) raw.kinds) _ found e in
+    let airports = looked (looked_up_in Rules (1 + length raw.kinds) (λ p. Some p.name) (λ p. Ok p) raw.airports) _ found kinds.went_on in
+    let curfews = looked (looked_up_in Rules (1 + length raw.kinds + length raw.airports) (λ _. None) (curfew_in (airport_names raw) (kind_names raw)) raw.curfews) _ found airports.went_on in
+    let counters = looked (looked_up_in Rules (1 + length raw.kinds + length raw.airports + length raw.curfews) (λ c. Some c.name) (counter_in (airport_names raw)) raw.counters) _ found curfews.went_on in
     let gave : RulesGave raw kinds.value airports.value curfews.value counters.value = record { kinds_gave = kinds.gave; airports_gave = airports.gave; curfews_gave = curfews.gave; counters_gave = counters.gave } in
     let is : record { kinds = kinds.value; airports = airports.value; curfews = curfews.value; counters = counters.value; bands = raw.bands } ≡ found = cc (counters.went_on) in
     rw (← is) (record {

@@ -1,10 +1,13 @@
 -- The turns of the loops over names: what is left decides.
+--
+-- A name that the set has leaves it as it is, and another one goes to its end: that is what the definition does with
+-- its list of names.
 use Rattle.std.proofs.Common.{◌≡◌, ◌∙◌, ℕ, ◌+◌, ◌<◌, ◌≤◌, true, false, List, [], ◌∷◌, ◌++◌, length, take, drop, get_or, refl, arith, Bool, not, sym, length-append, if◌then◌else◌}
 use Rattle.std.proofs.lemmas.List.{drop_all, drop_more, take_more}
 use Rattle.std.specs.List.{list_any}
 use Rattle.std.specs.Str.{bytes_eq}
 use Rattle.indexmap.specs.IndexSet.{insert_key}
-use Rattle.book_maker.specs.Names.{distinct_from, distinct_names, is_among, with_name}
+use Rattle.book_maker.specs.NameNumbers.{distinct_from, distinct_names, is_among, with_name}
 
 module _ (names : List (List ℕ)) (i : ℕ) (x : List ℕ) (within : i < length names) (here : x ≡ get_or names i x) where
   next : drop i names ≡ x ∷ drop (i + 1) names

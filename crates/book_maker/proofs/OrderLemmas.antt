@@ -18,7 +18,7 @@ use Rattle.std.proofs.lemmas.Map.Lookups.{exact_bytes}
 use Rattle.std.proofs.lemmas.Map.Views.{All-after_first}
 use Rattle.std.proofs.lemmas.Slice.Eq.{bytes_eq-Decides}
 use Rattle.tail_book.specs.Seen.{ActivitySeen}
-use Rattle.tail_book.specs.Sound.{comes_before}
+use Rattle.tail_book.specs.ActivityOrder.{comes_before}
 use Rattle.book_maker.specs.Order.{in_order, put}
 
 -- the order as the key of the sort has it

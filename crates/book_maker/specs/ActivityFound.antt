@@ -1,9 +1,10 @@
--- The activities of the timetable, with numbers in place of the names that they use.
+-- The activities of the timetable, with numbers in place of the names that they use. The first name that nothing has,
+-- in this order, is code 12.
 use Rattle.std.specs.Prelude.{ℕ, List, map, Result, Ok}
 use Rattle.tail_book.specs.Seen.{ActivitySeen}
 use Rattle.tail_text.specs.Checks.{look}
 use Rattle.timetable_reader.specs.Activity.{RawActivitySeen}
-use Rattle.book_maker.specs.Names.{number_in, numbers_in, optional_number_in, place_in}
+use Rattle.book_maker.specs.NameNumbers.{number_in, numbers_in, optional_number_in, place_in}
 
 -- an activity uses its airports, its types, the aircraft that it is preassigned to, and the counters that it resets; tags
 -- are not declared

@@ -1,9 +1,10 @@
-pub mod Names
-pub mod Known
-pub mod KnownParts
-pub mod Entries
+pub mod NameNumbers
+pub mod LookedUp
 pub mod RulesFound
+pub mod CarryFound
 pub mod TailFound
 pub mod ActivityFound
 pub mod Order
+pub mod Tags
 pub mod Made
+pub mod inside

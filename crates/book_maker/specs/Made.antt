@@ -1,5 +1,6 @@
--- The book of the three tables, or the first refusal.
-use Rattle.std.specs.Prelude.{ℕ, List, [], ◌∷◌, ◌++◌, map, Some, Result, Ok}
+-- The book of the three tables, or the first refusal: each table by itself, and then the names of all three. Activities
+-- are put in order last, so that a refusal has its place in the table as it was written.
+use Rattle.std.specs.Prelude.{ℕ, List, map, Some, Result, Ok}
 use Rattle.tail_book.specs.Seen.{ActivitySeen, BookSeen, TailSeen}
 use Rattle.tail_text.specs.Checks.{look}
 use Rattle.tail_text.specs.declared.refusal.Refusal.{Refusal}
@@ -10,31 +11,22 @@ use Rattle.fleet_rules.specs.Fleet.{fleet_of}
 use Rattle.fleet_rules.specs.RawRules.{RawRulesSeen}
 use Rattle.fleet_rules.specs.RulesTable.{rules_of}
 use Rattle.fleet_rules.specs.Tail.{RawTailSeen}
-use Rattle.book_maker.specs.Names.{distinct_names}
-use Rattle.book_maker.specs.Entries.{entries_in}
+use Rattle.book_maker.specs.LookedUp.{looked_up_in}
 use Rattle.book_maker.specs.RulesFound.{airport_names, counter_names, kind_names, rules_in}
 use Rattle.book_maker.specs.TailFound.{tail_in}
 use Rattle.book_maker.specs.ActivityFound.{activity_in}
 use Rattle.book_maker.specs.Order.{in_order}
-
--- the lists of a list, one after the other
-unfoldable pub joined : List (List (List ℕ)) → List (List ℕ)
-joined [] = []
-joined (names ∷ more) = names ++ joined more
-
--- the tags that the tables name, in order of first appearance, the fleet before the timetable
-abbrev pub tags_of : List RawTailSeen → List RawActivitySeen → List (List ℕ)
-tags_of tails activities = distinct_names (joined (map (λ t. t.tags) tails) ++ joined (map (λ a. a.tags) activities))
+use Rattle.book_maker.specs.Tags.{tags_of}
 
 -- the aircraft with numbers; the header is record 1 of its table, so the first aircraft stands in record 2
 abbrev pub tails_in : RawRulesSeen → List (List ℕ) → List RawTailSeen → Result (List TailSeen) Refusal
 tails_in rules tags tails =
-    entries_in Fleet 2 (λ t. Some t.name) (tail_in (kind_names rules) (airport_names rules) (counter_names rules) tags) tails
+    looked_up_in Fleet 2 (λ t. Some t.name) (tail_in (kind_names rules) (airport_names rules) (counter_names rules) tags) tails
 
 -- the activities with numbers, in the order of their table
 abbrev pub activities_in : RawRulesSeen → List RawTailSeen → List (List ℕ) → List RawActivitySeen → Result (List ActivitySeen) Refusal
 activities_in rules tails tags activities =
-    entries_in Timetable 2 (λ a. Some a.id)
+    looked_up_in Timetable 2 (λ a. Some a.id)
     (activity_in (kind_names rules) (airport_names rules) (counter_names rules) (map (λ t. t.name) tails) tags) activities
 
 -- the book of the records, or their first refusal: that of the rules, of the fleet, and then of the timetable

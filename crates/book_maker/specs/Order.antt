@@ -1,7 +1,8 @@
--- Activities in order of their starts, and of their ids where the starts are equal.
+-- Activities in order of their starts, and of their ids where the starts are equal: the plain way, by putting each one
+-- in front of the first that it comes before.
 use Rattle.std.specs.Prelude.{List, [], ◌∷◌, if◌then◌else◌}
 use Rattle.tail_book.specs.Seen.{ActivitySeen}
-use Rattle.tail_book.specs.Sound.{comes_before}
+use Rattle.tail_book.specs.ActivityOrder.{comes_before}
 
 -- the activity put in front of the first that it comes before
 unfoldable pub put : ActivitySeen → List ActivitySeen → List ActivitySeen

@@ -1,12 +1,13 @@
--- The entries of the rules, with numbers in place of the names that they use.
+-- The entries of the rules, with numbers in place of the names that they use. The first name that nothing has, in this
+-- order, is code 12.
 use Rattle.std.specs.Prelude.{ℕ, ◌+◌, List, length, map, None, Some, Result, Ok}
 use Rattle.tail_book.specs.Seen.{CounterSeen, CurfewSeen, RulesSeen}
 use Rattle.tail_text.specs.Checks.{look}
 use Rattle.tail_text.specs.declared.refusal.Refusal.{Refusal}
 use Rattle.tail_text.specs.declared.refusal.Table.TheVariants.{Rules}
 use Rattle.fleet_rules.specs.RawRules.{RawCounterSeen, RawCurfewSeen, RawRulesSeen}
-use Rattle.book_maker.specs.Names.{number_in, numbers_in}
-use Rattle.book_maker.specs.Entries.{entries_in}
+use Rattle.book_maker.specs.NameNumbers.{number_in, numbers_in}
+use Rattle.book_maker.specs.LookedUp.{looked_up_in}
 
 -- the names that the rules declare, each kind in the order of its entries
 abbrev pub kind_names : RawRulesSeen → List (List ℕ)
@@ -48,10 +49,10 @@ counter_in airports c =
 -- counters; a type and an airport use no other name, and a curfew has no name of its own
 abbrev pub rules_in : RawRulesSeen → Result RulesSeen Refusal
 rules_in rules =
-    look (entries_in Rules 1 (λ t. Some t.name) (λ t. Ok t) rules.kinds) (λ kinds.
-    look (entries_in Rules (1 + length rules.kinds) (λ p. Some p.name) (λ p. Ok p) rules.airports) (λ airports.
-    look (entries_in Rules (1 + length rules.kinds + length rules.airports) (λ _. None) (curfew_in (airport_names rules) (kind_names rules)) rules.curfews) (λ curfews.
-    look (entries_in Rules (1 + length rules.kinds + length rules.airports + length rules.curfews) (λ c. Some c.name) (counter_in (airport_names rules)) rules.counters) (λ counters.
+    look (looked_up_in Rules 1 (λ t. Some t.name) (λ t. Ok t) rules.kinds) (λ kinds.
+    look (looked_up_in Rules (1 + length rules.kinds) (λ p. Some p.name) (λ p. Ok p) rules.airports) (λ airports.
+    look (looked_up_in Rules (1 + length rules.kinds + length rules.airports) (λ _. None) (curfew_in (airport_names rules) (kind_names rules)) rules.curfews) (λ curfews.
+    look (looked_up_in Rules (1 + length rules.kinds + length rules.airports + length rules.curfews) (λ c. Some c.name) (counter_in (airport_names rules)) rules.counters) (λ counters.
     Ok (record {
       kinds = kinds;
       airports = airports;

@@ -1,20 +1,23 @@
 //! The entries of each table in their order, whose names become known one kind after the other.
+//!
+//! An entry uses only names of kinds that were declared before its own: a curfew those of airports and types, a counter
+//! those of airports, an aircraft those of types, airports and counters, an activity those of aircraft too. So one pass
+//! over each table is enough.
 
 ghost use Rattle.std.specs.Prelude.{◌≡◌, ◌+◌, ◌≤◌, ◌<◌, ◌^◌, length, map, All, None, Ok, Some, OnOk};
-ghost use Rattle.tail_text.specs.Reading.{Answers};
+ghost use Rattle.tail_book.specs.declared.limits.TheConstants.{ACTIVITY_LIMIT, AIRPORT_LIMIT, COUNTER_LIMIT, CURFEW_LIMIT, TAIL_LIMIT, TYPE_LIMIT};
+ghost use Rattle.tail_text.specs.inside.Reading.{Answers};
 ghost use Rattle.tail_text.specs.declared.refusal.Table.TheVariants.{Fleet, Rules as RulesTable, Timetable};
-ghost use Rattle.timetable_reader.specs.Activity.{IsRawActivity};
-ghost use Rattle.timetable_reader.specs.declared.timetable.TheConstants.{ACTIVITY_LIMIT};
-ghost use Rattle.fleet_rules.specs.Tail.{IsRawTail};
-ghost use Rattle.fleet_rules.specs.declared.fleet.TheConstants.{TAIL_LIMIT};
-ghost use Rattle.book_maker.specs.Known.{with_airports, with_counters, with_kinds, with_tails};
-ghost use Rattle.book_maker.specs.Entries.{entries_in};
+ghost use Rattle.timetable_reader.specs.inside.Activity.{IsRawActivity};
+ghost use Rattle.fleet_rules.specs.inside.Tail.{IsRawTail};
+ghost use Rattle.book_maker.specs.inside.Known.{with_airports, with_counters, with_kinds, with_tails};
+ghost use Rattle.book_maker.specs.LookedUp.{looked_up_in};
 ghost use Rattle.book_maker.specs.RulesFound.{counter_in, curfew_in};
 ghost use Rattle.book_maker.specs.TailFound.{tail_in};
 ghost use Rattle.book_maker.specs.ActivityFound.{activity_in};
 
-use crate::entries::look_up;
 use crate::known::Known;
+use crate::looked_up::look_up;
 use fleet_rules::{RawCounter, RawCurfew, RawTail};
 use std::alloc::Global;
 use tail_book::{Activity, AircraftType, Airport, Counter, Curfew, Tail};
@@ -28,8 +31,8 @@ pub fn declare_kinds(
     kinds: &[AircraftType],
     known: &mut Known,
 ) -> Result<Vec<AircraftType>, Stopped>
-    requires few { length kinds.now ≤ 20 }
-    ensures found { Answers (λ v. v.items) (entries_in RulesTable 1 (λ t. Some t.name) (λ t. Ok t) kinds.now) result }
+    requires few { length kinds.now ≤ TYPE_LIMIT }
+    ensures found { Answers (λ v. v.items) (looked_up_in RulesTable 1 (λ t. Some t.name) (λ t. Ok t) kinds.now) result }
     ensures known { OnOk result (known.new ≡ with_kinds known.old (map (λ t. t.name) kinds.now)) }
 {
     let found = look_up(alloc, Table::Rules, 1, known, kinds)?;
@@ -46,8 +49,8 @@ pub fn declare_airports(
     known: &mut Known,
 ) -> Result<Vec<Airport>, Stopped>
     requires first { first ≤ 1000 }
-    requires few { length airports.now ≤ 200 }
-    ensures found { Answers (λ v. v.items) (entries_in RulesTable first (λ p. Some p.name) (λ p. Ok p) airports.now) result }
+    requires few { length airports.now ≤ AIRPORT_LIMIT }
+    ensures found { Answers (λ v. v.items) (looked_up_in RulesTable first (λ p. Some p.name) (λ p. Ok p) airports.now) result }
     ensures known { OnOk result (known.new ≡ with_airports known.old (map (λ p. p.name) airports.now)) }
 {
     let found = look_up(alloc, Table::Rules, first, known, airports)?;
@@ -63,8 +66,8 @@ pub fn find_curfews(
     known: &Known,
 ) -> Result<Vec<Curfew>, Stopped>
     requires first { first ≤ 1000 }
-    requires few { length curfews.now ≤ 400 }
-    ensures { Answers (λ v. v.items) (entries_in RulesTable first (λ _. None) (curfew_in known.now.airports known.now.kinds) curfews.now) result }
+    requires few { length curfews.now ≤ CURFEW_LIMIT }
+    ensures { Answers (λ v. v.items) (looked_up_in RulesTable first (λ _. None) (curfew_in known.now.airports known.now.kinds) curfews.now) result }
 {
     let found = look_up(alloc, Table::Rules, first, known, curfews)?;
     Ok(found.entries)
@@ -79,8 +82,8 @@ pub fn declare_counters(
     known: &mut Known,
 ) -> Result<Vec<Counter>, Stopped>
     requires first { first ≤ 1000 }
-    requires few { length counters.now ≤ 6 }
-    ensures found { Answers (λ v. v.items) (entries_in RulesTable first (λ c. Some c.name) (counter_in known.old.airports) counters.now) result }
+    requires few { length counters.now ≤ COUNTER_LIMIT }
+    ensures found { Answers (λ v. v.items) (looked_up_in RulesTable first (λ c. Some c.name) (counter_in known.old.airports) counters.now) result }
     ensures known { OnOk result (known.new ≡ with_counters known.old (map (λ c. c.name) counters.now)) }
 {
     let found = look_up(alloc, Table::Rules, first, known, counters)?;
@@ -96,7 +99,7 @@ pub fn declare_tails(
     known: &mut Known,
 ) -> Result<Vec<Tail>, Stopped>
     requires few { length tails.now ≤ TAIL_LIMIT }
-    ensures found { Answers (λ v. v.items) (entries_in Fleet 2 (λ t. Some t.name) (tail_in known.old.kinds known.old.airports known.old.counters known.old.tags) tails.now) result }
+    ensures found { Answers (λ v. v.items) (looked_up_in Fleet 2 (λ t. Some t.name) (tail_in known.old.kinds known.old.airports known.old.counters known.old.tags) tails.now) result }
     ensures known { OnOk result (known.new ≡ with_tails known.old (map (λ t. t.name) tails.now)) }
     ensures sound { OnOk result (All IsRawTail tails.now) }
 {
@@ -112,7 +115,7 @@ pub fn find_activities(
     known: &Known,
 ) -> Result<Vec<Activity>, Stopped>
     requires few { length activities.now ≤ ACTIVITY_LIMIT }
-    ensures found { Answers (λ v. v.items) (entries_in Timetable 2 (λ a. Some a.id) (activity_in known.now.kinds known.now.airports known.now.counters known.now.tails known.now.tags) activities.now) result }
+    ensures found { Answers (λ v. v.items) (looked_up_in Timetable 2 (λ a. Some a.id) (activity_in known.now.kinds known.now.airports known.now.counters known.now.tails known.now.tags) activities.now) result }
     ensures sound { OnOk result (All IsRawActivity activities.now) }
 {
     let found = look_up(alloc, Table::Timetable, 2, known, activities)?;

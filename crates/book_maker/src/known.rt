@@ -1,4 +1,7 @@
 //! The names that the tables declare, each kind by itself.
+//!
+//! The number of a name is its place in the set of its kind, which keeps the order in which names came. Kinds are
+//! apart, so an airport and a type may have the same name.
 
 use indexmap::IndexSet;
 use std::marker::Model;
@@ -16,11 +19,11 @@ pub struct Known {
 }
 
 impl Model for Known {
-    ghost use Rattle.book_maker.specs.Known.{KnownNames, AreNumbered};
+    ghost use Rattle.book_maker.specs.inside.Known.{KnownNames, AreNumbered};
 
     ghost Value = { KnownNames };
 
-    ghost use Rattle.book_maker.specs.KnownParts.{names_in};
+    ghost use Rattle.book_maker.specs.inside.KnownParts.{names_in};
 
     ghost view = { names_in };
 

@@ -1,21 +1,19 @@
 //! The book of a timetable, a fleet and rules: names are numbered, and activities are put in order.
 #![tactic(auto)]
 
-mod activities;
-mod carry;
+mod activity_found;
+mod carry_found;
 mod declare;
-mod entries;
 mod known;
-mod make;
-mod names;
+mod looked_up;
+mod made;
+mod name_numbers;
 mod order;
-mod read;
-mod rules;
+mod rules_found;
 mod tags;
-mod tails;
+mod tail_found;
 
-pub use make::make_book;
-pub use read::read_book;
+pub use made::{make_book, read_book};
 
 #[cfg(test)]
 mod tests;

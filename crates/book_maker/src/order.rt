@@ -1,4 +1,6 @@
 //! Activities in order of their starts, and of their ids where the starts are equal.
+//!
+//! No two ids are equal, so there is one such order, whatever sort finds it. It is sorted once, and stays so.
 
 ghost use Rattle.std.specs.Prelude.{◌≡◌, ◌≢◌, AllPairs, OnOk};
 ghost use Rattle.book_maker.specs.Order.{in_order};

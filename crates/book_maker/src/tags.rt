@@ -1,11 +1,14 @@
 //! The tags that the tables name. They are not declared, so they are numbered as they come.
+//!
+//! All tags of both tables are listed before an entry is looked up, so that none is unknown then: at most 84,000, since
+//! there are 4,200 records of at most 20 tags. Each goes into a set once.
 
-ghost use Rattle.std.specs.Prelude.{◌≡◌, ◌+◌, ◌*◌, ◌<◌, ◌≤◌, ◌^◌, ◌++◌, length, map, IfOk, OnOk};
-ghost use Rattle.timetable_reader.specs.declared.timetable.TheConstants.{ACTIVITY_LIMIT};
-ghost use Rattle.fleet_rules.specs.declared.fleet.TheConstants.{TAIL_LIMIT};
-ghost use Rattle.book_maker.specs.Made.{joined, tags_of};
+ghost use Rattle.std.specs.Prelude.{◌≡◌, ◌+◌, ◌*◌, ◌<◌, ◌≤◌, ◌^◌, ◌++◌, length, IfOk, OnOk};
+ghost use Rattle.std.specs.List.{flat_map};
+ghost use Rattle.tail_book.specs.declared.limits.TheConstants.{ACTIVITY_LIMIT, ITEM_LIMIT, TAIL_LIMIT};
+ghost use Rattle.book_maker.specs.Tags.{tags_of};
 
-use crate::names::distinct_names;
+use crate::name_numbers::distinct_names;
 use fleet_rules::RawTail;
 use indexmap::IndexSet;
 use std::alloc::Global;
@@ -30,8 +33,8 @@ pub fn tags_of(
 }
 
 fn add_tail_tags(names: &mut Vec<Name>, tails: &[RawTail]) -> Result<(), Memory>
-    ensures tags { OnOk result (names.new.items ≡ names.old.items ++ joined (map (λ t. t.tags) tails.now)) }
-    ensures few { OnOk result (length names.new.items ≤ length names.old.items + 20 * length tails.now) }
+    ensures tags { OnOk result (names.new.items ≡ names.old.items ++ flat_map (λ t. t.tags) tails.now) }
+    ensures few { OnOk result (length names.new.items ≤ length names.old.items + ITEM_LIMIT * length tails.now) }
 {
     for i in 0..tails.len() {
         let tail = &tails[i];
@@ -41,8 +44,8 @@ fn add_tail_tags(names: &mut Vec<Name>, tails: &[RawTail]) -> Result<(), Memory>
 }
 
 fn add_activity_tags(names: &mut Vec<Name>, activities: &[RawActivity]) -> Result<(), Memory>
-    ensures tags { OnOk result (names.new.items ≡ names.old.items ++ joined (map (λ a. a.tags) activities.now)) }
-    ensures few { OnOk result (length names.new.items ≤ length names.old.items + 20 * length activities.now) }
+    ensures tags { OnOk result (names.new.items ≡ names.old.items ++ flat_map (λ a. a.tags) activities.now) }
+    ensures few { OnOk result (length names.new.items ≤ length names.old.items + ITEM_LIMIT * length activities.now) }
 {
     for i in 0..activities.len() {
         let activity = &activities[i];

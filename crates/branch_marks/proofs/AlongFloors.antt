@@ -9,9 +9,9 @@ use Rattle.tail_book.specs.declared.place.Place.TheVariants.{After}
 use Rattle.tail_book.specs.Lookup.{activities, aircraft}
 use Rattle.tail_book.specs.Numbers.{contains}
 use Rattle.tail_book.specs.Counters.{step, WithinLimits}
-use Rattle.tail_book.specs.Order.{EachAtMost, EachAtMostChains, StepsKeepOrder, LowerStaysWithin}
+use Rattle.tail_book.specs.inside.Order.{EachAtMost, EachAtMostChains, StepsKeepOrder, LowerStaysWithin}
 use Rattle.tail_book.specs.Route.{IsLegalFrom}
-use Rattle.tail_book.specs.Sound.{IsBook}
+use Rattle.tail_book.specs.inside.Sound.{IsBook}
 use Rattle.branch_marks.specs.declared.fact.Fact.{Fact}
 use Rattle.branch_marks.specs.Facts.{begins, directly}
 use Rattle.branch_marks.specs.Marks.{IsAlive, IsUsable, MayEnd, FitsFrom}

@@ -9,7 +9,7 @@ use Rattle.std.proofs.lemmas.Nat.{pow-add}
 use Rattle.std.proofs.lemmas.Bool.{eq-eqb, ne_eqb, cases_eq, cases_lt}
 use Rattle.std.proofs.lemmas.List.{get_or-set_same, get_or-set_other}
 use Rattle.std.proofs.lemmas.Nat.Bits.{bit_at-zero, bit_at-trailing_zeros}
-use Rattle.branch_marks.specs.BitRows.{bit}
+use Rattle.branch_marks.specs.inside.BitRows.{bit}
 
 or_yes : (x t : Bool) → t ≡ true → true ≡ (x || t)
 or_yes x t e = grind arith

@@ -4,11 +4,11 @@ use Rattle.tail_book.specs.Seen.{BookSeen}
 use Rattle.tail_book.specs.declared.place.Place.TheVariants.{Carry}
 use Rattle.tail_book.specs.Lookup.{aircraft}
 use Rattle.tail_book.specs.Plan.{route_of}
-use Rattle.tail_book.specs.Rising.{EachIsFlownOnce}
-use Rattle.tail_book.specs.Sound.{IsBook}
+use Rattle.tail_book.specs.inside.Rising.{EachIsFlownOnce}
+use Rattle.tail_book.specs.inside.Sound.{IsBook}
 use Rattle.branch_marks.specs.declared.fact.Fact.{Fact}
 use Rattle.branch_marks.specs.DeadEnds.{IsHole, IsStuck, HasNoMarkedPlan}
-use Rattle.branch_marks.specs.Fitting.{MarkedRoutesFit}
+use Rattle.branch_marks.specs.inside.Fitting.{MarkedRoutesFit}
 use Rattle.branch_marks.proofs.AlongFloors.{alive_along}
 
 pub hole_leaves_none : MarkedRoutesFit → EachIsFlownOnce → (book : BookSeen) → IsBook book → (marks : List Fact) (a : ℕ) → IsHole book marks a → HasNoMarkedPlan book marks

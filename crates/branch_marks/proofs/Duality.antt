@@ -2,16 +2,17 @@
 -- the cost; and in a legal plan, which flies each activity once, the duals of the routes are all duals.
 use Rattle.std.proofs.Common.{◌≡◌, ◌∙◌, ℕ, suc, ℤ, pos, negsuc, ◌+◌, ◌*◌, ◌+ℤ◌, ◌-ℤ◌, ◌≤ℤ◌, ◌<◌, ◌≤◌, arith, List, [], ◌∷◌, map, length, sym, get_or}
 use Rattle.std.proofs.lemmas.Int.{ints}
-use Rattle.tail_book.specs.Seen.{BookSeen, CostTableSeen}
+use Rattle.tail_book.specs.Seen.{BookSeen}
+use Rattle.tail_book.specs.inside.Seen.{CostTableSeen}
 use Rattle.tail_book.specs.Lookup.{activities, aircraft}
-use Rattle.tail_book.specs.CostTable.{route_cost_in, cost_of_routes_in, plan_cost_in}
-use Rattle.tail_book.specs.Partition.{TotalOfLegalPlan}
+use Rattle.tail_book.specs.inside.CostTable.{route_cost_in, cost_of_routes_in, plan_cost_in}
+use Rattle.tail_book.specs.inside.Partition.{TotalOfLegalPlan}
 use Rattle.tail_book.specs.Plan.{route_of, IsLegalPlan}
-use Rattle.tail_book.specs.Sound.{IsBook}
-use Rattle.tail_book.specs.Sums.{total, sum_below, TotalByNumber}
+use Rattle.tail_book.specs.inside.Sound.{IsBook}
+use Rattle.tail_book.specs.inside.Sums.{total, sum_below, TotalByNumber}
 use Rattle.branch_marks.specs.declared.fact.Fact.{Fact}
 use Rattle.branch_marks.specs.Facts.{HoldAll}
-use Rattle.branch_marks.specs.Fitting.{MarkedRoutesFit}
+use Rattle.branch_marks.specs.inside.Fitting.{MarkedRoutesFit}
 use Rattle.branch_marks.specs.Weights.{dual, duals_on, weight}
 use Rattle.branch_marks.specs.Bound.{AreLowWeights, lagrangian, rounded_up}
 

@@ -11,9 +11,9 @@ use Rattle.tail_book.specs.declared.place.Place.TheVariants.{Carry, After}
 use Rattle.tail_book.specs.Lookup.{activities, aircraft, carry_of}
 use Rattle.tail_book.specs.Numbers.{contains}
 use Rattle.tail_book.specs.Plan.{route_of, IsLegalPlan}
-use Rattle.tail_book.specs.Rising.{LegalRoutesRise, EachIsFlownOnce, IsRisingFrom}
+use Rattle.tail_book.specs.inside.Rising.{LegalRoutesRise, EachIsFlownOnce, IsRisingFrom}
 use Rattle.tail_book.specs.Route.{IsLegalFrom}
-use Rattle.tail_book.specs.Sound.{IsBook}
+use Rattle.tail_book.specs.inside.Sound.{IsBook}
 use Rattle.branch_marks.specs.declared.fact.Fact.{Fact}
 use Rattle.branch_marks.specs.declared.fact.Fact.TheVariants.{Bar, Must, Cut, Tie}
 use Rattle.branch_marks.specs.Facts.{begins, directly, joins, Holds, HoldAll}

@@ -1,18 +1,18 @@
--- A fact that follows holds in each legal plan of which the marks hold. What is dead stands in no route that fits, since
+-- Whatever legal plan the marks hold of, what follows from them holds of it too. What is dead stands in no route that fits, since
 -- along such a route there are floors with which it goes on; the flier of an activity is one for whom it is alive.
 use Rattle.std.proofs.Common.{◌≡◌, ℕ, ℤ, ◌<◌, inl, inr, true, arith, List, refl, subst, Option}
 use Rattle.std.proofs.lemmas.Bool.{false_from_ne_true}
 use Rattle.tail_book.specs.Seen.{BookSeen}
 use Rattle.tail_book.specs.declared.place.Place.TheVariants.{Carry}
 use Rattle.tail_book.specs.Lookup.{aircraft, carry_of}
-use Rattle.tail_book.specs.Order.{EachAtMostItself, EachAtMostChains, StepsKeepOrder, LowerStaysWithin}
+use Rattle.tail_book.specs.inside.Order.{EachAtMostItself, EachAtMostChains, StepsKeepOrder, LowerStaysWithin}
 use Rattle.tail_book.specs.Plan.{route_of, IsLegalPlan}
-use Rattle.tail_book.specs.Rising.{EachIsFlownOnce}
-use Rattle.tail_book.specs.Sound.{IsBook}
+use Rattle.tail_book.specs.inside.Rising.{EachIsFlownOnce}
+use Rattle.tail_book.specs.inside.Sound.{IsBook}
 use Rattle.branch_marks.specs.declared.fact.Fact.{Fact}
 use Rattle.branch_marks.specs.declared.fact.Fact.TheVariants.{Bar, Must, Cut, Tie}
 use Rattle.branch_marks.specs.Facts.{flies, joins, Holds, HoldAll, IsFactOf}
-use Rattle.branch_marks.specs.Fitting.{MarkedRoutesFit}
+use Rattle.branch_marks.specs.inside.Fitting.{MarkedRoutesFit}
 use Rattle.branch_marks.specs.Floors.{FloorsAreLow}
 use Rattle.branch_marks.specs.Following.{IsDeadBy, IsDead, IsOnlyCarrier, CannotGoBy, IsDeadConnection, Follows}
 use Rattle.branch_marks.proofs.Neighbours.{route_of_joins}

@@ -7,15 +7,15 @@ use Rattle.tail_book.specs.Seen.{BookSeen}
 use Rattle.tail_book.specs.declared.place.Place.TheVariants.{After}
 use Rattle.tail_book.specs.Lookup.{activities, aircraft}
 use Rattle.tail_book.specs.Counters.{step, WithinLimits}
-use Rattle.tail_book.specs.Tests.{LimitsDecide}
+use Rattle.tail_book.specs.inside.Tests.{LimitsDecide}
 use Rattle.branch_marks.specs.declared.fact.Fact.{Fact}
 use Rattle.branch_marks.specs.declared.fact.Fact.TheVariants.{Bar, Must, Cut, Tie}
 use Rattle.branch_marks.specs.Marks.{IsAlive, IsUsable}
-use Rattle.branch_marks.specs.MarkTests.{FactOfDecides, AliveDecides, UsableDecides, MayEndDecides}
-use Rattle.branch_marks.specs.FactTests.{HasFactDecides}
+use Rattle.branch_marks.specs.inside.MarkTests.{FactOfDecides, AliveDecides, UsableDecides, MayEndDecides}
+use Rattle.branch_marks.specs.inside.FactTests.{HasFactDecides}
 use Rattle.branch_marks.specs.Floors.{floor_at}
 use Rattle.branch_marks.specs.Following.{NoneGoesOn, IsDeadBy, IsDead, IsOnlyCarrier, CannotGoBy, IsDeadConnection, Follows, IsShut}
-use Rattle.branch_marks.specs.FollowingTests.{none_goes_on, is_dead_by, is_dead, is_only_carrier, cannot_go_by, is_dead_connection, follows, is_shut, FollowsDecides}
+use Rattle.branch_marks.specs.inside.FollowingTests.{none_goes_on, is_dead_by, is_dead, is_only_carrier, cannot_go_by, is_dead_connection, follows, is_shut, FollowsDecides}
 use Rattle.branch_marks.proofs.Decisions.{always, never, implied, apart}
 use Rattle.branch_marks.proofs.BelowDecided.{all_below_tested, some_below_tested}
 

@@ -5,7 +5,7 @@ use Rattle.std.proofs.Common.{◌≡◌, ◌⊎◌, ◌<◌, ◌≤◌, ◌+◌,
 use Rattle.std.proofs.lemmas.Int.{ints, by_lt_z}
 use Rattle.std.proofs.lemmas.Bool.{cases_Bool, cases_order, both_ways}
 use Rattle.tail_book.specs.declared.place.Place.TheVariants.{Carry, After}
-use Rattle.tail_book.specs.Rising.{IsRisingFrom}
+use Rattle.tail_book.specs.inside.Rising.{IsRisingFrom}
 
 -- the numbers rise, from low on and below high
 abbrev pub IsInRange : ℕ → ℕ → List ℕ → Type 0

@@ -4,15 +4,16 @@ use Rattle.std.proofs.lemmas.Bool.{and_from, and_parts, both_ways}
 use Rattle.std.proofs.lemmas.List.FromFn.{length-map-range_with_len, get_or-map-range_with_len}
 use Rattle.std.specs.Prelude.{◌&&◌}
 use Rattle.std.specs.List.{range_with_len}
-use Rattle.tail_book.specs.Seen.{BookSeen, CostTableSeen}
+use Rattle.tail_book.specs.Seen.{BookSeen}
+use Rattle.tail_book.specs.inside.Seen.{CostTableSeen}
 use Rattle.tail_book.specs.Lookup.{activities, aircraft}
-use Rattle.tail_book.specs.Rising.{LegalRoutesRise}
+use Rattle.tail_book.specs.inside.Rising.{LegalRoutesRise}
 use Rattle.tail_book.specs.Route.{IsLegalRoute}
-use Rattle.tail_book.specs.Sound.{IsBook}
-use Rattle.tail_book.specs.Tests.{is_legal_route, LegalRouteDecides}
+use Rattle.tail_book.specs.inside.Sound.{IsBook}
+use Rattle.tail_book.specs.inside.Tests.{is_legal_route, LegalRouteDecides}
 use Rattle.branch_marks.specs.declared.fact.Fact.{Fact}
 use Rattle.branch_marks.specs.Marks.{Fits}
-use Rattle.branch_marks.specs.MarkTests.{fits, FitsDecides}
+use Rattle.branch_marks.specs.inside.MarkTests.{fits, FitsDecides}
 use Rattle.branch_marks.specs.DeadEnds.{IsStuck}
 use Rattle.branch_marks.specs.Weights.{weight, IsLeastWeight}
 use Rattle.branch_marks.specs.Bound.{lagrangian}

@@ -2,7 +2,7 @@
 use Rattle.std.specs.Prelude.{⊤}
 use Rattle.std.proofs.Common.{◌≡◌, ℕ, zero, suc, ℤ, ◌<◌, arith, List, [], ◌∷◌, ◌++◌, length, refl, get_or, subst, Option, Some, None}
 use Rattle.std.proofs.lemmas.Int.{ints, clamps}
-use Rattle.tail_book.specs.Order.{EachAtMost, EachAtMostItself}
+use Rattle.tail_book.specs.inside.Order.{EachAtMost, EachAtMostItself}
 use Rattle.branch_marks.specs.Floors.{lesser, lesser_floor}
 
 lesser_first : (values others : List ℤ) → length values ≡ length others → EachAtMost (lesser values others) values

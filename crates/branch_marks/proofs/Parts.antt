@@ -13,11 +13,12 @@ use Rattle.branch_marks.specs.declared.fact.Fact.TheVariants.{Bar, Must, Cut, Ti
 use Rattle.branch_marks.specs.declared.named.Named.{Named}
 use Rattle.branch_marks.specs.declared.named.Named.TheVariants.{Nothing, One, Several}
 use Rattle.tail_book.specs.Seen.{BookSeen}
-use Rattle.tail_book.specs.Tests.{is_allowed, is_connected, is_link}
-use Rattle.branch_marks.specs.MarkTests.{is_at, lets_fly, lets_go, lets_end, may_end, is_alive, is_alive_at, is_usable}
-use Rattle.branch_marks.specs.MarkParts.{first_after, is_no_must_in, leaves_link, ties_only, ties_nothing}
-use Rattle.branch_marks.specs.MarkTables.{is_must, is_cut, is_tie, tied_after, tied_before, IsFactWithin}
-use Rattle.branch_marks.specs.Named.{with_named, named_from, named_by, lets_number, is_nothing}
+use Rattle.tail_book.specs.inside.Tests.{is_allowed, is_link}
+use Rattle.tail_book.specs.Link.{is_connected}
+use Rattle.branch_marks.specs.inside.MarkTests.{is_at, lets_fly, lets_go, lets_end, may_end, is_alive, is_alive_at, is_usable}
+use Rattle.branch_marks.specs.inside.MarkParts.{first_after, is_no_must_in, leaves_link, ties_only, ties_nothing}
+use Rattle.branch_marks.specs.inside.MarkTables.{is_must, is_cut, is_tie, tied_after, tied_before, IsFactWithin}
+use Rattle.branch_marks.specs.inside.Named.{with_named, named_from, named_by, lets_number, is_nothing}
 
 all_same : {X : Type 0} (p q : X → Bool) → ((x : X) → p x ≡ q x) → (xs : List X) → list_all p xs ≡ list_all q xs
 all_same p q same [] = refl

@@ -8,7 +8,7 @@ use Rattle.std.proofs.lemmas.Bool.{eq-eqb, ne_eqb, cases_eq, cases_lt, cases_ord
 use Rattle.std.proofs.lemmas.Bool.Decides.{nat_tests}
 use Rattle.std.proofs.lemmas.List.{get_or-replicate, get_or_past, length-replicate}
 use Rattle.std.proofs.lemmas.Nat.Bits.{bit_at-zero}
-use Rattle.branch_marks.specs.BitRows.{bit}
+use Rattle.branch_marks.specs.inside.BitRows.{bit}
 
 -- words that are 0 have no bit
 pub empty_bits : (n p : ℕ) → bit (replicate n 0) p ≡ false

@@ -3,10 +3,11 @@
 use Rattle.std.proofs.Common.{◌≡◌, ◌∙◌, ℕ, zero, suc, ℤ, pos, ◌≤◌, inl, inr, arith, List, [], ◌∷◌, ◌++◌, map, sym, refl, get_or, subst}
 use Rattle.std.proofs.lemmas.List.{length-map}
 use Rattle.std.proofs.lemmas.List.Elements.{All-push}
-use Rattle.tail_book.specs.Seen.{BookSeen, CostTableSeen}
-use Rattle.tail_book.specs.CostTable.{plan_cost_in}
+use Rattle.tail_book.specs.Seen.{BookSeen}
+use Rattle.tail_book.specs.inside.Seen.{CostTableSeen}
+use Rattle.tail_book.specs.inside.CostTable.{plan_cost_in}
 use Rattle.tail_book.specs.Plan.{IsLegalPlan}
-use Rattle.tail_book.specs.Sound.{IsBook}
+use Rattle.tail_book.specs.inside.Sound.{IsBook}
 use Rattle.branch_marks.specs.declared.fact.Fact.{Fact}
 use Rattle.branch_marks.specs.Facts.{Holds, HoldAll}
 use Rattle.branch_marks.specs.DeadEnds.{HolesLeaveNoPlan, StuckLeavesNoPlan}

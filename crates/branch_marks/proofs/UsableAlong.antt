@@ -4,10 +4,10 @@ use Rattle.std.specs.Prelude.{◌↔◌}
 use Rattle.tail_book.specs.Seen.{BookSeen}
 use Rattle.tail_book.specs.declared.place.Place.{Place}
 use Rattle.tail_book.specs.declared.place.Place.TheVariants.{After}
-use Rattle.tail_book.specs.Route.{place_after}
+use Rattle.tail_book.specs.inside.Route.{place_after}
 use Rattle.branch_marks.specs.declared.fact.Fact.{Fact}
 use Rattle.branch_marks.specs.Marks.{IsUsable, MayEnd, FitsFrom}
-use Rattle.branch_marks.specs.Fitting.{IsUsableFrom}
+use Rattle.branch_marks.specs.inside.Fitting.{IsUsableFrom}
 
 pub fits_to_its_end : (book : BookSeen) (marks : List Fact) (k : ℕ) (x : Place) (route : List ℕ)
     → FitsFrom book marks k x route ↔ (IsUsableFrom book marks k x route × MayEnd marks k (place_after x route))

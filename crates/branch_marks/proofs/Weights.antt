@@ -1,11 +1,12 @@
 -- The weight of a route, as a formula and added up along it.
 use Rattle.std.proofs.Common.{◌≡◌, ℕ, ℤ, pos, ◌+◌, ◌*◌, ◌+ℤ◌, ◌-ℤ◌, ◌≤ℤ◌, arith, List, [], ◌∷◌, ◌++◌, refl}
 use Rattle.std.proofs.lemmas.Int.{ints}
-use Rattle.tail_book.specs.Seen.{BookSeen, CostTableSeen}
+use Rattle.tail_book.specs.Seen.{BookSeen}
+use Rattle.tail_book.specs.inside.Seen.{CostTableSeen}
 use Rattle.tail_book.specs.declared.place.Place.{Place}
 use Rattle.tail_book.specs.declared.place.Place.TheVariants.{After}
-use Rattle.tail_book.specs.CostTable.{activity_cost_in, connection_cost_in, cost_from_in, route_cost_in}
-use Rattle.tail_book.specs.OneMore.{end_place, CostWithOneMoreIn}
+use Rattle.tail_book.specs.inside.CostTable.{activity_cost_in, connection_cost_in, cost_from_in, route_cost_in}
+use Rattle.tail_book.specs.inside.OneMore.{end_place, CostWithOneMoreIn}
 use Rattle.branch_marks.specs.declared.fact.Fact.{Fact}
 use Rattle.branch_marks.specs.Weights.{dual, duals_on, weight, arc_weight, weight_from, IsLeastWeight}
 

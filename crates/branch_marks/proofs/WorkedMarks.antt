@@ -2,11 +2,13 @@
 use Rattle.std.proofs.Common.{◌≡◌, ℕ, Bool, true, false, List, [], ◌∷◌, map, refl}
 use Rattle.tail_book.specs.declared.place.Place.{Place}
 use Rattle.tail_book.specs.declared.place.Place.TheVariants.{Carry, After}
-use Rattle.tail_book.specs.Tests.{is_allowed, is_connected, is_link, is_permitted}
+use Rattle.tail_book.specs.inside.Tests.{is_allowed, is_link}
+use Rattle.tail_book.specs.Link.{is_connected}
+use Rattle.tail_book.specs.Allowed.{is_permitted}
 use Rattle.branch_marks.specs.declared.fact.Fact.{Fact}
 use Rattle.branch_marks.specs.declared.fact.Fact.TheVariants.{Bar, Must, Cut, Tie}
 use Rattle.branch_marks.specs.Facts.{flies, joins, Holds}
-use Rattle.branch_marks.specs.MarkTests.{is_fact_of, is_alive, is_usable, may_end, fits}
+use Rattle.branch_marks.specs.inside.MarkTests.{is_fact_of, is_alive, is_usable, may_end, fits}
 use Rattle.branch_marks.proofs.WorkedBook.{two_aircraft}
 
 abbrev numbers : List ℕ

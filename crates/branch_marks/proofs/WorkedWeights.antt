@@ -1,8 +1,8 @@
 -- Weights, bounds and sums over a pool, computed in the worked books.
 use Rattle.std.proofs.Common.{◌≡◌, ℕ, ℤ, pos, negsuc, List, [], ◌∷◌, map, refl, Some, None}
-use Rattle.tail_book.specs.Seen.{CostTableSeen}
+use Rattle.tail_book.specs.inside.Seen.{CostTableSeen}
 use Rattle.tail_book.specs.declared.place.Place.TheVariants.{Carry, After}
-use Rattle.tail_book.specs.CostTable.{box_end, costs_of}
+use Rattle.tail_book.specs.inside.CostTable.{box_end, costs_of}
 use Rattle.branch_marks.specs.Weights.{weight, weight_from, arc_weight}
 use Rattle.branch_marks.specs.Bound.{lagrangian, bound_of, rounded_up}
 use Rattle.branch_marks.specs.Pool.{Pooled, least_in, values_in, sum_in}

@@ -36,7 +36,7 @@ IsUndecided book marks (Link a b) =
 abbrev pub UndecidedPairsAreOfBook : Type 0
 UndecidedPairsAreOfBook = (book : BookSeen) (marks : List Fact) (pair : Pair) → IsUndecided book marks pair → IsPairOf book pair
 
--- of the two branches of a split exactly one holds in each plan
+-- every plan is in one branch of a split, and in one alone
 abbrev pub OneBranchHolds : Type 0
 OneBranchHolds = (pair : Pair) (plan : List (List ℕ))
     → (Holds (first_branch pair) plan ⊎ Holds (second_branch pair) plan) × (Holds (first_branch pair) plan → ¬ Holds (second_branch pair) plan)

@@ -5,7 +5,7 @@ use Rattle.tail_book.specs.declared.place.Place.TheVariants.{After}
 use Rattle.tail_book.specs.Lookup.{activities, aircraft}
 use Rattle.tail_book.specs.Counters.{step, WithinLimits}
 use Rattle.tail_book.specs.Plan.{IsLegalPlan}
-use Rattle.tail_book.specs.Sound.{IsBook}
+use Rattle.tail_book.specs.inside.Sound.{IsBook}
 use Rattle.branch_marks.specs.declared.fact.Fact.{Fact}
 use Rattle.branch_marks.specs.declared.fact.Fact.TheVariants.{Bar, Must, Cut, Tie}
 use Rattle.branch_marks.specs.Facts.{Holds, HoldAll, IsFactOf}
@@ -84,7 +84,7 @@ FollowingFactsAreOfBook = (book : BookSeen) (marks : List Fact) (fact : Fact) �
 abbrev pub FollowingFactsAreNew : Type 0
 FollowingFactsAreNew = (book : BookSeen) (marks : List Fact) (fact : Fact) → Follows book marks fact → ¬ Contains marks fact
 
--- a fact that follows holds in each legal plan of which the marks hold
+-- what follows from marks holds of every legal plan that they hold of
 abbrev pub FollowingFactsHold : Type 0
 FollowingFactsHold = (book : BookSeen) → IsBook book → (marks : List Fact) (fact : Fact) → Follows book marks fact
     → (plan : List (List ℕ)) → IsLegalPlan book plan → HoldAll marks plan → Holds fact plan

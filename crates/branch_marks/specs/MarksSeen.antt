@@ -2,7 +2,7 @@
 use Rattle.std.specs.Prelude.{ℕ, List}
 use Rattle.branch_marks.specs.declared.fact.Fact.{Fact}
 use Rattle.branch_marks.specs.declared.named.Named.{Named}
-use Rattle.branch_marks.specs.BitRows.{BitRowsSeen}
+use Rattle.branch_marks.specs.inside.BitRows.{BitRowsSeen}
 
 -- how many aircraft and activities the book has, the facts in the order in which they came, and the tables beside them:
 -- who is alive at each activity; the Bars and the Musts of each aircraft; the Cuts of each activity; what Ties name behind

@@ -1,10 +1,11 @@
--- Settled duals: no change of one dual inside the box raises the Lagrangian sum by a cost unit or more.
+-- Settled duals: whichever of them is moved within the box, the Lagrangian sum gains less than a cost unit.
 use Rattle.std.specs.Prelude.{◌≡◌, ℕ, ℤ, pos, ◌*◌, ◌<◌, ◌+ℤ◌, ◌<ℤ◌, List, All, length, Some, IsSome, slice_set}
-use Rattle.tail_book.specs.Seen.{BookSeen, CostTableSeen}
+use Rattle.tail_book.specs.Seen.{BookSeen}
+use Rattle.tail_book.specs.inside.Seen.{CostTableSeen}
 use Rattle.tail_book.specs.Lookup.{activities, aircraft}
-use Rattle.tail_book.specs.CostTable.{IsInBox, cost_unit, plan_cost_in}
+use Rattle.tail_book.specs.inside.CostTable.{IsInBox, cost_unit, plan_cost_in}
 use Rattle.tail_book.specs.Plan.{times_flown, route_of, IsLegalPlan}
-use Rattle.tail_book.specs.Sound.{IsBook}
+use Rattle.tail_book.specs.inside.Sound.{IsBook}
 use Rattle.branch_marks.specs.declared.fact.Fact.{Fact}
 use Rattle.branch_marks.specs.DeadEnds.{IsStuck}
 use Rattle.branch_marks.specs.Weights.{IsRouteOfWeight}
@@ -29,7 +30,7 @@ abbrev pub SumsExist : Type 0
 SumsExist = (table : CostTableSeen) (book : BookSeen) → IsBook book → (marks : List Fact) (duals : List ℤ)
     → ((k : ℕ) → k < aircraft book → ¬ IsStuck book marks k) → (sum : ℤ) × IsSum table book marks duals sum
 
--- the duals are settled over all legal routes that fit: there is a sum, and no change of one dual inside the box raises it by a cost unit
+-- the duals are settled: there is a sum, taken over each legal route that fits, and moving one dual within the box gains less than a cost unit
 pub record IsSettled (table : CostTableSeen) (book : BookSeen) (marks : List Fact) (duals : List ℤ) : Type 0 where
   pub in_box : AreDuals table book duals
   pub sum : (sum : ℤ) × IsSum table book marks duals sum

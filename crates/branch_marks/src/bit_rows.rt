@@ -5,7 +5,7 @@
 
 ghost use Rattle.std.specs.Prelude.{◌≡◌, ◌<◌, ◌≤◌, ◌+◌, ◌*◌, ◌^◌, ◌&&◌, ◌||◌, ℕ, true, false, length, nat_eq, nat_le, nat_lt, not, IfOk};
 ghost use Rattle.std.specs.Int.{bit_at};
-ghost use Rattle.branch_marks.specs.BitRows.{bit, has_pair, AreChanged};
+ghost use Rattle.branch_marks.specs.inside.BitRows.{bit, has_pair, AreChanged};
 
 use std::alloc::Global;
 use std::marker::Model;
@@ -20,7 +20,7 @@ pub struct BitRows {
 }
 
 impl Model for BitRows {
-    ghost use Rattle.branch_marks.specs.BitRows.{BitRowsSeen, IsBitRows};
+    ghost use Rattle.branch_marks.specs.inside.BitRows.{BitRowsSeen, IsBitRows};
 
     ghost Value = { BitRowsSeen };
 

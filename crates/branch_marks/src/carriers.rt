@@ -3,8 +3,8 @@
 ghost use Rattle.std.specs.Prelude.{◌≡◌, length};
 ghost use Rattle.tail_book.specs.Lookup.{activities};
 ghost use Rattle.branch_marks.specs.Facts.{IsFactOf};
-ghost use Rattle.branch_marks.specs.Named.{AreNoted};
-ghost use Rattle.branch_marks.specs.MarkTables.{given_to};
+ghost use Rattle.branch_marks.specs.inside.Named.{AreNoted};
+ghost use Rattle.branch_marks.specs.inside.MarkTables.{given_to};
 
 use crate::Fact;
 use crate::named::{Named, note_at};

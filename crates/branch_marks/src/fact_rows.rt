@@ -5,9 +5,9 @@
 
 ghost use Rattle.std.specs.Prelude.{◌≡◌, ◌<◌, ◌||◌, nat_eq};
 ghost use Rattle.tail_book.specs.Lookup.{activities, aircraft};
-ghost use Rattle.branch_marks.specs.BitRows.{AreChanged};
+ghost use Rattle.branch_marks.specs.inside.BitRows.{AreChanged};
 ghost use Rattle.branch_marks.specs.Facts.{IsFactOf};
-ghost use Rattle.branch_marks.specs.MarkTables.{is_bar, is_cut, is_must};
+ghost use Rattle.branch_marks.specs.inside.MarkTables.{is_bar, is_cut, is_must};
 
 use crate::Fact;
 use crate::bit_rows::BitRows;

@@ -8,8 +8,8 @@
 ghost use Rattle.std.specs.Prelude.{◌≡◌, ◌<◌, ◌↔◌, ◌++◌, ◌∷◌, [], IfOk, OnErr, IsTrue, All, Contains};
 ghost use Rattle.std.specs.List.{list_any};
 ghost use Rattle.branch_marks.specs.Facts.{IsFactOf};
-ghost use Rattle.branch_marks.specs.FactTests.{has_fact};
-ghost use Rattle.branch_marks.specs.MarkTables.{AreMarksOf, IsFactWithin, is_tie};
+ghost use Rattle.branch_marks.specs.inside.FactTests.{has_fact};
+ghost use Rattle.branch_marks.specs.inside.MarkTables.{AreMarksOf, IsFactWithin, is_tie};
 ghost use Rattle.branch_marks.specs.MarkCalls.{AddsOnce};
 
 mod questions;
@@ -50,7 +50,7 @@ impl Model for Marks {
 
     ghost Value = { MarksSeen };
 
-    ghost use Rattle.branch_marks.specs.MarkTables.{IsMarks};
+    ghost use Rattle.branch_marks.specs.inside.MarkTables.{IsMarks};
 
     ghost view = { λ t. record { aircraft = t.aircraft; activities = t.activities; facts = t.facts.items; alive = t.alive; bars = t.bars; musts = t.musts; cuts = t.cuts; next = t.next.items; previous = t.previous.items; carriers = t.carriers.items } };
 

@@ -4,7 +4,7 @@
 //! name several: then no number is let through, and which ones they are is not kept.
 
 ghost use Rattle.std.specs.Prelude.{◌≡◌, ◌<◌, ℕ, length, IfOk, Some, slice_index_or};
-ghost use Rattle.branch_marks.specs.Named.{AreNoted, is_nothing, lets_number, with_named, one_at};
+ghost use Rattle.branch_marks.specs.inside.Named.{AreNoted, is_nothing, lets_number, with_named, one_at};
 ghost use Rattle.branch_marks.specs.declared.named.Named.TheVariants.{Nothing as NamedNothing};
 
 use std::alloc::Global;

@@ -1,13 +1,13 @@
 -- Sets as the bits of two words: what a bit says after an aircraft is added, and when three words have a bit in common.
-use Rattle.std.proofs.Common.{◌≡◌, ◌≢◌, ◌∙◌, ℕ, zero, suc, ◌+◌, ◌-◌, ◌*◌, ◌%◌, ◌^◌, ◌<◌, ◌≤◌, arith, ap, Bool, true, false, refl, sym, ⊎_elim}
-use Rattle.std.specs.Prelude.{◌||◌, ◌&&◌, ◌↔◌, IsTrue, not, nat_eq, nat_lt, bit_or, bit_and, min, if◌then◌else◌}
+use Rattle.std.proofs.Common.{◌≡◌, ◌≢◌, ◌∙◌, ℕ, ◌+◌, ◌-◌, ◌*◌, ◌%◌, ◌^◌, ◌<◌, ◌≤◌, arith, ap, Bool, true, false, refl, sym, ⊎_elim}
+use Rattle.std.specs.Prelude.{◌||◌, ◌&&◌, IsTrue, not, nat_eq, nat_lt, bit_or, bit_and, min, if◌then◌else◌}
 use Rattle.std.specs.Int.{bit_at, trailing_zeros, w128}
 use Rattle.std.proofs.lemmas.Bool.{eq-eqb, ne_eqb, cases_eq, cases_lt}
 use Rattle.std.proofs.lemmas.Bool.Decides.{nat_tests}
 use Rattle.std.proofs.lemmas.Nat.{and_le_l}
 use Rattle.std.proofs.lemmas.Nat.Bits.{bit_at-zero, bit_at_and, bit_at-lt, bit_at_set_same, bit_at_set_other, bit_at-trailing_zeros}
 use Rattle.connection_net.specs.declared.aircraft_set.AircraftSet.{AircraftSet}
-use Rattle.connection_net.specs.AircraftSet.{has}
+use Rattle.connection_net.specs.inside.AircraftSet.{has}
 
 either : (b : Bool) (x y z : Bool) → x ≡ z → y ≡ z → (if b then x else y) ≡ z
 either true x y z p q = p

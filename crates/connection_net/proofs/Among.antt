@@ -1,18 +1,17 @@
 -- A link stays at one airport: so successors and heads are among that airport's departures, and predecessors among its arrivals.
-use Rattle.std.proofs.Common.{◌≡◌, ◌∙◌, ℕ, ◌+◌, ◌<◌, arith, ap, refl, sym, Bool, true, false, List, [], get_or, length}
-use Rattle.std.specs.Prelude.{◌&&◌, All, nat_eq, slice_index_or}
-use Rattle.std.specs.List.{filter, list_any, range_with_len}
+use Rattle.std.proofs.Common.{◌≡◌, ℕ, ◌<◌, arith, sym, true, [], length}
+use Rattle.std.specs.Prelude.{All, nat_eq, slice_index_or}
+use Rattle.std.specs.List.{filter, range_with_len}
 use Rattle.std.proofs.lemmas.Bool.{and_parts, eq-eqb, eqb-true}
-use Rattle.std.proofs.lemmas.Grind.{get_or_default_zero}
 use Rattle.std.proofs.lemmas.List.Elements.{All-filter}
 use Rattle.std.proofs.lemmas.List.FromFn.{length-range_with_len, get_or-range_with_len, length-map-range_with_len, get_or-map-range_with_len}
 use Rattle.tail_book.specs.Seen.{BookSeen}
 use Rattle.tail_book.specs.declared.place.Place.{Place}
 use Rattle.tail_book.specs.declared.place.Place.TheVariants.{Carry, After}
 use Rattle.tail_book.specs.Lookup.{activities, aircraft, from_port, to_port, tail_of}
-use Rattle.tail_book.specs.Link.{port}
-use Rattle.tail_book.specs.Tests.{is_connected, is_link}
-use Rattle.connection_net.specs.LinkTable.{departures_of, arrivals_of, all_departures_of, all_arrivals_of}
+use Rattle.tail_book.specs.Link.{port, is_connected}
+use Rattle.tail_book.specs.inside.Tests.{is_link}
+use Rattle.connection_net.specs.inside.LinkTable.{departures_of, arrivals_of, all_departures_of, all_arrivals_of}
 use Rattle.connection_net.specs.Net.{is_linked, successors_of, predecessors_of, heads_of}
 use Rattle.connection_net.proofs.Filters.{filter_within}
 use Rattle.connection_net.proofs.Links.{any_below}

@@ -1,9 +1,7 @@
 -- The numbers below n that pass a test: one number more, a test after another, and what such a list has.
-use Rattle.std.proofs.Common.{◌≡◌, ◌∙◌, ℕ, zero, suc, ◌+◌, ◌<◌, ◌≤◌, arith, ap, refl, sym, Bool, true, false, List, [], ◌∷◌, ◌++◌, length, take, map, ⊎_elim}
-use Rattle.std.proofs.Math.Numerals.{add-one}
-use Rattle.std.specs.Prelude.{◌&&◌, ◌||◌, All, cond, nat_eq, IsTrue}
-use Rattle.std.specs.List.{filter, list_any, range_with_len}
-use Rattle.std.specs.Bool.{Decides}
+use Rattle.std.proofs.Common.{◌≡◌, ◌∙◌, ℕ, zero, suc, ◌+◌, arith, ap, refl, sym, Bool, true, false, List, [], ◌∷◌, ◌++◌, map}
+use Rattle.std.specs.Prelude.{cond}
+use Rattle.std.specs.List.{filter, range_with_len}
 use Rattle.std.proofs.lemmas.Bool.{both_ways}
 use Rattle.std.proofs.lemmas.List.Elements.{filter-append}
 use Rattle.std.proofs.lemmas.List.FromFn.{map-range_with_len_more}

@@ -2,5 +2,6 @@ pub mod AircraftSets
 pub mod Among
 pub mod Filters
 pub mod Links
+pub mod RowLaws
 pub mod RowLists
-pub mod RowsSaid
+pub mod Worked

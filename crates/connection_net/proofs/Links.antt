@@ -1,5 +1,5 @@
 -- Which aircraft the sets of the table have, and what that says of links.
-use Rattle.std.proofs.Common.{◌≡◌, ◌≢◌, ◌∙◌, ℕ, ℤ, pos, ◌+◌, ◌-◌, ◌<◌, arith, ap, refl, subst, sym, Bool, true, false, List, [], ◌∷◌, ◌++◌, None, Some, get_or, length, ⊎_elim}
+use Rattle.std.proofs.Common.{◌≡◌, ◌≢◌, ◌∙◌, ℕ, pos, ◌+◌, ◌-◌, ◌<◌, arith, ap, refl, subst, sym, Bool, true, false, List, [], ◌∷◌, ◌++◌, None, Some, get_or, length, ⊎_elim}
 use Rattle.std.specs.Prelude.{◌&&◌, ◌||◌, nat_eq, nat_lt, IsTrue}
 use Rattle.std.specs.List.{list_any, range_with_len}
 use Rattle.std.specs.Bool.{Decides}
@@ -11,12 +11,13 @@ use Rattle.std.proofs.lemmas.List.FromFn.{length-range_with_len, get_or-range_wi
 use Rattle.tail_book.specs.Seen.{BookSeen}
 use Rattle.tail_book.specs.declared.place.Place.TheVariants.{After}
 use Rattle.tail_book.specs.Lookup.{aircraft, kind_of, type_turn, no_tail, no_type}
-use Rattle.tail_book.specs.Sound.{IsBook, IsWithin}
-use Rattle.tail_book.specs.Tests.{is_allowed, is_connected, is_link}
+use Rattle.tail_book.specs.inside.Sound.{IsBook, IsWithin}
+use Rattle.tail_book.specs.inside.Tests.{is_allowed, is_link}
+use Rattle.tail_book.specs.Link.{is_connected}
 use Rattle.connection_net.specs.declared.aircraft_set.AircraftSet.{AircraftSet}
 use Rattle.connection_net.specs.declared.link_table.Leg.{Leg}
-use Rattle.connection_net.specs.AircraftSet.{has}
-use Rattle.connection_net.specs.LinkTable.{AreTurnedIn, IsAskedStop, IsFlownOn, IsLegOf, is_turned}
+use Rattle.connection_net.specs.inside.AircraftSet.{has}
+use Rattle.connection_net.specs.inside.LinkTable.{AreTurnedIn, IsAskedStop, IsFlownOn, IsLegOf, is_turned}
 use Rattle.connection_net.specs.Net.{is_linked}
 
 -- none of no aircraft, and one aircraft more

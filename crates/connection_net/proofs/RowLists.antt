@@ -1,10 +1,10 @@
 -- Rows cut from one list: how many there are, which one stands at a number, and one row more.
-use Rattle.std.proofs.Common.{◌≡◌, ◌∙◌, ℕ, zero, suc, ◌+◌, ◌-◌, ◌<◌, ◌≤◌, arith, ap, refl, sym, List, [], ◌∷◌, ◌++◌, length, get_or, take, drop, map}
-use Rattle.std.specs.Prelude.{slice_index, slice_range, slice_index_or}
+use Rattle.std.proofs.Common.{◌≡◌, ◌∙◌, ℕ, ◌+◌, ◌-◌, ◌<◌, ◌≤◌, arith, ap, refl, sym, List, [], ◌∷◌, ◌++◌, length, take, drop, map}
+use Rattle.std.specs.Prelude.{slice_index, slice_index_or}
 use Rattle.std.specs.List.{range_with_len}
 use Rattle.std.proofs.lemmas.List.{get_or_append_left, get_or-append-add, length-append, length-take-le, take-append-le, take-take, take_all, drop_at, drop-take}
 use Rattle.std.proofs.lemmas.List.FromFn.{length-map-range_with_len, get_or-map-range_with_len, map-range_with_len_more, fill_by_all}
-use Rattle.connection_net.specs.Rows.{row_at, rows_of, last_end, AreStarts}
+use Rattle.connection_net.specs.inside.Rows.{row_at, rows_of, last_end, AreStarts}
 
 pub rows_length : (starts numbers : List ℕ) → length (rows_of starts numbers) ≡ length starts - 1
 unfolding rows_of

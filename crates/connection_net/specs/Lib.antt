@@ -1,6 +1,3 @@
 pub mod Seen
 pub mod Net
-pub mod Rows
-pub mod AircraftSet
-pub mod LinkTable
-pub mod Laws
+pub mod inside

@@ -1,10 +1,10 @@
 -- The connection network of a book: which activity may come directly after which, for at least one aircraft.
-use Rattle.std.specs.Prelude.{ℕ, Bool, List, [], length, map, slice_index_or}
+use Rattle.std.specs.Prelude.{ℕ, Bool, List, [], map, slice_index_or}
 use Rattle.std.specs.List.{filter, list_any, range_with_len}
 use Rattle.tail_book.specs.Seen.{BookSeen}
 use Rattle.tail_book.specs.declared.place.Place.TheVariants.{Carry, After}
 use Rattle.tail_book.specs.Lookup.{activities, aircraft}
-use Rattle.tail_book.specs.Tests.{is_link}
+use Rattle.tail_book.specs.inside.Tests.{is_link}
 use Rattle.connection_net.specs.Seen.{NetSeen}
 
 -- some aircraft of the book may fly b directly after a
@@ -22,7 +22,7 @@ predecessors_of book b = filter (λ a. is_linked book a b) (range_with_len 0 (ac
 unfoldable pub heads_of : BookSeen → ℕ → List ℕ
 heads_of book k = filter (is_link book k Carry) (range_with_len 0 (activities book))
 
--- the network of a book: a row of successors and one of predecessors for each activity, and a row of heads for each aircraft
+-- the network of a book: successors and predecessors for each activity, and heads for each aircraft
 unfoldable pub net_of : BookSeen → NetSeen
 net_of book = record {
   successors = map (successors_of book) (range_with_len 0 (activities book));

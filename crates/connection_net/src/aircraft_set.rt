@@ -4,7 +4,7 @@
 //! goes over no aircraft: two words of each set are joined.
 
 ghost use Rattle.std.specs.Prelude.{◌≡◌, ◌<◌, ◌&&◌, ◌||◌, ◌↔◌, ℕ, false, nat_eq, IsTrue};
-ghost use Rattle.connection_net.specs.AircraftSet.{has};
+ghost use Rattle.connection_net.specs.inside.AircraftSet.{has};
 
 /// A set of numbers below 256.
 #[derive(Clone, Copy, Debug)]

@@ -5,7 +5,7 @@
 
 ghost use Rattle.std.specs.Prelude.{◌≡◌, ◌<◌, All, IfOk, length, nat_eq};
 ghost use Rattle.tail_book.specs.Lookup.{activities, from_port, to_port};
-ghost use Rattle.connection_net.specs.LinkTable.{all_arrivals_of, all_departures_of, arrivals_of, departures_of};
+ghost use Rattle.connection_net.specs.inside.LinkTable.{all_arrivals_of, all_departures_of, arrivals_of, departures_of};
 
 use crate::rows::{Rows, push_where};
 use std::alloc::Global;

@@ -1,7 +1,7 @@
 //! What the rows of a network are, as laws: the contract of each function is the law.
 
 ghost use Rattle.tail_book.specs.Seen.{BookSeen};
-ghost use Rattle.connection_net.specs.Laws.{HasRowForEach, HeadsAreLinks, PredecessorsAreLinks, RowsRise, SuccessorsAreLinks, SuccessorsFacePredecessors, SuccessorsFollow};
+ghost use Rattle.connection_net.specs.inside.Laws.{HasRowForEach, HeadsAreLinks, PredecessorsAreLinks, RowsRise, SuccessorsAreLinks, SuccessorsFacePredecessors, SuccessorsFollow};
 
 use tail_book::laws::{link_decides, links_rise};
 

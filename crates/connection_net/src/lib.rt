@@ -9,3 +9,6 @@ mod net;
 mod rows;
 
 pub use net::Net;
+
+#[cfg(test)]
+mod tests;

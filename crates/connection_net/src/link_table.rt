@@ -1,20 +1,21 @@
 //! Whether some aircraft may fly one activity directly after another, asked of the rules once.
 //!
-//! Only the type's turn depends on the aircraft. So for each stop of 0 to 1440 minutes the table has the set of the aircraft
-//! whose type turns in it, and for each activity the set of those that may fly it. Two activities that fit in place are
-//! linked where the stop is no shorter than the airport's turn, and those two sets and that of the stop have an aircraft
-//! in common. No turn is longer than a day, so the set of 1440 minutes has every aircraft: it stands for longer stops,
-//! and for stops beside ground time, which ask for no turn.
+//! Only the type's turn depends on the aircraft. So for each stop of 0 to 1440 minutes the table has the set of the
+//! aircraft whose type turns in it, and for each activity the set of those that may fly it. Two activities that fit in
+//! place are linked where the stop is no shorter than the airport's turn, and those two sets and that of the stop have
+//! an aircraft in common. No turn is longer than a day, so the set of 1440 minutes has every aircraft: it stands for
+//! longer stops, and for stops beside ground time, which ask for no turn. A question is a few reads, whatever the number
+//! of aircraft and types; making the table takes as many questions as there are activities times aircraft.
 
-ghost use Rattle.std.specs.Prelude.{◌≡◌, ◌<◌, ◌↔◌, ◌-ℤ◌, ◌≤ℤ◌, ◌&&◌, ℕ, pos, negsuc, IfOk, IsTrue, length, slice_index_or, if◌then◌else◌};
+ghost use Rattle.std.specs.Prelude.{◌≡◌, ◌<◌, ◌↔◌, ◌-ℤ◌, ◌≤ℤ◌, ◌&&◌, ℕ, pos, negsuc, IfOk, IsTrue, length, if◌then◌else◌};
 ghost use Rattle.std.specs.Int.{int_min};
 ghost use Rattle.tail_book.specs.Lookup.{activities, aircraft, kind_of, is_flight, from_port, to_port, start_of, end_of, type_turn, port_turn};
 ghost use Rattle.tail_book.specs.Numbers.{int_le};
-ghost use Rattle.tail_book.specs.Sound.{IsMoment, IsWithin};
-ghost use Rattle.tail_book.specs.Tests.{is_allowed};
-ghost use Rattle.turn_rules.specs.PermissionTable.{ArePermissionsOf};
-ghost use Rattle.connection_net.specs.AircraftSet.{has};
-ghost use Rattle.connection_net.specs.LinkTable.{AreTurnedIn, IsAskedStop, IsFlownOn, IsInRange, IsLegOf, IsLinkTableOf, no_leg, no_set};
+ghost use Rattle.tail_book.specs.inside.Sound.{IsMoment, IsWithin};
+ghost use Rattle.tail_book.specs.inside.Tests.{is_allowed};
+ghost use Rattle.turn_rules.specs.inside.PermissionTable.{ArePermissionsOf};
+ghost use Rattle.connection_net.specs.inside.AircraftSet.{has};
+ghost use Rattle.connection_net.specs.inside.LinkTable.{AreLegsOf, AreStopsOf, AreTurnedIn, IsAskedStop, IsFlownOn, IsInRange, IsLegOf, IsLinkTableOf};
 ghost use Rattle.connection_net.specs.Net.{is_linked};
 
 use crate::aircraft_set::AircraftSet;
@@ -23,8 +24,8 @@ use tail_book::laws::every_book_is_sound;
 use tail_book::{Book, Memory};
 use turn_rules::{PermissionTable, permits};
 
-/// What is read of an activity: whether it is a flight, its airports, its minutes since 1970-01-01T00:00 UTC, the turn of
-/// the airport where it ends, and the aircraft that may fly it.
+/// What is read of an activity: whether it is a flight, its airports, its minutes since 1970-01-01T00:00 UTC, the turn
+/// of the airport where it ends, and the aircraft that may fly it.
 #[derive(Clone, Copy, Debug)]
 pub struct Leg {
     pub flight: bool,
@@ -96,7 +97,7 @@ fn leg_of(book: &Book, permissions: &PermissionTable, a: u32) -> Leg
 fn all_legs(alloc: Global, book: &Book, permissions: &PermissionTable) -> Result<Vec<Leg>, Memory>
     requires { ArePermissionsOf book.now permissions.now }
     ensures count { IfOk result (λ legs. length legs.items ≡ activities book.now) }
-    ensures each { IfOk result (λ legs. (a : ℕ) → a < activities book.now → IsLegOf book.now a (slice_index_or legs.items a no_leg)) }
+    ensures each { IfOk result (λ legs. AreLegsOf book.now legs.items) }
 {
     let mut legs = Vec::with_capacity(alloc, book.activities.len())?;
     for a in 0..book.activities.len() as u32 {
@@ -138,7 +139,7 @@ fn turned_in(book: &Book, stop: u32) -> AircraftSet
 // The aircraft whose type turns in each stop of up to a day.
 fn all_turned(alloc: Global, book: &Book) -> Result<Vec<AircraftSet>, Memory>
     ensures count { IfOk result (λ sets. length sets.items ≡ 1441) }
-    ensures each { IfOk result (λ sets. (stop : ℕ) → stop < 1441 → AreTurnedIn book.now stop (slice_index_or sets.items stop no_set)) }
+    ensures each { IfOk result (λ sets. AreStopsOf book.now sets.items) }
 {
     let mut sets = Vec::with_capacity(alloc, 1441)?;
     for stop in 0..1441u32 {

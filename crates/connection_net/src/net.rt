@@ -1,16 +1,17 @@
-//! The network: for each activity those that may come directly after it and those before it, and for each aircraft those
-//! that it may fly first.
+//! The network: for each activity those that may come directly after it and those before it, and for each aircraft
+//! those that it may fly first.
 //!
-//! A link leads from an airport to an activity that starts there, so for each activity those of one airport are looked at,
-//! by a few reads each. With 4,000 activities these are 16 million pairs at the very most, where there is one airport.
-//! The carry-ins ask at most 800,000 questions of the table of who may fly what.
+//! A link leads from an airport to an activity that starts there, so for each activity those of one airport are looked
+//! at, by a few reads each. With 4,000 activities these are 16 million pairs at the very most, where there is one
+//! airport, and each pair is looked at from both its ends. The carry-ins ask at most 800,000 questions of the table of
+//! who may fly what.
 
 ghost use Rattle.std.specs.Prelude.{◌≡◌, ◌<◌, All, IfOk, length};
 ghost use Rattle.std.specs.List.{filter};
 ghost use Rattle.tail_book.specs.Lookup.{activities, aircraft};
-ghost use Rattle.turn_rules.specs.PermissionTable.{ArePermissionsOf};
-ghost use Rattle.connection_net.specs.LinkTable.{IsLinkTableOf, all_departures_of, all_arrivals_of};
-ghost use Rattle.tail_book.specs.Tests.{is_link};
+ghost use Rattle.turn_rules.specs.inside.PermissionTable.{ArePermissionsOf};
+ghost use Rattle.connection_net.specs.inside.LinkTable.{IsLinkTableOf, all_departures_of, all_arrivals_of};
+ghost use Rattle.tail_book.specs.inside.Tests.{is_link};
 ghost use Rattle.connection_net.specs.Net.{is_linked, net_of, successors_in, predecessors_in, heads_in, successors_of, predecessors_of, heads_of};
 
 use crate::airports::{arrivals, arriving, departing, departures, end_port, start_port};

@@ -3,7 +3,7 @@
 //! A number takes 4 bytes, a row 8 more, and a row is two reads away. Rows are made one after the other.
 
 ghost use Rattle.std.specs.Prelude.{◌≡◌, ◌<◌, ◌+◌, ◌++◌, ◌∷◌, [], List, IfOk, length, slice_index_or, if◌then◌else◌};
-ghost use Rattle.connection_net.specs.Rows.{AreStarts, row_at};
+ghost use Rattle.connection_net.specs.inside.Rows.{AreStarts, row_at};
 
 use std::alloc::Global;
 use std::marker::Model;
@@ -19,7 +19,7 @@ pub struct Rows {
 
 impl Model for Rows {
     ghost use Rattle.std.specs.Prelude.{ℕ, List};
-    ghost use Rattle.connection_net.specs.Rows.{AreStarts, rows_of};
+    ghost use Rattle.connection_net.specs.inside.Rows.{AreStarts, rows_of};
 
     ghost Value = { List (List ℕ) };
 

@@ -1,4 +1,4 @@
-mod CarryExamples
+mod CarryFieldExamples
 mod RulesExamples
 pub mod EntryLemmas
 pub mod TomlLemmas

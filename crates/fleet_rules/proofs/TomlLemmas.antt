@@ -1,12 +1,15 @@
--- What a map's entries and an array's values say of the members and the items that they stand for.
-use Rattle.std.proofs.Common.{◌≡◌, ◌∙◌, ◌<◌, ℕ, ◌+◌, Bool, ◌&&◌, List, [], ◌∷◌, ◌++◌, map, drop, get_or, length, Result, Ok, Err, string_bytes, refl, ap, append_assoc}
+-- What a map's entries and an array's values say of the members and the items that they stand for: the same, one by
+-- one, by induction on the list. So a test over keys, and a look at each value, can be taken along the code's own
+-- lists.
+use Rattle.std.proofs.Common.{◌≡◌, ◌∙◌, ◌<◌, ℕ, ◌+◌, Bool, ◌&&◌, List, [], ◌∷◌, ◌++◌, map, drop, get_or, length, Result, Ok, Err, string_bytes, refl, ap}
 use Rattle.std.proofs.lemmas.List.{append-nil, drop_more}
 use Rattle.std.specs.List.{list_all}
 use Rattle.std.specs.Map.{keys_of}
 use Rattle.toml.proofs.Views.{Entry}
 use Rattle.toml.specs.Data.{Data}
 use Rattle.toml.specs.View.{items_of, members_view}
-use Rattle.tail_text.specs.Checks.{look, look_each}
+use Rattle.tail_text.specs.Checks.{look_each}
+use Rattle.tail_text.specs.inside.Joined.{joined, joined-more}
 use Rattle.fleet_rules.specs.TomlValues.{data_of, keys_pass}
 
 -- a map's keys are those of its members
@@ -25,14 +28,6 @@ pub map-drop : {A B : Type 0} (f : A → B) (xs : List A) (i : ℕ) (x : A) → 
     → map f (drop i xs) ≡ f x ∷ map f (drop (i + 1) xs)
 map-drop f xs i x turn = rw (drop_more xs i x turn.0, ← turn.1) refl
 
--- those before what is left give
-abbrev pub joined : {A E : Type 0} → List A → Result (List A) E → Result (List A) E
-joined so_far more = look more (λ rest. Ok (so_far ++ rest))
-
-pub joined-nil : {A E : Type 0} (r : Result (List A) E) → joined [] r ≡ r
-joined-nil (Ok rest) = refl
-joined-nil (Err why) = refl
-
 -- the turns of a loop that looks at each, over what all of them give
 module _ {A B E : Type 0} (give : A → Result B E) (all : Result (List B) E) (so_far : List B) (left : List A)
     (known : all ≡ joined so_far (look_each give left)) where
@@ -42,9 +37,5 @@ module _ {A B E : Type 0} (give : A → Result B E) (all : Result (List B) E) (s
   pub turn-bad : (a : A) (more : List A) (why : E) → left ≡ a ∷ more → give a ≡ Err why → all ≡ Err why
   turn-bad a more why e bad = known ∙ rw (e, bad) refl
 
-  moved : (b : B) (r : Result (List B) E) → joined so_far (look r (λ rest. Ok (b ∷ rest))) ≡ joined (so_far ++ b ∷ []) r
-  moved b (Ok rest) = rw append_assoc refl
-  moved b (Err why) = refl
-
   pub turn-good : (a : A) (more : List A) (b : B) → left ≡ a ∷ more → give a ≡ Ok b → all ≡ joined (so_far ++ b ∷ []) (look_each give more)
-  turn-good a more b e good = known ∙ rw (e, good) (moved b (look_each give more))
+  turn-good a more b e good = known ∙ rw (e, good) (joined-more so_far b (look_each give more))

@@ -1,6 +1,8 @@
--- The entries of the key `curfew`.
+-- The entries of the key `curfew`: an airport, its closed hours in local minutes of the day, the types that they hold
+-- for, and whether they hold for starts and for landings.
 use Rattle.std.specs.Prelude.{ℕ, [], ◌∷◌, codes, Result, Ok}
 use Rattle.toml.specs.Data.{Members}
+use Rattle.tail_book.specs.declared.limits.TheConstants.{CURFEW_LIMIT, ITEM_LIMIT}
 use Rattle.tail_text.specs.Checks.{look}
 use Rattle.fleet_rules.specs.Entries.{Section}
 use Rattle.fleet_rules.specs.RawRules.{RawCurfewSeen}
@@ -12,7 +14,7 @@ curfew_in table =
     look (name_at (codes "airport") table) (λ airport.
     look (time_at (codes "from") table) (λ from.
     look (time_at (codes "to") table) (λ to.
-    look (names_at (codes "types") 20 table) (λ types.
+    look (names_at (codes "types") ITEM_LIMIT table) (λ types.
     look (truth_at (codes "start") table) (λ starts.
     look (truth_at (codes "landing") table) (λ landings.
     Ok (record {
@@ -24,11 +26,11 @@ curfew_in table =
       landings = landings;
     })))))))
 
--- at most 400 of them
+-- the curfews, no more than a book has
 abbrev pub curfews : Section RawCurfewSeen
 curfews = record {
   key = codes "curfew";
-  limit = 400;
+  limit = CURFEW_LIMIT;
   keys = codes "airport" ∷ codes "from" ∷ codes "to" ∷ codes "types" ∷ codes "start" ∷ codes "landing" ∷ [];
   entry_of = curfew_in;
 }

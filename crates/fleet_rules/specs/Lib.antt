@@ -1,14 +1,13 @@
 pub mod AirportEntry
 pub mod BandEntry
-pub mod Carry
+pub mod CarryField
 pub mod CounterEntry
 pub mod CurfewEntry
 pub mod Entries
 pub mod Fleet
 pub mod RawRules
-pub mod RawRulesParts
 pub mod RulesTable
 pub mod Tail
-pub mod TailParts
 pub mod TomlValues
 pub mod TypeEntry
+pub mod inside

@@ -1,5 +1,5 @@
 -- What a table of the rules holds at one of its keys: a number, a name, a text, a time of day, a truth value, or names.
--- An absent key is code 15. A value of another kind has the code of one that is not good.
+-- An absent key is missing. A value of another kind has the code of one that is not good.
 use Rattle.std.specs.Prelude.{ℕ, ℤ, pos, List, [], ◌∷◌, length, Bool, true, ◌&&◌, nat_le, int_le, Option, Some, None, option_map, Result, Ok, Err}
 use Rattle.std.specs.List.{list_any}
 use Rattle.std.specs.Option.{ok_or}
@@ -7,6 +7,7 @@ use Rattle.std.specs.Str.{bytes_eq}
 use Rattle.toml.specs.Data.{Data, Items, no_items, item, Members, no_members, member, as_array, as_bool, as_integer, as_str, get_member}
 use Rattle.tail_text.specs.Checks.{look, look_each, must, or_code}
 use Rattle.tail_text.specs.Clock.{clock_of}
+use Rattle.tail_text.specs.declared.codes.TheConstants.{MISSING, NAME, NUMBER, SHAPE, STAMP, TOO_MANY}
 use Rattle.table_records.specs.Values.{name_in}
 
 -- the values of an array, in their order
@@ -27,14 +28,14 @@ keys_pass test (member key value more) = test key && keys_pass test more
 abbrev pub has_only : List (List ℕ) → Members → Bool
 has_only listed table = keys_pass (λ key. list_any (bytes_eq key) listed) table
 
--- the value at a key, or else code 15
+-- the value at a key
 abbrev pub value_at : List ℕ → Members → Result Data ℕ
-value_at key table = ok_or (get_member key table) 15
+value_at key table = ok_or (get_member key table) MISSING
 
--- an integer from the least to the most, or else code 9
+-- an integer from the least to the most
 abbrev pub number_within : ℤ → ℤ → Option ℤ → Result ℤ ℕ
-number_within least most (Some number) = must (int_le least number && int_le number most) 9 (Ok number)
-number_within least most None = Err 9
+number_within least most (Some number) = must (int_le least number && int_le number most) NUMBER (Ok number)
+number_within least most None = Err NUMBER
 
 -- a key's number from the least to the most
 abbrev pub number_at : List ℕ → ℤ → ℤ → Members → Result ℤ ℕ
@@ -42,11 +43,11 @@ number_at key least most table =
     look (value_at key table) (λ value.
     number_within least most (as_integer value))
 
--- an integer from 0 to the most, as a count, or else code 9
+-- an integer from 0 to the most, as a count
 abbrev pub count_within : ℕ → Option ℤ → Result ℕ ℕ
-count_within most (Some (pos count)) = must (nat_le count most) 9 (Ok count)
-count_within most (Some _) = Err 9
-count_within most None = Err 9
+count_within most (Some (pos count)) = must (nat_le count most) NUMBER (Ok count)
+count_within most (Some _) = Err NUMBER
+count_within most None = Err NUMBER
 
 -- a key's count up to the most
 abbrev pub count_at : List ℕ → ℕ → Members → Result ℕ ℕ
@@ -54,10 +55,10 @@ count_at key most table =
     look (value_at key table) (λ value.
     count_within most (as_integer value))
 
--- a string that is a name, or else code 5
+-- a string that is a name
 abbrev pub name_of_value : Data → Result (List ℕ) ℕ
 name_of_value value =
-    look (ok_or (as_str value) 5) (λ text.
+    look (ok_or (as_str value) NAME) (λ text.
     name_in text)
 
 -- a key's name
@@ -66,24 +67,24 @@ name_at key table =
     look (value_at key table) (λ value.
     name_of_value value)
 
--- a key's time of day `HH:MM`, in minutes since midnight, or else code 6
+-- a key's time of day `HH:MM`, in minutes since midnight
 abbrev pub time_at : List ℕ → Members → Result ℤ ℕ
 time_at key table =
     look (value_at key table) (λ value.
-    look (ok_or (as_str value) 6) (λ text.
-    or_code 6 (clock_of text)))
+    look (ok_or (as_str value) STAMP) (λ text.
+    or_code STAMP (clock_of text)))
 
--- a key's truth value, or else code 4
+-- a key's truth value
 abbrev pub truth_at : List ℕ → Members → Result Bool ℕ
 truth_at key table =
     look (value_at key table) (λ value.
-    ok_or (as_bool value) 4)
+    ok_or (as_bool value) SHAPE)
 
--- a key's names: an array, or else code 4, whose elements are names, or else code 5, and not too many, or else code 10
+-- a key's names: an array whose elements are names, and then not too many of them
 abbrev pub names_at : List ℕ → ℕ → Members → Result (List (List ℕ)) ℕ
 names_at key most table =
     look (value_at key table) (λ value.
-    look (ok_or (values_of value) 4) (λ values.
+    look (ok_or (values_of value) SHAPE) (λ values.
     look (look_each name_of_value values) (λ names.
-    must (nat_le (length names) most) 10 (
+    must (nat_le (length names) most) TOO_MANY (
     Ok names))))

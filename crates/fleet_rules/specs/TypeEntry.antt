@@ -1,6 +1,7 @@
--- The entries of the key `type`.
+-- The entries of the key `type`: a name, the cost units of a minute flown, and the turn in minutes.
 use Rattle.std.specs.Prelude.{ℕ, pos, [], ◌∷◌, codes, Result, Ok}
 use Rattle.toml.specs.Data.{Members}
+use Rattle.tail_book.specs.declared.limits.TheConstants.{DAY, RATE_LIMIT, TYPE_LIMIT}
 use Rattle.tail_book.specs.declared.rules.AircraftType.{AircraftType}
 use Rattle.tail_text.specs.Checks.{look}
 use Rattle.fleet_rules.specs.Entries.{Section}
@@ -10,15 +11,15 @@ use Rattle.fleet_rules.specs.TomlValues.{count_at, name_at, number_at}
 abbrev pub type_in : Members → Result AircraftType ℕ
 type_in table =
     look (name_at (codes "name") table) (λ name.
-    look (count_at (codes "rate") 300 table) (λ rate.
-    look (number_at (codes "turn") (pos 0) (pos 1440) table) (λ turn.
+    look (count_at (codes "rate") RATE_LIMIT table) (λ rate.
+    look (number_at (codes "turn") (pos 0) DAY table) (λ turn.
     Ok (record { name = name; rate = rate; turn = turn }))))
 
--- at most 20 of them
+-- the types, no more than a book has
 abbrev pub types : Section AircraftType
 types = record {
   key = codes "type";
-  limit = 20;
+  limit = TYPE_LIMIT;
   keys = codes "name" ∷ codes "rate" ∷ codes "turn" ∷ [];
   entry_of = type_in;
 }

@@ -1,8 +1,11 @@
-//! The entries of the key `airport`.
+//! The entries of the key `airport`: a name, the minutes from UTC to local time, and the turn in minutes.
+//!
+//! The keys are looked up in this order, and the first that is absent or bad decides. Names are compared later, when
+//! all three tables are read.
 
 ghost use Rattle.std.specs.Prelude.{◌≡◌, IfOk};
 ghost use Rattle.toml.specs.View.{table_view};
-ghost use Rattle.tail_book.specs.Sound.{IsAirport};
+ghost use Rattle.tail_book.specs.inside.Sound.{IsAirport};
 ghost use Rattle.fleet_rules.specs.AirportEntry.{airport_in, airports};
 
 use crate::entries::Entry;
@@ -10,10 +13,8 @@ use crate::toml_values::{has_only, name_at, number_at};
 use std::alloc::Global;
 use table_records::NoRow;
 use tail_book::Airport;
+use tail_book::limits::{AIRPORT_LIMIT, DAY, OFFSET_LIMIT};
 use toml::Table;
-
-/// The most airports.
-pub const AIRPORT_LIMIT: usize = 200;
 
 impl Entry for Airport {
     ghost section = { airports };
@@ -42,7 +43,7 @@ fn airport_in(table: &Table) -> Result<Airport, u8>
     ensures sound { IfOk result IsAirport }
 {
     let name = name_at(table, "name")?;
-    let offset = number_at(table, "offset", -840, 840)?;
-    let turn = number_at(table, "turn", 0, 1440)?;
+    let offset = number_at(table, "offset", -OFFSET_LIMIT, OFFSET_LIMIT)?;
+    let turn = number_at(table, "turn", 0, DAY)?;
     Ok(Airport { name, offset, turn })
 }

@@ -1,11 +1,14 @@
-//! The entries of the key `counter`.
+//! The entries of the key `counter`: a name, what is counted, the limit, and the stops that clear it.
+//!
+//! The kind is read before the limit, since the limit of a days counter is turned into minutes here: from then on a
+//! limit and a value are compared as they are.
 
 ghost use Rattle.std.specs.Prelude.{◌≡◌, IfOk};
 ghost use Rattle.toml.specs.View.{table_view};
-ghost use Rattle.tail_book.specs.Sound.{IsLimit};
-ghost use Rattle.table_records.specs.NoRow.{Judges};
-ghost use Rattle.fleet_rules.specs.CounterEntry.{counter_in, counters, kind_at, kind_of, limit_at};
-ghost use Rattle.fleet_rules.specs.RawRules.{IsRawCounter};
+ghost use Rattle.tail_book.specs.inside.Sound.{IsLimit};
+ghost use Rattle.table_records.specs.inside.NoRow.{Judges};
+ghost use Rattle.fleet_rules.specs.CounterEntry.{counter_in, counters, kind_at, counter_kind, limit_at};
+ghost use Rattle.fleet_rules.specs.inside.RawRules.{IsRawCounter};
 
 use crate::RawCounter;
 use crate::entries::Entry;
@@ -13,10 +16,9 @@ use crate::toml_values::{has_only, name_at, names_at, number_at, value_at};
 use std::alloc::Global;
 use table_records::NoRow;
 use tail_book::CounterKind;
+use tail_book::limits::{BASE_LIMIT, COUNTER_LIMIT, DAY, DAYS_LIMIT, STOP_LIMIT, VALUE_LIMIT};
+use tail_text::codes;
 use toml::Table;
-
-/// The most counters.
-pub const COUNTER_LIMIT: usize = 6;
 
 impl Entry for RawCounter {
     ghost section = { counters };
@@ -47,8 +49,8 @@ fn counter_in(alloc: Global, table: &Table) -> Result<RawCounter, NoRow>
     let name = name_at(table, "name")?;
     let kind = kind_at(table, "kind")?;
     let limit = limit_at(table, "limit", kind)?;
-    let bases = names_at(alloc, table, "bases", 200)?;
-    let stop = number_at(table, "stop", 1, 100_000)?;
+    let bases = names_at(alloc, table, "bases", BASE_LIMIT)?;
+    let stop = number_at(table, "stop", 1, STOP_LIMIT)?;
     Ok(RawCounter {
         name,
         kind,
@@ -58,26 +60,26 @@ fn counter_in(alloc: Global, table: &Table) -> Result<RawCounter, NoRow>
     })
 }
 
-// The kind of counter at a key, or code 8.
+// The kind of counter at a key, or code `KIND`.
 fn kind_at(table: &Table, key: &str) -> Result<CounterKind, u8>
     ensures { result ≡ kind_at key.now (table_view table.now) }
 {
     let Some(value) = value_at(table, key) else {
-        return Err(15);
+        return Err(codes::MISSING);
     };
-    let Some(word) = value.as_str() else {
-        return Err(8);
+    let Some(text) = value.as_str() else {
+        return Err(codes::KIND);
     };
-    match kind_of(word) {
+    match counter_kind(text) {
         Some(kind) => Ok(kind),
-        None => Err(8),
+        None => Err(codes::KIND),
     }
 }
 
-fn kind_of(word: &str) -> Option<CounterKind>
-    ensures { result ≡ kind_of word.now }
+fn counter_kind(text: &str) -> Option<CounterKind>
+    ensures { result ≡ counter_kind text.now }
 {
-    match word {
+    match text {
         "minutes" => Some(CounterKind::Minutes),
         "landings" => Some(CounterKind::Landings),
         "days" => Some(CounterKind::Days),
@@ -85,16 +87,16 @@ fn kind_of(word: &str) -> Option<CounterKind>
     }
 }
 
-// The limit at a key, in minutes or landings, or code 9. Days are turned into minutes.
+// The limit at a key, in minutes or landings, or code `NUMBER`. Days are turned into minutes.
 fn limit_at(table: &Table, key: &str, kind: CounterKind) -> Result<i64, u8>
     ensures value { result ≡ limit_at key.now kind (table_view table.now) }
     ensures range { IfOk result (IsLimit kind) }
 {
     match kind {
-        CounterKind::Minutes | CounterKind::Landings => number_at(table, key, 1, 10_000_000),
+        CounterKind::Minutes | CounterKind::Landings => number_at(table, key, 1, VALUE_LIMIT),
         CounterKind::Days => {
-            let days = number_at(table, key, 1, 10_000)?;
-            Ok(days * 1440)
+            let days = number_at(table, key, 1, DAYS_LIMIT)?;
+            Ok(days * DAY)
         }
     }
 }

@@ -6,16 +6,17 @@
 ghost use Rattle.std.specs.Prelude.{◌≡◌, ◌≤◌, ◌+◌, ◌-◌, length, map, All, IfOk, option_map};
 ghost use Rattle.toml.specs.View.{table_view, view};
 ghost use Rattle.tail_text.specs.Checks.{look_each};
-ghost use Rattle.tail_text.specs.Reading.{Answers, refusal_at};
+ghost use Rattle.tail_text.specs.inside.Reading.{Answers};
+ghost use Rattle.tail_text.specs.Reading.{refusal_at};
 ghost use Rattle.tail_text.specs.declared.refusal.Stopped.TheVariants.{Refused};
-ghost use Rattle.table_records.specs.NoRow.{Judges};
+ghost use Rattle.table_records.specs.inside.NoRow.{Judges};
 ghost use Rattle.fleet_rules.specs.Entries.{Section, entries_at, entries_from, entry_in, refused, entry_table, tables_in};
 ghost use Rattle.fleet_rules.specs.TomlValues.{has_only};
 
 use crate::toml_values::{value_at, values_of};
 use std::alloc::Global;
 use table_records::NoRow;
-use tail_text::{Refusal, Stopped};
+use tail_text::{Refusal, Stopped, codes};
 use toml::{Table, Value};
 
 /// The entries of one key.
@@ -77,7 +78,7 @@ fn tables_in<'a>(alloc: Global, value: Option<&'a Value>) -> Result<Vec<&'a Tabl
         return Ok(Vec::new(alloc));
     };
     let Some(values) = values_of(value) else {
-        return Err(refused(4, 0));
+        return Err(refused(codes::SHAPE, 0));
     };
     tables_among(alloc, values)
 }
@@ -89,7 +90,7 @@ fn tables_among<'a>(alloc: Global, values: &'a [Value]) -> Result<Vec<&'a Table>
     let mut tables = Vec::new(alloc);
     for value in values {
         let Some(table) = value.as_table() else {
-            return Err(refused(4, 0));
+            return Err(refused(codes::SHAPE, 0));
         };
         if tables.push(table).is_err() {
             return Err(Stopped::Memory);
@@ -126,10 +127,10 @@ fn entry_in<E: Entry>(alloc: Global, room: usize, table: &Table) -> Result<E, No
     ensures sound { IfOk result E.sound }
 {
     if room == 0 {
-        return Err(NoRow::Code(10));
+        return Err(NoRow::Code(codes::TOO_MANY));
     }
     if !E::has_its_keys_only(table) {
-        return Err(NoRow::Code(14));
+        return Err(NoRow::Code(codes::KEY));
     }
     E::entry_of(alloc, table)
 }

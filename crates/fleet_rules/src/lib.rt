@@ -3,7 +3,7 @@
 
 mod airport_entry;
 mod band_entry;
-mod carry;
+mod carry_field;
 mod counter_entry;
 mod curfew_entry;
 mod entries;
@@ -15,15 +15,10 @@ mod tail;
 mod toml_values;
 mod type_entry;
 
-pub use airport_entry::AIRPORT_LIMIT;
-pub use band_entry::BAND_LIMIT;
-pub use counter_entry::COUNTER_LIMIT;
-pub use curfew_entry::CURFEW_LIMIT;
-pub use fleet::{TAIL_LIMIT, read_fleet};
+pub use fleet::read_fleet;
 pub use raw_rules::{RawCounter, RawCurfew, RawRules};
 pub use rules_table::read_rules;
 pub use tail::{RawCarry, RawTail};
-pub use type_entry::TYPE_LIMIT;
 
 #[cfg(test)]
 mod rules_tests;

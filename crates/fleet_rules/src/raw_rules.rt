@@ -1,4 +1,6 @@
 //! The rules as their table says them, with their names not looked up yet.
+//!
+//! Each value keeps what an entry has to keep by itself, so whoever takes one need not look again.
 
 use std::marker::Model;
 use tail_book::{AircraftType, Airport, Band, CounterKind, Name};
@@ -16,11 +18,12 @@ pub struct RawCurfew {
 }
 
 impl Model for RawCurfew {
-    ghost use Rattle.fleet_rules.specs.RawRules.{RawCurfewSeen, IsRawCurfew};
+    ghost use Rattle.fleet_rules.specs.RawRules.{RawCurfewSeen};
+    ghost use Rattle.fleet_rules.specs.inside.RawRules.{IsRawCurfew};
 
     ghost Value = { RawCurfewSeen };
 
-    ghost use Rattle.fleet_rules.specs.RawRulesParts.{curfew_seen};
+    ghost use Rattle.fleet_rules.specs.inside.RawRulesParts.{curfew_seen};
 
     ghost view = { curfew_seen };
 
@@ -33,17 +36,20 @@ impl Model for RawCurfew {
 pub struct RawCounter {
     pub name: Name,
     pub kind: CounterKind,
+    /// In landings where those are counted, and else in minutes.
     pub limit: i64,
     pub bases: Vec<Name>,
+    /// The least minutes of a stop that clears it.
     pub stop: i64,
 }
 
 impl Model for RawCounter {
-    ghost use Rattle.fleet_rules.specs.RawRules.{RawCounterSeen, IsRawCounter};
+    ghost use Rattle.fleet_rules.specs.RawRules.{RawCounterSeen};
+    ghost use Rattle.fleet_rules.specs.inside.RawRules.{IsRawCounter};
 
     ghost Value = { RawCounterSeen };
 
-    ghost use Rattle.fleet_rules.specs.RawRulesParts.{counter_seen};
+    ghost use Rattle.fleet_rules.specs.inside.RawRulesParts.{counter_seen};
 
     ghost view = { counter_seen };
 
@@ -62,11 +68,12 @@ pub struct RawRules {
 }
 
 impl Model for RawRules {
-    ghost use Rattle.fleet_rules.specs.RawRules.{RawRulesSeen, AreRawRules};
+    ghost use Rattle.fleet_rules.specs.RawRules.{RawRulesSeen};
+    ghost use Rattle.fleet_rules.specs.inside.RawRules.{AreRawRules};
 
     ghost Value = { RawRulesSeen };
 
-    ghost use Rattle.fleet_rules.specs.RawRulesParts.{rules_seen};
+    ghost use Rattle.fleet_rules.specs.inside.RawRulesParts.{rules_seen};
 
     ghost view = { rules_seen };
 

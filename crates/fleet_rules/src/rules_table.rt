@@ -5,7 +5,7 @@
 
 ghost use Rattle.std.specs.Prelude.{◌≡◌};
 ghost use Rattle.toml.specs.View.{table_view};
-ghost use Rattle.tail_text.specs.Reading.{Answers};
+ghost use Rattle.tail_text.specs.inside.Reading.{Answers};
 ghost use Rattle.fleet_rules.specs.RulesTable.{rules_in, rules_of};
 
 use crate::RawRules;
@@ -13,8 +13,7 @@ use crate::entries::{entries_at, refused};
 use crate::nested::give_up;
 use crate::toml_values::has_only;
 use std::alloc::Global;
-use table_records::SIZE_LIMIT;
-use tail_text::Stopped;
+use tail_text::{SIZE_LIMIT, Stopped, codes};
 use toml::Table;
 
 /// The rules of a table, or its first refusal. Entries are numbered from 1 through all keys.
@@ -22,10 +21,10 @@ pub fn read_rules(alloc: Global, bytes: &[u8]) -> Result<RawRules, Stopped>
     ensures { Answers (λ rules. rules) (rules_of bytes.now) result }
 {
     if bytes.len() > SIZE_LIMIT {
-        return Err(refused(1, 0));
+        return Err(refused(codes::TOO_BIG, 0));
     }
     let Ok(text) = str::from_utf8(bytes) else {
-        return Err(refused(2, 0));
+        return Err(refused(codes::NOT_UTF8, 0));
     };
     match toml::table_from_str(alloc, text) {
         Ok(table) => {
@@ -37,7 +36,7 @@ pub fn read_rules(alloc: Global, bytes: &[u8]) -> Result<RawRules, Stopped>
             if error.is_memory() {
                 Err(Stopped::Memory)
             } else {
-                Err(refused(13, 0))
+                Err(refused(codes::TOML, 0))
             }
         }
     }
@@ -48,7 +47,7 @@ fn rules_in(alloc: Global, table: &Table) -> Result<RawRules, Stopped>
     ensures { Answers (λ rules. rules) (rules_in (table_view table.now)) result }
 {
     if !has_only(table, &["type", "airport", "curfew", "counter", "band"]) {
-        return Err(refused(14, 0));
+        return Err(refused(codes::KEY, 0));
     }
     let kinds = entries_at(alloc, table, 0)?;
     let mut before = kinds.len() as u64;

@@ -1,10 +1,10 @@
 //! Fleets as a planner types them: each refusal at its place, and what an aircraft's record says.
 
-use crate::{TAIL_LIMIT, read_fleet};
+use crate::read_fleet;
 use std::alloc::Global;
 use std::test::Fail;
-use table_records::SIZE_LIMIT;
-use tail_text::{Refusal, Stopped, Table};
+use tail_book::limits::TAIL_LIMIT;
+use tail_text::{Refusal, SIZE_LIMIT, Stopped, Table};
 
 const HEADER: &str = "tail,type,at,ready,fixed,tags,avoid,carry\n";
 

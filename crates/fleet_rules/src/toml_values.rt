@@ -1,17 +1,18 @@
 //! What a table of the rules holds at one of its keys.
 //!
-//! Each reader looks one key up, and answers code 15 where it is absent. A value of another kind is refused like one of
+//! Each reader looks one key up, and answers code `MISSING` where it is absent. A value of another kind is refused like one of
 //! its own kind that is not good.
 
-ghost use Rattle.std.specs.Prelude.{◌≡◌, ◌≤◌, length, map, pos, true, IfOk, option_map};
+ghost use Rattle.std.specs.Prelude.{◌≡◌, ◌≤◌, length, map, pos, ◌-ℤ◌, true, IfOk, option_map};
 ghost use Rattle.std.specs.List.{AllPass, list_any};
 ghost use Rattle.std.specs.Str.{bytes_eq};
 ghost use Rattle.toml.specs.View.{table_view, view};
 ghost use Rattle.tail_book.specs.Name.{is_name};
-ghost use Rattle.tail_book.specs.Sound.{IsWithin};
+ghost use Rattle.tail_book.specs.declared.limits.TheConstants.{DAY};
+ghost use Rattle.tail_book.specs.inside.Sound.{IsWithin};
 ghost use Rattle.tail_text.specs.Checks.{look_each};
-ghost use Rattle.table_records.specs.NameLists.{AreNames};
-ghost use Rattle.table_records.specs.NoRow.{Judges};
+ghost use Rattle.table_records.specs.inside.NameLists.{AreNames};
+ghost use Rattle.table_records.specs.inside.NoRow.{Judges};
 ghost use Rattle.toml.specs.Data.{get_member};
 ghost use Rattle.std.specs.Option.{ok_or};
 ghost use Rattle.fleet_rules.specs.TomlValues.{count_at, count_within, has_only, name_at, name_of_value, names_at, number_at, number_within, time_at, truth_at, value_at, values_of};
@@ -19,7 +20,7 @@ ghost use Rattle.fleet_rules.specs.TomlValues.{count_at, count_within, has_only,
 use std::alloc::Global;
 use table_records::{NoRow, name_in};
 use tail_book::Name;
-use tail_text::clock;
+use tail_text::{clock, codes};
 use toml::{Table, Value};
 
 /// Whether the table has none but the listed keys.
@@ -62,13 +63,13 @@ pub(crate) fn values_of(value: &Value) -> Option<&[Value]>
     }
 }
 
-/// The number from `least` to `most` at a key, or code 9.
+/// The number from `least` to `most` at a key, or code `NUMBER`.
 pub(crate) fn number_at(table: &Table, key: &str, least: i64, most: i64) -> Result<i64, u8>
     ensures value { result ≡ number_at key.now least most (table_view table.now) }
     ensures range { IfOk result (IsWithin least most) }
 {
     let Some(value) = value_at(table, key) else {
-        return Err(15);
+        return Err(codes::MISSING);
     };
     number_within(value.as_integer(), least, most)
 }
@@ -79,17 +80,17 @@ fn number_within(number: Option<i64>, least: i64, most: i64) -> Result<i64, u8>
 {
     match number {
         Some(number) if least <= number && number <= most => Ok(number),
-        _ => Err(9),
+        _ => Err(codes::NUMBER),
     }
 }
 
-/// The count up to `most` at a key, or code 9.
+/// The count up to `most` at a key, or code `NUMBER`.
 pub(crate) fn count_at(table: &Table, key: &str, most: u64) -> Result<u64, u8>
     ensures value { result ≡ count_at key.now most (table_view table.now) }
     ensures range { IfOk result (λ count. count ≤ most) }
 {
     let Some(value) = value_at(table, key) else {
-        return Err(15);
+        return Err(codes::MISSING);
     };
     count_within(value.as_integer(), most)
 }
@@ -100,17 +101,17 @@ fn count_within(number: Option<i64>, most: u64) -> Result<u64, u8>
 {
     match number {
         Some(number) if number >= 0 && number as u64 <= most => Ok(number as u64),
-        _ => Err(9),
+        _ => Err(codes::NUMBER),
     }
 }
 
-/// The name at a key, or code 5.
+/// The name at a key, or code `NAME`.
 pub(crate) fn name_at(table: &Table, key: &str) -> Result<Name, u8>
     ensures value { result ≡ name_at key.now (table_view table.now) }
     ensures grammar { IfOk result (λ name. is_name name ≡ true) }
 {
     let Some(value) = value_at(table, key) else {
-        return Err(15);
+        return Err(codes::MISSING);
     };
     name_of_value(value)
 }
@@ -120,43 +121,43 @@ fn name_of_value(value: &Value) -> Result<Name, u8>
     ensures grammar { IfOk result (λ name. is_name name ≡ true) }
 {
     let Some(text) = value.as_str() else {
-        return Err(5);
+        return Err(codes::NAME);
     };
     name_in(text.as_bytes())
 }
 
-/// The time of day at a key, in minutes since midnight, or code 6.
+/// The time of day at a key, in minutes since midnight, or code `STAMP`.
 pub(crate) fn time_at(table: &Table, key: &str) -> Result<i64, u8>
     ensures value { result ≡ time_at key.now (table_view table.now) }
-    ensures range { IfOk result (IsWithin (pos 0) (pos 1439)) }
+    ensures range { IfOk result (IsWithin (pos 0) (DAY -ℤ pos 1)) }
 {
     let Some(value) = value_at(table, key) else {
-        return Err(15);
+        return Err(codes::MISSING);
     };
     let Some(text) = value.as_str() else {
-        return Err(6);
+        return Err(codes::STAMP);
     };
     match clock(text.as_bytes()) {
         Ok(minutes) => Ok(minutes),
-        Err(_) => Err(6),
+        Err(_) => Err(codes::STAMP),
     }
 }
 
-/// The truth value at a key, or code 4.
+/// The truth value at a key, or code `SHAPE`.
 pub(crate) fn truth_at(table: &Table, key: &str) -> Result<bool, u8>
     ensures { result ≡ truth_at key.now (table_view table.now) }
 {
     let Some(value) = value_at(table, key) else {
-        return Err(15);
+        return Err(codes::MISSING);
     };
     match value.as_bool() {
         Some(truth) => Ok(truth),
-        None => Err(4),
+        None => Err(codes::SHAPE),
     }
 }
 
-/// The names at a key: code 4 for another value than an array, code 5 for an element that is no name, and code 10 where
-/// all are names and more than `most`.
+/// The names at a key: code `SHAPE` for another value than an array, `NAME` for an element that is no name, and `TOO_MANY`
+/// where all are names and more than `most`.
 pub(crate) fn names_at(
     alloc: Global,
     table: &Table,
@@ -167,14 +168,14 @@ pub(crate) fn names_at(
     ensures grammar { IfOk result (λ names. AreNames most names.items) }
 {
     let Some(value) = value_at(table, key) else {
-        return Err(NoRow::Code(15));
+        return Err(NoRow::Code(codes::MISSING));
     };
     let Some(values) = values_of(value) else {
-        return Err(NoRow::Code(4));
+        return Err(NoRow::Code(codes::SHAPE));
     };
     let names = names_among(alloc, values)?;
     if names.len() > most {
-        return Err(NoRow::Code(10));
+        return Err(NoRow::Code(codes::TOO_MANY));
     }
     Ok(names)
 }

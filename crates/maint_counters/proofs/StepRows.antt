@@ -8,10 +8,10 @@ use Rattle.tail_book.specs.declared.rules.CounterKind.TheVariants.{Minutes, Land
 use Rattle.tail_book.specs.Numbers.{int_le}
 use Rattle.tail_book.specs.Link.{free_from}
 use Rattle.tail_book.specs.Counters.{is_cleared, amount, step_one}
-use Rattle.turn_rules.specs.NumberSet.{has}
+use Rattle.turn_rules.specs.inside.NumberSet.{has}
 use Rattle.maint_counters.specs.declared.step_table.ActivityRow.{ActivityRow}
 use Rattle.maint_counters.specs.declared.step_table.CounterRow.{CounterRow}
-use Rattle.maint_counters.specs.StepTable.{IsActivityRow, IsCounterRow, added_in, clears_in, counter_of, stepped_in}
+use Rattle.maint_counters.specs.inside.StepTable.{IsActivityRow, IsCounterRow, added_in, clears_in, counter_of, stepped_in}
 
 -- what is not set to 0 and was not cleared goes on
 pub goes_on : (row : ActivityRow) (counter : CounterRow) (c : ℕ) (free value added : ℤ)

@@ -6,17 +6,18 @@
 //! comparisons at most. A step allocates nothing.
 
 ghost use Rattle.std.specs.Prelude.{◌≡◌, ◌<◌, ◌&&◌, ◌||◌, nat_eq, false, ◌≤◌, ◌≤ℤ◌, ◌+ℤ◌, ◌-ℤ◌, ◌^◌, ◌↔◌, ℕ, IfOk, IsTrue, pos, negsuc, length, slice_index_or};
+ghost use Rattle.tail_book.specs.declared.limits.TheConstants.{LAST_MOMENT};
 ghost use Rattle.tail_book.specs.Lookup.{activities, aircraft, from_port, resets_of, tail_of};
 ghost use Rattle.tail_book.specs.Link.{free_from};
 ghost use Rattle.tail_book.specs.Numbers.{contains, int_le};
 ghost use Rattle.tail_book.specs.Counters.{step, WithinLimits};
-ghost use Rattle.tail_book.specs.Sound.{IsWithin, IsMoment};
-ghost use Rattle.tail_book.specs.Tests.{within_limits};
-ghost use Rattle.tail_book.specs.Place.{IsPlaceOf};
-ghost use Rattle.turn_rules.specs.FreeBefore.{IsFreeBefore};
-ghost use Rattle.turn_rules.specs.NumberSet.{has};
-ghost use Rattle.maint_counters.specs.Counts.{AreCounts, AreCountable, GrowByAStep};
-ghost use Rattle.maint_counters.specs.StepTable.{IsActivityRow, IsCounterRow, IsInRange, IsStepTableOf, added_in, clears_in, counter_of, no_activity_row, no_counter, no_counter_row, stepped_in};
+ghost use Rattle.tail_book.specs.inside.Sound.{IsWithin, IsMoment};
+ghost use Rattle.tail_book.specs.inside.Tests.{within_limits};
+ghost use Rattle.tail_book.specs.inside.Place.{IsPlaceOf};
+ghost use Rattle.turn_rules.specs.inside.FreeBefore.{IsFreeBefore};
+ghost use Rattle.turn_rules.specs.inside.NumberSet.{has};
+ghost use Rattle.maint_counters.specs.inside.Counts.{AreCounts, AreCountable, GrowByAStep};
+ghost use Rattle.maint_counters.specs.inside.StepTable.{IsActivityRow, IsCounterRow, IsInRange, IsStepTableOf, added_in, clears_in, counter_of, no_activity_row, no_counter, no_counter_row, stepped_in};
 
 use crate::counting::{end_of, flown, landed, start_of};
 use std::alloc::Global;
@@ -24,14 +25,16 @@ use tail_book::laws::{every_book_is_sound, limits_decide};
 use tail_book::{Book, Counter, CounterKind, Memory, Place};
 use turn_rules::{NumberSet, free_from};
 
-/// What a step reads of an activity: its minutes since 1970-01-01T00:00 UTC, the minutes that it flies and its
-/// landings, the counters that have a base where it starts, and those that it sets to 0.
+/// What a step reads of an activity.
 #[derive(Clone, Copy, Debug)]
 pub struct ActivityRow {
+    /// When it starts, and when it ends: minutes since 1970-01-01T00:00 UTC.
     pub start: i64,
     pub end: i64,
+    /// The minutes that it flies, and its landings: both 0 on the ground.
     pub flown: i64,
     pub landings: i64,
+    /// The counters that have a base where it starts, and those that it sets to 0.
     pub based: NumberSet,
     pub resets: NumberSet,
 }
@@ -40,16 +43,19 @@ pub struct ActivityRow {
 #[derive(Clone, Copy, Debug)]
 pub struct CounterRow {
     pub kind: CounterKind,
+    /// Its greatest legal value: minutes or landings, minutes of the calendar for days.
     pub limit: i64,
+    /// The least minutes of a stop that clears it.
     pub stop: i64,
 }
 
-/// What steps read of a book: a row for each activity, a row for each counter, and the minute from which each aircraft
-/// is ready at its carry-in.
+/// What steps read of a book.
 #[derive(Debug, Drop)]
 pub struct StepTable {
+    /// A row for each activity, and one for each counter.
     pub activities: Vec<ActivityRow>,
     pub counters: Vec<CounterRow>,
+    /// When each aircraft is ready at its carry-in: minutes since 1970-01-01T00:00 UTC.
     pub ready: Vec<i64>,
 }
 
@@ -229,7 +235,7 @@ fn passed(row: &ActivityRow, free: i64, cleared: bool) -> i64
     requires row { IsInRange row.now }
     requires free { IsMoment free }
     ensures value { result ≡ added_in row.now free cleared CounterKind.Days }
-    ensures range { IsWithin (negsuc 120_968_638) (pos 120_968_639) result }
+    ensures range { IsWithin (pos 0 -ℤ LAST_MOMENT) LAST_MOMENT result }
     ensures forward { free ≤ℤ row.now.start → pos 0 ≤ℤ result }
 {
     if cleared {
@@ -244,7 +250,7 @@ fn added(row: &ActivityRow, free: i64, cleared: bool, kind: CounterKind) -> i64
     requires row { IsInRange row.now }
     requires free { IsMoment free }
     ensures value { result ≡ added_in row.now free cleared kind }
-    ensures range { IsWithin (negsuc 120_968_638) (pos 120_968_639) result }
+    ensures range { IsWithin (pos 0 -ℤ LAST_MOMENT) LAST_MOMENT result }
     ensures forward { free ≤ℤ row.now.start → pos 0 ≤ℤ result }
 {
     match kind {
@@ -262,7 +268,7 @@ fn stepped(row: &ActivityRow, counter: &CounterRow, c: u32, free: i64, value: i6
     requires range { IsWithin (pos 0) (pos (2 ^ 61)) value }
     ensures value { result ≡ stepped_in row.now counter.now c free value }
     ensures forward { free ≤ℤ row.now.start → pos 0 ≤ℤ result }
-    ensures grows { result ≤ℤ (value +ℤ pos 120_968_639) }
+    ensures grows { result ≤ℤ (value +ℤ LAST_MOMENT) }
 {
     let cleared = clears(row, counter, c, free);
     let added = added(row, free, cleared, counter.kind);

@@ -1,4 +1,9 @@
 -- Legs of a plan, and sums along them.
+--
+-- What the routes of all aircraft come to is what the legs come to in reading order, whatever a leg counts. By
+-- induction on the names as they are met: an activity adds the same to the route of its aircraft and to the legs, and
+-- no aircraft is met twice, so a route is counted once. What a plan costs and how often it flies an activity are two
+-- such sums.
 use Rattle.std.proofs.Common.{◌≡◌, ◌≢◌, ◌∙◌, sym, refl, ap, arith, subst, true≢false, ℕ, zero, suc, ◌+◌, ◌<◌, ◌≤◌, inl, inr, Bool, true, false, ◌||◌, cond, if◌then◌else◌, nat_eq, List, [], ◌∷◌, map, All}
 use Rattle.std.specs.Prelude.{count_by}
 use Rattle.std.specs.List.{IsDistinct, AllByRecursion, range_with_len, sum_by, flat_map}
@@ -14,13 +19,15 @@ use Rattle.tail_book.specs.declared.place.Place.{Place}
 use Rattle.tail_book.specs.declared.place.Place.TheVariants.{Carry, After}
 use Rattle.tail_book.specs.Cost.{activity_cost, connection_cost, cost_from, cost_of_routes, plan_cost}
 use Rattle.tail_book.specs.Plan.{times_flown}
-use Rattle.tail_book.specs.Place.{IsPlaceOf}
+use Rattle.tail_book.specs.inside.Place.{IsPlaceOf}
 use Rattle.plan_audit.specs.declared.leg.Leg.{Leg}
 use Rattle.plan_audit.specs.declared.met.Met.{Met}
 use Rattle.plan_audit.specs.declared.met.Met.TheVariants.{Unknown, Twice, Tail, Activity}
-use Rattle.plan_audit.specs.Met.{IsMetOf, tails_met, activities_met, names_met}
-use Rattle.plan_audit.specs.Kept.{next_route, route_met, kept, legs_from, legs_met, IsLegOf}
-use Rattle.plan_audit.specs.LegCost.{legs_cost}
+use Rattle.plan_audit.specs.inside.Met.{IsMetOf}
+use Rattle.plan_audit.specs.Met.{tails_met, activities_met, names_met}
+use Rattle.plan_audit.specs.Kept.{next_route, route_met, kept, legs_from, legs_met}
+use Rattle.plan_audit.specs.inside.Kept.{IsLegOf}
+use Rattle.plan_audit.specs.inside.LegCost.{legs_cost}
 use Rattle.plan_audit.proofs.WellMet.{IsWellMet, names_well_met}
 
 legs-of_book : (book : BookSeen) (k : ℕ) (x : Place) (met : List Met) → All (IsMetOf book) met → k < aircraft book → IsPlaceOf book x → All (IsLegOf book) (legs_from k x met)

@@ -1,16 +1,18 @@
--- The counters of a leg, one after the other: what was passed is stepped, and what is left is stepped from its number on.
+-- The counters of a leg, one after the other: what was passed is stepped, and what is left is stepped from its number
+-- on. A leg brings a counter no farther than the minutes of the calendar, so fewer than 2^64 legs leave it within 128
+-- bits.
 use Rattle.std.proofs.Common.{◌≡◌, ℕ, ◌+◌, ◌<◌, ℤ, pos, arith, List, [], ◌∷◌, ◌++◌, length, get_or, set, take, drop, sym, refl, ◌∙◌, ap, ap₂, append_assoc}
 use Rattle.std.proofs.lemmas.List.{drop_more, take_more_set}
 use Rattle.tail_book.specs.Seen.{CounterSeen, BookSeen}
 use Rattle.tail_book.specs.Lookup.{aircraft, carry_of, no_tail}
-use Rattle.tail_book.specs.Sound.{IsBook}
+use Rattle.tail_book.specs.inside.Sound.{IsBook}
 use Rattle.tail_book.specs.declared.place.Place.{Place}
 use Rattle.tail_book.specs.declared.place.Place.TheVariants.{Carry, After}
 use Rattle.tail_book.specs.Counters.{step_one, step_from}
 use Rattle.std.proofs.lemmas.Int.{ints}
 use Rattle.std.specs.Prelude.{◌≤◌, ◌^◌, FitsSigned}
 use mir.Syntax.{w128}
-use Rattle.plan_audit.specs.Counted.{value_before, IsWithinLegs}
+use Rattle.plan_audit.specs.inside.PastLimits.{value_before, IsWithinLegs}
 use Rattle.plan_audit.specs.Rules.{values_before}
 
 -- a counter before the leg, among all of them

@@ -16,8 +16,8 @@ use Rattle.tail_book.specs.declared.place.Place.{Place}
 use Rattle.tail_book.specs.declared.place.Place.TheVariants.{After}
 use Rattle.tail_book.specs.Counters.{step}
 use Rattle.tail_book.specs.Plan.{times_flown, route_of}
-use Rattle.tail_book.specs.Tests.{is_link, within_limits, is_legal_from, is_legal_route, are_legal_below, are_flown_once_below}
-use Rattle.plan_audit.specs.Times.{AreTimes}
+use Rattle.tail_book.specs.inside.Tests.{is_link, within_limits, is_legal_from, is_legal_route, are_legal_below, are_flown_once_below}
+use Rattle.plan_audit.specs.inside.Times.{AreTimes}
 use Rattle.plan_audit.proofs.Legality.{both}
 
 chain-false : (a b c d r : Bool) → r ≡ (a && (b && c)) → r ≡ false → (a && (b && (c && d))) ≡ false

@@ -1,4 +1,5 @@
--- Every kept plan has a route for each aircraft, of activities of the book, and flies none twice.
+-- Every kept plan has a route for each aircraft, of activities of the book, and flies none twice: it flies an activity
+-- as often as it was met, and the activities that were met differ.
 use Rattle.std.proofs.Common.{sym, subst, arith, ℕ, ◌<◌, ◌≤◌, inl, inr, Bool, true, false, if◌then◌else◌, nat_eq, List, [], ◌∷◌, All}
 use Rattle.std.specs.Prelude.{count_by}
 use Rattle.std.specs.List.{IsDistinct}
@@ -10,9 +11,10 @@ use Rattle.tail_book.specs.Numbers.{contains}
 use Rattle.tail_book.specs.Lookup.{activities, aircraft}
 use Rattle.plan_audit.specs.declared.met.Met.{Met}
 use Rattle.plan_audit.specs.declared.met.Met.TheVariants.{Unknown, Twice, Tail, Activity}
-use Rattle.plan_audit.specs.Met.{IsMetOf, activities_met, names_met}
+use Rattle.plan_audit.specs.inside.Met.{IsMetOf}
+use Rattle.plan_audit.specs.Met.{activities_met, names_met}
 use Rattle.plan_audit.specs.Kept.{next_route, route_met, kept}
-use Rattle.plan_audit.specs.Laws.{KeptPlansFlyOnce}
+use Rattle.plan_audit.specs.inside.Laws.{KeptPlansFlyOnce}
 use Rattle.plan_audit.proofs.WellMet.{names_well_met}
 use Rattle.plan_audit.proofs.Along.{kept_times, count_none, count_one}
 use Rattle.plan_audit.proofs.Unbroken.{kept_route}

@@ -1,4 +1,7 @@
 -- The routes that legs make one after the other, and those of the kept plan.
+--
+-- A leg goes to the end of the route of its aircraft and leaves the others as they are. An aircraft is met once, so its
+-- legs are the activities behind its line and no others, in their order: that is its kept route.
 use Rattle.std.proofs.Common.{◌≡◌, ◌≢◌, ◌∙◌, sym, refl, ap, arith, true≢false, ℕ, zero, suc, ◌+◌, ◌<◌, ◌≤◌, inl, inr, Bool, true, false, cond, if◌then◌else◌, nat_eq, List, [], ◌∷◌, ◌++◌, map, length, set, get_or, take, replicate}
 use Rattle.std.specs.List.{filter, range_with_len, IsDistinct}
 use Rattle.std.proofs.lemmas.Bool.{cases_eq, eq-eqb, eqb-true}
@@ -15,7 +18,8 @@ use Rattle.plan_audit.specs.declared.leg.Leg.{Leg}
 use Rattle.plan_audit.specs.declared.met.Met.{Met}
 use Rattle.plan_audit.specs.declared.met.Met.TheVariants.{Unknown, Twice, Tail, Activity}
 use Rattle.plan_audit.specs.Met.{tails_met, names_met}
-use Rattle.plan_audit.specs.Kept.{next_route, route_met, kept, legs_from, legs_met, route_in}
+use Rattle.plan_audit.specs.Kept.{next_route, route_met, kept, legs_from, legs_met}
+use Rattle.plan_audit.specs.inside.Kept.{route_in}
 use Rattle.plan_audit.proofs.WellMet.{names_well_met}
 use Rattle.plan_audit.proofs.KeptLegs.{route_behind}
 

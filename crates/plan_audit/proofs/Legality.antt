@@ -12,14 +12,16 @@ use Rattle.tail_book.specs.declared.place.Place.{Place}
 use Rattle.tail_book.specs.declared.place.Place.TheVariants.{Carry, After}
 use Rattle.tail_book.specs.Curfew.{is_curfewed}
 use Rattle.tail_book.specs.Counters.{step_from}
-use Rattle.tail_book.specs.Sound.{IsBook}
-use Rattle.tail_book.specs.Tests.{is_permitted, is_allowed, is_allowed_at, is_connected, is_link, within_limits, is_legal_from, is_legal_route}
+use Rattle.tail_book.specs.inside.Sound.{IsBook}
+use Rattle.tail_book.specs.Allowed.{is_permitted}
+use Rattle.tail_book.specs.inside.Tests.{is_allowed, is_allowed_at, is_link, within_limits, is_legal_from, is_legal_route}
+use Rattle.tail_book.specs.Link.{is_connected}
 use Rattle.plan_audit.specs.declared.leg.Leg.{Leg}
 use Rattle.plan_audit.specs.declared.met.Met.{Met}
 use Rattle.plan_audit.specs.declared.met.Met.TheVariants.{Unknown, Twice, Tail, Activity}
 use Rattle.plan_audit.specs.declared.broken.Broken.{Broken}
 use Rattle.plan_audit.specs.declared.broken.Broken.TheVariants as rule
-use Rattle.plan_audit.specs.Met.{IsMetOf}
+use Rattle.plan_audit.specs.inside.Met.{IsMetOf}
 use Rattle.plan_audit.specs.Kept.{next_route, route_met, legs_from}
 use Rattle.plan_audit.specs.Rules.{not_allowed, curfews, no_links, past_limits_at, values_before, values_after, past_limits}
 use Rattle.plan_audit.proofs.CountLemmas.{carry_width}

@@ -1,4 +1,5 @@
--- Marks of the numbers met.
+-- Marks of the numbers met: at the number that is met one mark more is set, and at any other the marks and the list say
+-- what they said.
 use Rattle.std.proofs.Common.{◌≡◌, ◌≢◌, ◌∙◌, sym, ap, arith, ℕ, ◌+◌, ◌<◌, inl, inr, Bool, true, false, ◌||◌, nat_eq, List, [], ◌∷◌, ◌++◌, length, map, set, append_assoc}
 use Rattle.std.proofs.lemmas.Bool.{cases_Bool}
 use Rattle.std.proofs.lemmas.Bool.Decides.{nat_tests}
@@ -11,7 +12,7 @@ use Rattle.std.specs.List.{range_with_len, filter}
 use Rattle.std.specs.Prelude.{not, cond}
 use Rattle.plan_audit.specs.declared.broken.Broken.{Broken}
 use Rattle.plan_audit.specs.declared.broken.Broken.TheVariants as rule
-use Rattle.plan_audit.specs.Marks.{AreMarks}
+use Rattle.plan_audit.specs.inside.Marks.{AreMarks}
 
 or_last : (p q : Bool) → (p || (q || false)) ≡ (q || p)
 or_last p q = grind arith

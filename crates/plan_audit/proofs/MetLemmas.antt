@@ -4,8 +4,9 @@ use Rattle.std.proofs.lemmas.List.{drop_all, drop_more, append-nil}
 use Rattle.tail_book.specs.Seen.{BookSeen, RawLineSeen}
 use Rattle.plan_audit.specs.declared.met.Met.{Met}
 use Rattle.plan_audit.specs.declared.met.Met.TheVariants.{Unknown, Twice, Tail, Activity}
-use Rattle.plan_audit.specs.Met.{IsDropped, tails_met, activities_met, with_ids, with_line, with_lines, as_activity, activity_named}
-use Rattle.plan_audit.specs.Marks.{AreMarks}
+use Rattle.plan_audit.specs.inside.Met.{IsDropped}
+use Rattle.plan_audit.specs.Met.{tails_met, activities_met, with_ids, with_line, with_lines, as_activity, activity_named}
+use Rattle.plan_audit.specs.inside.Marks.{AreMarks}
 use Rattle.plan_audit.proofs.MarkLemmas.{marks-more}
 
 pub tails_met-append : (met more : List Met) → tails_met (met ++ more) ≡ tails_met met ++ tails_met more

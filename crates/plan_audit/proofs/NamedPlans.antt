@@ -18,12 +18,12 @@ use Rattle.tail_book.specs.Seen.{ActivitySeen, TailSeen, BookSeen}
 use Rattle.tail_book.specs.Numbers.{contains}
 use Rattle.tail_book.specs.Lookup.{activities, aircraft, activity_of, tail_of, no_activity, no_tail}
 use Rattle.tail_book.specs.Plan.{times_flown}
-use Rattle.tail_book.specs.Sound.{IsBook}
+use Rattle.tail_book.specs.inside.Sound.{IsBook}
 use Rattle.plan_audit.specs.declared.met.Met.{Met}
 use Rattle.plan_audit.specs.declared.met.Met.TheVariants.{Twice, Tail, Activity}
 use Rattle.plan_audit.specs.Met.{tails_met, activities_met, tail_named, activity_named, as_tail, as_activity, with_ids, with_tail, with_line, with_lines, names_met}
 use Rattle.plan_audit.specs.Kept.{next_route, route_met, kept}
-use Rattle.plan_audit.specs.Laws.{lines_named, named, NamedPlansAreKept}
+use Rattle.plan_audit.specs.inside.Laws.{lines_named, named, NamedPlansAreKept}
 use Rattle.plan_audit.proofs.NameLemmas.{false_of}
 use Rattle.plan_audit.proofs.MetLemmas.{tails_met-append, activities_met-append}
 use Rattle.plan_audit.proofs.Told.{none_among, split_count}

@@ -1,4 +1,8 @@
 -- Each line of an audit is told exactly where the kept plan breaks that rule.
+--
+-- An audit is seven lists one behind the other, each of one rule, so a line is told where its own list has it. That
+-- list is of the legs, or the activities, that fail one test. And the legs of the kept plan are the activities of its
+-- routes, each with the place at the end of the front before it.
 use Rattle.std.proofs.Common.{◌≡◌, ◌∙◌, sym, refl, ap, arith, subst, true≢false, ℕ, zero, suc, ◌+◌, ◌<◌, ◌↔◌, inl, inr, pos, Bool, true, false, ◌||◌, cond, nat_eq, List, [], ◌∷◌, ◌++◌, map, length, replicate, Contains}
 use Rattle.std.specs.Prelude.{not, count_by}
 use Rattle.std.specs.List.{filter, range_with_len, flat_map}
@@ -13,17 +17,19 @@ use Rattle.tail_book.specs.Lookup.{activities, aircraft}
 use Rattle.tail_book.specs.declared.place.Place.TheVariants.{Carry}
 use Rattle.tail_book.specs.Curfew.{is_curfewed}
 use Rattle.tail_book.specs.Plan.{times_flown, route_of}
-use Rattle.tail_book.specs.Route.{place_after}
-use Rattle.tail_book.specs.Tests.{is_permitted, is_connected}
+use Rattle.tail_book.specs.inside.Route.{place_after}
+use Rattle.tail_book.specs.Allowed.{is_permitted}
+use Rattle.tail_book.specs.Link.{is_connected}
 use Rattle.plan_audit.specs.declared.leg.Leg.{Leg}
 use Rattle.plan_audit.specs.declared.met.Met.{Met}
 use Rattle.plan_audit.specs.declared.met.Met.TheVariants.{Unknown, Twice, Tail, Activity}
 use Rattle.plan_audit.specs.declared.broken.Broken.{Broken}
 use Rattle.plan_audit.specs.declared.broken.Broken.TheVariants as rule
 use Rattle.plan_audit.specs.Met.{tails_met, activities_met, names_met}
-use Rattle.plan_audit.specs.Kept.{route_met, kept, legs_met, IsLegOf}
+use Rattle.plan_audit.specs.Kept.{route_met, kept, legs_met}
+use Rattle.plan_audit.specs.inside.Kept.{IsLegOf}
 use Rattle.plan_audit.specs.Rules.{unknown, twice, uncovered, not_allowed, curfews, no_links, past_limits}
-use Rattle.plan_audit.specs.Told.{IsTold, IsInNoRoute, ComesBehind, UncoveredAreInNoRoute, NotAllowedAreNotPermitted, CurfewsAreInTheWay, NoLinksAreNotConnected, CountersArePastLimits}
+use Rattle.plan_audit.specs.inside.Told.{IsTold, IsInNoRoute, ComesBehind, UncoveredAreInNoRoute, NotAllowedAreNotPermitted, CurfewsAreInTheWay, NoLinksAreNotConnected, CountersArePastLimits}
 use Rattle.plan_audit.proofs.CountLemmas.{carry_width}
 use Rattle.plan_audit.proofs.WellMet.{IsWellMet, names_well_met}
 use Rattle.plan_audit.proofs.Along.{legs_are_of_book, no_route, tails_within, kept_times, count_none}

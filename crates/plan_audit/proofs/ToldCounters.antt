@@ -1,4 +1,8 @@
--- A counter is told after a leg exactly where it is past its limit, counted from the carry-in along the front of the route.
+-- A counter is told after a leg exactly where it is past its limit, counted from the carry-in along the front of the
+-- route.
+--
+-- By induction on the names as they are met, with the counters before each: an activity steps them, a name that is
+-- dropped leaves them, and the next aircraft begins with its own, so what was counted before its line does not matter.
 use Rattle.std.proofs.Common.{◌≡◌, ◌∙◌, sym, refl, ap, arith, subst, true≢false, ℕ, zero, suc, ◌+◌, ◌<◌, ◌⊎◌, inl, inr, ℤ, pos, ◌<ℤ◌, Bool, true, false, if◌then◌else◌, nat_eq, List, [], ◌∷◌, ◌++◌, length, get_or, Contains, All}
 use Rattle.std.specs.List.{IsDistinct}
 use Rattle.std.proofs.lemmas.Bool.{eq-eqb, eqb-true}
@@ -11,16 +15,18 @@ use Rattle.tail_book.specs.Lookup.{aircraft, carry_of}
 use Rattle.tail_book.specs.declared.place.Place.{Place}
 use Rattle.tail_book.specs.declared.place.Place.TheVariants.{Carry, After}
 use Rattle.tail_book.specs.Counters.{step}
-use Rattle.tail_book.specs.Route.{counters_from}
-use Rattle.tail_book.specs.Sound.{IsBook}
+use Rattle.tail_book.specs.inside.Route.{counters_from}
+use Rattle.tail_book.specs.inside.Sound.{IsBook}
 use Rattle.plan_audit.specs.declared.leg.Leg.{Leg}
 use Rattle.plan_audit.specs.declared.met.Met.{Met}
 use Rattle.plan_audit.specs.declared.met.Met.TheVariants.{Unknown, Twice, Tail, Activity}
 use Rattle.plan_audit.specs.declared.broken.Broken.TheVariants as rule
-use Rattle.plan_audit.specs.Met.{IsMetOf, tails_met}
+use Rattle.plan_audit.specs.inside.Met.{IsMetOf}
+use Rattle.plan_audit.specs.Met.{tails_met}
 use Rattle.plan_audit.specs.Kept.{next_route, route_met, legs_from}
 use Rattle.plan_audit.specs.Rules.{past_limits_at, values_before, values_after, past_limits}
-use Rattle.plan_audit.specs.Told.{no_counter, IsPastLimit}
+use Rattle.maint_counters.specs.inside.StepTable.{no_counter}
+use Rattle.plan_audit.specs.inside.Told.{IsPastLimit}
 use Rattle.plan_audit.proofs.CountLemmas.{carry_width}
 use Rattle.plan_audit.proofs.Legality.{step_width}
 use Rattle.plan_audit.proofs.ToldLemmas.{empty_has, cons_cases, cons_here, order_of, AreOf}

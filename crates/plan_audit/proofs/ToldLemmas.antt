@@ -1,4 +1,5 @@
--- What a list of lines has, where it is joined, mapped or filtered, and where its parts are told apart by their rule.
+-- What a list of lines has, where it is joined, mapped or filtered, and where its parts are told apart by their rule:
+-- each line has the place of its rule in the order of an audit, so one of a later rule stands in no part before.
 use Rattle.std.proofs.Common.{◌≡◌, ◌∙◌, sym, refl, ap, arith, subst, ℕ, zero, suc, ◌+◌, ◌<◌, ◌≤◌, ◌⊎◌, inl, inr, Bool, true, false, cond, List, [], ◌∷◌, ◌++◌, map, Contains}
 use Rattle.std.specs.List.{filter}
 use Rattle.std.proofs.lemmas.List.Elements.{Contains-append_cases}

@@ -1,4 +1,5 @@
 -- Where no rule is broken, the kept plan is legal: each route is, and each activity is met, and so flown, exactly once.
+-- The list of broken rules is empty only where each of its parts is, so no leg and no activity fails a test.
 use Rattle.std.proofs.Common.{◌≡◌, ◌≢◌, ◌∙◌, sym, refl, ap, arith, ℕ, zero, suc, ◌+◌, ◌<◌, ◌≤◌, inl, inr, Bool, true, false, List, [], ◌++◌, map, length, replicate, pos}
 use Rattle.std.specs.Prelude.{not, ◌==◌}
 use Rattle.std.specs.List.{filter, range_with_len}
@@ -10,15 +11,15 @@ use Rattle.tail_book.specs.Numbers.{contains}
 use Rattle.tail_book.specs.Lookup.{activities, aircraft}
 use Rattle.tail_book.specs.declared.place.Place.TheVariants.{Carry}
 use Rattle.tail_book.specs.Plan.{times_flown, route_of}
-use Rattle.tail_book.specs.Sound.{IsBook}
-use Rattle.tail_book.specs.Tests.{is_legal_route, are_legal_below, are_flown_once_below, is_legal_plan, LegalPlanDecides}
+use Rattle.tail_book.specs.inside.Sound.{IsBook}
+use Rattle.tail_book.specs.inside.Tests.{is_legal_route, are_legal_below, are_flown_once_below, is_legal_plan, LegalPlanDecides}
 use Rattle.tail_book.specs.Truth.{IsPlanOf}
 use Rattle.plan_audit.specs.declared.met.Met.{Met}
 use Rattle.plan_audit.specs.declared.broken.Broken.{Broken}
 use Rattle.plan_audit.specs.declared.broken.Broken.TheVariants as rule
 use Rattle.plan_audit.specs.Met.{activities_met, names_met}
 use Rattle.plan_audit.specs.Kept.{route_met, kept, legs_met}
-use Rattle.plan_audit.specs.LegCost.{legs_cost}
+use Rattle.plan_audit.specs.inside.LegCost.{legs_cost}
 use Rattle.plan_audit.specs.Rules.{unknown, twice, uncovered, not_allowed, curfews, no_links, past_limits}
 use Rattle.plan_audit.specs.Broken.{broken, broken_by}
 use Rattle.plan_audit.proofs.WellMet.{names_well_met}

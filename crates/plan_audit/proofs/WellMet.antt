@@ -15,7 +15,8 @@ use Rattle.tail_book.specs.Numbers.{contains}
 use Rattle.tail_book.specs.Lookup.{activities, aircraft}
 use Rattle.plan_audit.specs.declared.met.Met.{Met}
 use Rattle.plan_audit.specs.declared.met.Met.TheVariants.{Unknown, Twice, Tail, Activity}
-use Rattle.plan_audit.specs.Met.{IsMetOf, tails_met, activities_met, as_tail, as_activity, tail_named, activity_named, tail_names, activity_ids, with_ids, with_tail, with_line, with_lines, names_met}
+use Rattle.plan_audit.specs.inside.Met.{IsMetOf}
+use Rattle.plan_audit.specs.Met.{tails_met, activities_met, as_tail, as_activity, tail_named, activity_named, tail_names, activity_ids, with_ids, with_tail, with_line, with_lines, names_met}
 use Rattle.plan_audit.specs.Kept.{next_route}
 use Rattle.plan_audit.proofs.MetLemmas.{tails_met-append, activities_met-append}
 

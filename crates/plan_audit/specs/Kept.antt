@@ -1,11 +1,11 @@
--- The kept plan, and its legs.
-use Rattle.std.specs.Prelude.{ℕ, List, [], ◌∷◌, map, if◌then◌else◌, nat_eq, ◌<◌}
-use Rattle.std.specs.List.{range_with_len, filter}
+-- The kept plan, and its legs: the same activities as a route for each aircraft, and in reading order, each with the
+-- place before it.
+use Rattle.std.specs.Prelude.{ℕ, List, [], ◌∷◌, map, if◌then◌else◌, nat_eq}
+use Rattle.std.specs.List.{range_with_len}
 use Rattle.tail_book.specs.Seen.{BookSeen, RawPlanSeen}
-use Rattle.tail_book.specs.Lookup.{activities, aircraft}
+use Rattle.tail_book.specs.Lookup.{aircraft}
 use Rattle.tail_book.specs.declared.place.Place.{Place}
 use Rattle.tail_book.specs.declared.place.Place.TheVariants.{Carry, After}
-use Rattle.tail_book.specs.Place.{IsPlaceOf}
 use Rattle.plan_audit.specs.declared.leg.Leg.{Leg}
 use Rattle.plan_audit.specs.declared.met.Met.{Met}
 use Rattle.plan_audit.specs.declared.met.Met.TheVariants.{Unknown, Twice, Tail, Activity}
@@ -43,13 +43,3 @@ legs_from k x (Activity b ∷ met) = record { tail = k; from = x; activity = b }
 -- the legs of the kept plan in reading order; before the first aircraft there is none
 abbrev pub legs_met : List Met → List Leg
 legs_met met = legs_from 0 Carry met
-
--- the route of aircraft k among legs: the activities of its legs, in order
-abbrev pub route_in : List Leg → ℕ → List ℕ
-route_in legs k = map (λ leg. leg.activity) (filter (λ leg. nat_eq leg.tail k) legs)
-
--- a leg's numbers are of the book
-pub record IsLegOf (book : BookSeen) (leg : Leg) : Type 0 where
-  pub tail : leg.tail < aircraft book
-  pub from : IsPlaceOf book leg.from
-  pub activity : leg.activity < activities book

@@ -1,13 +1,5 @@
 pub mod Met
-pub mod Names
-pub mod Marks
-pub mod Times
-pub mod Reading
 pub mod Kept
-pub mod LegCost
 pub mod Rules
-pub mod Counted
 pub mod Broken
-pub mod Told
-pub mod PlanCost
-pub mod Laws
+pub mod inside

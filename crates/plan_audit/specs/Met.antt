@@ -1,9 +1,9 @@
 -- How the names of a plan are met, in the order in which they are read: the aircraft of a line first, and then its ids.
-use Rattle.std.specs.Prelude.{ℕ, List, [], ◌∷◌, ◌++◌, map, position, Option, None, Some, if◌then◌else◌, ◌<◌, ⊤}
+use Rattle.std.specs.Prelude.{ℕ, List, [], ◌∷◌, ◌++◌, map, position, Option, None, Some, if◌then◌else◌}
 use Rattle.std.specs.Str.{bytes_eq}
 use Rattle.tail_book.specs.Seen.{BookSeen, RawLineSeen, RawPlanSeen}
 use Rattle.tail_book.specs.Numbers.{contains}
-use Rattle.tail_book.specs.Lookup.{activities, aircraft}
+use Rattle.tail_book.specs.Lookup.{activities}
 use Rattle.plan_audit.specs.declared.met.Met.{Met}
 use Rattle.plan_audit.specs.declared.met.Met.TheVariants.{Unknown, Twice, Tail, Activity}
 
@@ -69,17 +69,3 @@ with_lines book met (line ∷ lines) = with_lines book (with_line book met line)
 -- the names of a plan as they are met
 abbrev pub names_met : BookSeen → RawPlanSeen → List Met
 names_met book raw = with_lines book [] raw.lines
-
--- the number of a name that is met is of the book
-abbrev pub IsMetOf : BookSeen → Met → Type 0
-IsMetOf book (Unknown name) = ⊤
-IsMetOf book (Twice name) = ⊤
-IsMetOf book (Tail k) = k < aircraft book
-IsMetOf book (Activity a) = a < activities book
-
--- a name is met as one that is unknown or was met before
-abbrev pub IsDropped : Met → Type 0
-IsDropped (Unknown name) = ⊤
-IsDropped (Twice name) = ⊤
-IsDropped (Tail k) = ⊥
-IsDropped (Activity a) = ⊥

@@ -8,7 +8,8 @@ use Rattle.tail_book.specs.declared.place.Place.{Place}
 use Rattle.tail_book.specs.declared.place.Place.TheVariants.{Carry, After}
 use Rattle.tail_book.specs.Curfew.{is_curfewed}
 use Rattle.tail_book.specs.Counters.{step}
-use Rattle.tail_book.specs.Tests.{is_permitted, is_connected}
+use Rattle.tail_book.specs.Allowed.{is_permitted}
+use Rattle.tail_book.specs.Link.{is_connected}
 use Rattle.plan_audit.specs.declared.leg.Leg.{Leg}
 use Rattle.plan_audit.specs.declared.met.Met.{Met}
 use Rattle.plan_audit.specs.declared.met.Met.TheVariants.{Unknown, Twice, Tail, Activity}

@@ -1,26 +1,29 @@
 //! The audit of a plan.
 //!
 //! The names are read once, and then each rule is looked at along the legs, so the work grows with the plan's length.
+//! Where no rule is broken the kept plan is legal, by a law, so no second look is needed before its cost is told.
 
 ghost use Rattle.std.specs.Prelude.{◌≡◌, IfOk, All};
 ghost use Rattle.tail_book.specs.Plan.{IsLegalPlan};
-ghost use Rattle.tail_book.specs.CostTable.{IsCostTable, IsTableFor, plan_cost_in};
-ghost use Rattle.plan_audit.specs.PlanCost.{IsPlanCost};
-ghost use Rattle.plan_audit.specs.Reading.{IsReadingOf};
-ghost use Rattle.plan_audit.specs.Kept.{legs_met, IsLegOf};
+ghost use Rattle.tail_book.specs.inside.CostTable.{IsCostTable, IsTableFor, plan_cost_in};
+ghost use Rattle.plan_audit.specs.inside.PlanCost.{IsPlanCost};
+ghost use Rattle.plan_audit.specs.inside.MetNames.{AreMetNamesOf};
+ghost use Rattle.plan_audit.specs.Kept.{legs_met};
+ghost use Rattle.plan_audit.specs.inside.Kept.{IsLegOf};
 ghost use Rattle.plan_audit.specs.Broken.{broken_by, IsAuditOf};
 
 use crate::broken::{Audit, Broken};
-use crate::costs::legs_cost;
+use crate::dropped_names::{add_twice, add_unknown};
 use crate::laws::{legs_are_of_book, unbroken_plans_are_legal};
 use crate::leg::{Leg, legs_in};
+use crate::leg_cost::legs_cost;
 use crate::legal_plan::is_legal;
+use crate::met_names::{MetNames, read_names};
 use crate::no_links::add_no_links;
 use crate::not_allowed::{add_curfews, add_not_allowed};
 use crate::past_limits::add_past_limits;
-use crate::reading::{Reading, read_plan};
-use crate::table_costs::plan_cost;
-use crate::uncovered::{add_twice, add_uncovered, add_unknown};
+use crate::plan_cost::plan_cost;
+use crate::uncovered::add_uncovered;
 use std::alloc::Global;
 use tail_book::laws::{
     every_book_is_sound, legal_plan_decides, legal_plans_cost_at_most, legal_plans_cost_at_most_in,
@@ -28,22 +31,21 @@ use tail_book::laws::{
 };
 use tail_book::{Book, CostTable, Memory, Plan, RawPlan};
 
-/// The rules that a plan breaks.
 fn broken_rules(
     alloc: Global,
     book: &Book,
-    reading: &Reading,
+    met_names: &MetNames,
     legs: &[Leg],
 ) -> Result<Vec<Broken>, Memory>
-    requires reading { IsReadingOf book.now reading.now }
-    requires legs { legs.now ≡ legs_met reading.now.met.items }
+    requires met_names { AreMetNamesOf book.now met_names.now }
+    requires legs { legs.now ≡ legs_met met_names.now.met.items }
     requires of_book { All (IsLegOf book.now) legs.now }
-    ensures { IfOk result (λ list. list.items ≡ broken_by book.now reading.now.met.items) }
+    ensures { IfOk result (λ list. list.items ≡ broken_by book.now met_names.now.met.items) }
 {
     let mut list = Vec::new(alloc);
-    add_unknown(&reading.met, &mut list)?;
-    add_twice(&reading.met, &mut list)?;
-    add_uncovered(book, reading, &mut list)?;
+    add_unknown(&met_names.met, &mut list)?;
+    add_twice(&met_names.met, &mut list)?;
+    add_uncovered(book, met_names, &mut list)?;
     add_not_allowed(book, legs, &mut list)?;
     add_curfews(book, legs, &mut list)?;
     add_no_links(book, legs, &mut list)?;
@@ -60,16 +62,15 @@ pub fn audit(alloc: Global, book: &Book, raw: &RawPlan) -> Result<Audit, Memory>
     legs_are_of_book();
     unbroken_plans_are_legal();
     legal_plans_cost_at_most();
-    let reading = read_plan(alloc, book, raw)?;
-    let legs = legs_in(alloc, &reading.met)?;
-    let list = broken_rules(alloc, book, &reading, &legs)?;
+    let met_names = read_names(alloc, book, raw)?;
+    let legs = legs_in(alloc, &met_names.met)?;
+    let list = broken_rules(alloc, book, &met_names, &legs)?;
     if list.is_empty() {
         return Ok(Audit::Legal(legs_cost(book, &legs)));
     }
     Ok(Audit::Broken(list))
 }
 
-/// Every table keeps its maxima.
 fn table_is_sound(table: &CostTable)
     ensures { IsCostTable table.now }
 {
@@ -77,7 +78,6 @@ fn table_is_sound(table: &CostTable)
     let _ = &table.n;
 }
 
-/// What a legal plan costs in a table.
 fn legal_cost(book: &Book, table: &CostTable, plan: &Plan) -> u64
     requires table { IsTableFor book.now table.now }
     requires legal { IsLegalPlan book.now plan.now }

@@ -1,8 +1,10 @@
 //! The rules that a plan breaks.
+//!
+//! A rule about names keeps the name as the plan spells it, and every other one the book's numbers.
 
 use tail_book::Name;
 
-/// One broken rule. Aircraft, activities and counters are numbers in the book.
+/// One broken rule. Aircraft, activities and counters are numbers in the book, and stand in this order.
 #[derive(Clone, Copy, PartialEq, Eq, Debug)]
 pub enum Broken {
     /// No aircraft or activity has the name.
@@ -24,7 +26,7 @@ pub enum Broken {
 /// What an audit finds.
 #[derive(Debug, Drop)]
 pub enum Audit {
-    /// The plan is legal, and costs this.
+    /// The plan is legal, and costs this, in cost units.
     Legal(u64),
     /// The rules that it breaks.
     Broken(Vec<Broken>),

@@ -5,15 +5,15 @@
 ghost use Rattle.std.specs.Prelude.{◌≡◌, ◌<◌, ◌++◌, ◌∷◌, [], length, map, set, replicate, slice_index_or, IfOk, All};
 ghost use Rattle.std.specs.List.{range_with_len};
 ghost use Rattle.tail_book.specs.Lookup.{aircraft};
-ghost use Rattle.plan_audit.specs.Kept.{kept, route_in, legs_met, IsLegOf};
+ghost use Rattle.plan_audit.specs.Kept.{kept, legs_met};
+ghost use Rattle.plan_audit.specs.inside.Kept.{route_in, IsLegOf};
 
 use crate::laws::legs_are_of_book;
 use crate::leg::{Leg, legs_in};
-use crate::reading::read_plan;
+use crate::met_names::read_names;
 use std::alloc::Global;
 use tail_book::{Book, Memory, Plan, RawPlan, Route};
 
-/// So many empty routes.
 fn empty_routes(alloc: Global, n: usize) -> Result<Vec<Route>, Memory>
     ensures { IfOk result (λ routes. routes.items ≡ replicate n []) }
 {
@@ -24,7 +24,6 @@ fn empty_routes(alloc: Global, n: usize) -> Result<Vec<Route>, Memory>
     Ok(routes)
 }
 
-/// Adds an activity to a route, at its end.
 fn fly_next(route: &mut Route, b: u32) -> Result<(), Memory>
     ensures { IfOk result (λ _. route.new ≡ route.old ++ b ∷ []) }
 {
@@ -32,7 +31,6 @@ fn fly_next(route: &mut Route, b: u32) -> Result<(), Memory>
     Ok(())
 }
 
-/// Adds a leg to the route of its aircraft.
 fn add_leg(leg: Leg, routes: &mut Vec<Route>) -> Result<(), Memory>
     requires { leg.tail < length routes.old.items }
     ensures { IfOk result (λ _. routes.new.items ≡ set routes.old.items leg.tail (slice_index_or routes.old.items leg.tail [] ++ leg.activity ∷ [])) }
@@ -40,7 +38,6 @@ fn add_leg(leg: Leg, routes: &mut Vec<Route>) -> Result<(), Memory>
     fly_next(&mut routes[leg.tail as usize], leg.activity)
 }
 
-/// The routes of legs, one for each aircraft.
 fn routes_in(alloc: Global, book: &Book, legs: &[Leg]) -> Result<Vec<Route>, Memory>
     requires { All (IsLegOf book.now) legs.now }
     ensures { IfOk result (λ routes. routes.items ≡ map (route_in legs.now) (range_with_len 0 (aircraft book.now))) }
@@ -57,7 +54,7 @@ pub fn kept(alloc: Global, book: &Book, raw: &RawPlan) -> Result<Plan, Memory>
     ensures { IfOk result (λ plan. plan ≡ kept book.now raw.now) }
 {
     legs_are_of_book();
-    let reading = read_plan(alloc, book, raw)?;
-    let legs = legs_in(alloc, &reading.met)?;
+    let met_names = read_names(alloc, book, raw)?;
+    let legs = legs_in(alloc, &met_names.met)?;
     Ok(Plan(routes_in(alloc, book, &legs)?))
 }

@@ -1,7 +1,7 @@
 //! Laws over the definitions alone: the contract of each function is the law.
 
-ghost use Rattle.plan_audit.specs.Laws.{LegsAreOfBook, UnbrokenPlansAreLegal, LegalPlansAreUnbroken, KeptPlansFlyOnce, NamedPlansAreKept};
-ghost use Rattle.plan_audit.specs.Told.{UncoveredAreInNoRoute, NotAllowedAreNotPermitted, CurfewsAreInTheWay, NoLinksAreNotConnected, CountersArePastLimits};
+ghost use Rattle.plan_audit.specs.inside.Laws.{LegsAreOfBook, UnbrokenPlansAreLegal, LegalPlansAreUnbroken, KeptPlansFlyOnce, NamedPlansAreKept};
+ghost use Rattle.plan_audit.specs.inside.Told.{UncoveredAreInNoRoute, NotAllowedAreNotPermitted, CurfewsAreInTheWay, NoLinksAreNotConnected, CountersArePastLimits};
 
 use tail_book::laws::{legal_plan_decides, legal_route_decides};
 

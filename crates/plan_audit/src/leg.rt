@@ -1,4 +1,7 @@
 //! The legs of a plan: each activity of a route, and where its aircraft comes from.
+//!
+//! Who may fly what, curfews and links are rules about one leg each, and counters go from leg to leg. So the legs are
+//! made once, in one pass over the names, and each rule is a pass over them.
 
 ghost use Rattle.std.specs.Prelude.{◌≡◌, IfOk};
 ghost use Rattle.plan_audit.specs.Kept.{legs_met};
@@ -7,7 +10,7 @@ use crate::met::Met;
 use std::alloc::Global;
 use tail_book::{Memory, Place};
 
-/// An activity of a route, with its aircraft and the place before it.
+/// An activity of a route, with its aircraft and the place before it. Aircraft and activity are numbers in the book.
 #[derive(Clone, Copy, PartialEq, Eq, Debug)]
 pub struct Leg {
     pub tail: u32,

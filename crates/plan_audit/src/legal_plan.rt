@@ -1,13 +1,17 @@
 //! Whether a plan is legal: each route is, and each activity is flown exactly once.
+//!
+//! A plan of numbers may have any numbers, so each is compared with the book before a rule is asked of it. Activities
+//! are counted up to 2, which tells once from more often. It takes a pass over the plan for each of both, a byte for
+//! each activity, and one row of counters.
 
 ghost use Rattle.std.specs.Prelude.{◌≡◌, ◌<◌, ◌++◌, ◌∷◌, [], ◌&&◌, ◌==◌, List, ℕ, length, nat_lt, IfOk, IsTrue, All};
 ghost use Rattle.std.specs.List.{flat_map, list_all};
 ghost use Rattle.tail_book.specs.Lookup.{activities, aircraft};
 ghost use Rattle.tail_book.specs.Counters.{step};
-ghost use Rattle.tail_book.specs.Tests.{is_link, within_limits, is_legal_route, are_legal_below, are_flown_once_below, is_legal_plan};
-ghost use Rattle.tail_book.specs.Place.{IsPlaceOf};
-ghost use Rattle.maint_counters.specs.Counts.{AreCounts};
-ghost use Rattle.plan_audit.specs.Times.{AreTimes};
+ghost use Rattle.tail_book.specs.inside.Tests.{is_link, within_limits, is_legal_route, are_legal_below, are_flown_once_below, is_legal_plan};
+ghost use Rattle.tail_book.specs.inside.Place.{IsPlaceOf};
+ghost use Rattle.maint_counters.specs.inside.Counts.{AreCounts};
+ghost use Rattle.plan_audit.specs.inside.Times.{AreTimes};
 
 use maint_counters::{start, step};
 use std::alloc::Global;
@@ -15,7 +19,7 @@ use tail_book::laws::every_book_is_sound;
 use tail_book::{Book, Memory, Place, Plan, Route};
 use turn_rules::link;
 
-/// Whether an activity may come next in a legal route; its counters are then stepped.
+// Whether an activity may come next in a legal route; its counters are then stepped.
 fn is_legal_next(book: &Book, k: u32, from: Place, b: u32, values: &mut [i64]) -> bool
     requires aircraft { k < aircraft book.now }
     requires place { IsPlaceOf book.now from }
@@ -29,7 +33,6 @@ fn is_legal_next(book: &Book, k: u32, from: Place, b: u32, values: &mut [i64]) -
     (b as usize) < book.activities.len() && link(book, k, from, b) && step(book, k, from, b, values)
 }
 
-/// Whether a route is legal for an aircraft.
 fn is_legal_route(book: &Book, k: u32, route: &[u32], values: &mut [i64]) -> bool
     requires aircraft { k < aircraft book.now }
     requires width { length values.old ≡ length book.now.rules.counters }
@@ -48,7 +51,6 @@ fn is_legal_route(book: &Book, k: u32, route: &[u32], values: &mut [i64]) -> boo
     true
 }
 
-/// Whether each route of a plan is legal for the aircraft of its number.
 fn are_legal_routes(book: &Book, routes: &[Route], values: &mut [i64]) -> bool
     requires one_each { length routes.now ≡ aircraft book.now }
     requires width { length values.old ≡ length book.now.rules.counters }
@@ -64,7 +66,7 @@ fn are_legal_routes(book: &Book, routes: &[Route], values: &mut [i64]) -> bool
     true
 }
 
-/// Counts an activity.
+// Counts an activity up to 2; a number that is not of the book is passed over.
 fn count_activity(a: u32, times: &mut [u8])
     ensures counts { (flown : List ℕ) → AreTimes times.old flown → AreTimes times.new (flown ++ a ∷ []) }
     ensures long { length times.new ≡ length times.old }
@@ -74,7 +76,6 @@ fn count_activity(a: u32, times: &mut [u8])
     }
 }
 
-/// Counts the activities of a route.
 fn count_route(route: &[u32], times: &mut [u8])
     ensures counts { (flown : List ℕ) → AreTimes times.old flown → AreTimes times.new (flown ++ route.now) }
     ensures long { length times.new ≡ length times.old }
@@ -84,7 +85,6 @@ fn count_route(route: &[u32], times: &mut [u8])
     }
 }
 
-/// Counts the activities of routes.
 fn count_routes(routes: &[Route], times: &mut [u8])
     ensures counts { (flown : List ℕ) → AreTimes times.old flown → AreTimes times.new (flown ++ flat_map (λ route. route) routes.now) }
     ensures long { length times.new ≡ length times.old }
@@ -94,14 +94,12 @@ fn count_routes(routes: &[Route], times: &mut [u8])
     }
 }
 
-/// Whether each number is 1.
 fn are_ones(times: &[u8]) -> bool
     ensures { result ≡ list_all (λ time. time == 1) times.now }
 {
     times.iter().all(|time| *time == 1)
 }
 
-/// Whether each activity is flown exactly once, where none is counted yet.
 fn are_counted_once(book: &Book, routes: &[Route], times: &mut [u8]) -> bool
     requires long { length times.old ≡ activities book.now }
     requires none { All (λ time. time ≡ 0) times.old }
@@ -111,7 +109,6 @@ fn are_counted_once(book: &Book, routes: &[Route], times: &mut [u8]) -> bool
     are_ones(times)
 }
 
-/// Whether each activity is flown exactly once.
 fn are_flown_once(alloc: Global, book: &Book, routes: &[Route]) -> Result<bool, Memory>
     ensures { IfOk result (λ once. once ≡ are_flown_once_below routes.now (activities book.now)) }
 {

@@ -2,19 +2,21 @@
 #![tactic(auto)]
 
 mod auditing;
+mod book_names;
 mod broken;
-mod costs;
+mod connections;
+mod dropped_names;
 mod kept_plan;
 pub mod laws;
 mod leg;
+mod leg_cost;
 mod legal_plan;
 mod met;
-mod names;
+mod met_names;
 mod no_links;
 mod not_allowed;
 mod past_limits;
-mod reading;
-mod table_costs;
+mod plan_cost;
 mod uncovered;
 
 pub use auditing::{audit, audit_plan};

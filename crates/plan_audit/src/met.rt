@@ -1,4 +1,6 @@
 //! How the names of a plan are met, in the order in which they are read.
+//!
+//! What is unknown or was met before is kept here too, since an audit tells of it; it stays out of the routes.
 
 use tail_book::Name;
 

@@ -1,7 +1,9 @@
 //! Legs that do not connect: the aircraft is elsewhere, or not free in time.
+//!
+//! Whether the aircraft may fly both activities is no part of this: that is told by rules of its own.
 
 ghost use Rattle.std.specs.Prelude.{◌≡◌, ◌++◌, IfOk, All};
-ghost use Rattle.plan_audit.specs.Kept.{IsLegOf};
+ghost use Rattle.plan_audit.specs.inside.Kept.{IsLegOf};
 ghost use Rattle.plan_audit.specs.Rules.{no_links};
 
 use crate::broken::Broken;

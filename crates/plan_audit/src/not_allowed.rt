@@ -2,7 +2,7 @@
 
 ghost use Rattle.std.specs.Prelude.{◌≡◌, ◌<◌, ◌++◌, IfOk, All};
 ghost use Rattle.tail_book.specs.Lookup.{activities, aircraft};
-ghost use Rattle.plan_audit.specs.Kept.{IsLegOf};
+ghost use Rattle.plan_audit.specs.inside.Kept.{IsLegOf};
 ghost use Rattle.plan_audit.specs.Rules.{not_allowed, curfews};
 
 use crate::broken::Broken;

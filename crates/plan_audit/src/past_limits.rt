@@ -1,15 +1,17 @@
 //! Counters past their limits, along the whole of each route.
 //!
-//! A route of a plan that is audited may run backwards in time, and then a counter may fall below 0. Each leg adds or
+//! A counter that is past its limit is counted on, so it is told again after each leg until it is cleared or reset. A
+//! route of a plan that is audited may run backwards in time, and then a counter may fall below 0. Each leg adds or
 //! takes less than 2^27 minutes, so the values of fewer than 2^64 legs fit into 128 bits.
 
-ghost use Rattle.std.specs.Prelude.{◌≡◌, ◌<◌, ◌≤◌, ◌+◌, ◌^◌, ◌++◌, ◌+ℤ◌, ℕ, IfOk, All, length, replicate, pos, negsuc};
+ghost use Rattle.std.specs.Prelude.{◌≡◌, ◌<◌, ◌≤◌, ◌+◌, ◌^◌, ◌++◌, ◌+ℤ◌, ◌-ℤ◌, ℕ, IfOk, All, length, replicate, pos};
 ghost use Rattle.tail_book.specs.Numbers.{contains, int_le};
 ghost use Rattle.tail_book.specs.Lookup.{activities, resets_of};
 ghost use Rattle.tail_book.specs.Counters.{step_one, step_from};
-ghost use Rattle.tail_book.specs.Sound.{IsWithin};
-ghost use Rattle.plan_audit.specs.Kept.{IsLegOf};
-ghost use Rattle.plan_audit.specs.Counted.{value_before, IsWithinLegs};
+ghost use Rattle.tail_book.specs.declared.limits.TheConstants.{COUNTER_LIMIT, LAST_MOMENT};
+ghost use Rattle.tail_book.specs.inside.Sound.{IsWithin};
+ghost use Rattle.plan_audit.specs.inside.Kept.{IsLegOf};
+ghost use Rattle.plan_audit.specs.inside.PastLimits.{value_before, IsWithinLegs};
 ghost use Rattle.plan_audit.specs.Rules.{values_before, values_after, past_limits_at, past_limits};
 
 use crate::broken::Broken;
@@ -19,7 +21,6 @@ use std::alloc::Global;
 use tail_book::laws::every_book_is_sound;
 use tail_book::{Book, Counter, Memory, Place};
 
-/// Counter `c` before a leg: what the aircraft comes in with, and else what the leg before left.
 fn value_before(book: &Book, leg: Leg, c: u32, value: i128) -> i128
     requires leg { IsLegOf book.now leg }
     requires counter { c < length book.now.rules.counters }
@@ -32,7 +33,6 @@ fn value_before(book: &Book, leg: Leg, c: u32, value: i128) -> i128
     }
 }
 
-/// Whether an activity sets a counter to 0 at its end.
 fn resets(book: &Book, b: u32, c: u32) -> bool
     requires { b < activities book.now }
     ensures { result ≡ contains (resets_of book.now b) c }
@@ -40,16 +40,14 @@ fn resets(book: &Book, b: u32, c: u32) -> bool
     book.activities[b as usize].resets.contains(&c)
 }
 
-/// A value and what a leg adds to it.
 fn count_on(value: i128, added: i64) -> i128
     requires range { IsWithinLegs (2 ^ 64) value }
-    requires most { IsWithin (negsuc 120_968_638) (pos 120_968_639) added }
+    requires most { IsWithin (pos 0 -ℤ LAST_MOMENT) LAST_MOMENT added }
     ensures { result ≡ value +ℤ added }
 {
     value + added as i128
 }
 
-/// Counter `c` after a leg.
 fn value_after(book: &Book, leg: Leg, c: u32, counter: &Counter, value: i128) -> i128
     requires leg { IsLegOf book.now leg }
     requires range { IsWithinLegs (2 ^ 64) value }
@@ -64,7 +62,7 @@ fn value_after(book: &Book, leg: Leg, c: u32, counter: &Counter, value: i128) ->
     count_on(if clears { 0 } else { value }, added)
 }
 
-/// Counter `c` after a leg, from what the leg before left.
+// Counter `c` after a leg, from what the leg before left in it, which another aircraft may have flown.
 fn counted(book: &Book, leg: Leg, c: u32, counter: &Counter, value: i128) -> i128
     requires leg { IsLegOf book.now leg }
     requires counter { c < length book.now.rules.counters }
@@ -76,12 +74,11 @@ fn counted(book: &Book, leg: Leg, c: u32, counter: &Counter, value: i128) -> i12
     value_after(book, leg, c, counter, before)
 }
 
-/// Counts a leg on each counter.
 fn count_leg(book: &Book, leg: Leg, counters: &[Counter], values: &mut [i128])
     requires leg { IsLegOf book.now leg }
     requires counters { length counters.now ≡ length book.now.rules.counters }
     requires width { length values.old ≡ length counters.now }
-    requires few { length counters.now ≤ 6 }
+    requires few { length counters.now ≤ COUNTER_LIMIT }
     requires range { All (IsWithinLegs (2 ^ 64)) values.old }
     ensures width { length values.new ≡ length counters.now }
     ensures steps { values.new ≡ step_from book.now leg.tail leg.from leg.activity 0 counters.now (values_before book.now leg.tail leg.from values.old) }
@@ -95,14 +92,12 @@ fn count_leg(book: &Book, leg: Leg, counters: &[Counter], values: &mut [i128])
     }
 }
 
-/// Whether a value is within its counter's limit.
 fn is_within(counter: &Counter, value: i128) -> bool
     ensures { result ≡ int_le value counter.now.limit }
 {
     value <= counter.limit as i128
 }
 
-/// Adds the counters that are past their limits after a leg.
 fn add_past_limits_at(
     leg: Leg,
     counters: &[Counter],
@@ -110,7 +105,7 @@ fn add_past_limits_at(
     list: &mut Vec<Broken>,
 ) -> Result<(), Memory>
     requires width { length values.now ≡ length counters.now }
-    requires few { length counters.now ≤ 6 }
+    requires few { length counters.now ≤ COUNTER_LIMIT }
     ensures { IfOk result (λ _. list.new.items ≡ list.old.items ++ past_limits_at leg 0 counters.now values.now) }
 {
     for c in 0..values.len() {
@@ -122,7 +117,6 @@ fn add_past_limits_at(
     Ok(())
 }
 
-/// Counts a leg, and adds the counters that are past their limits after it.
 fn add_leg(book: &Book, leg: Leg, values: &mut [i128], list: &mut Vec<Broken>) -> Result<(), Memory>
     requires leg { IsLegOf book.now leg }
     requires width { length values.old ≡ length book.now.rules.counters }
@@ -136,7 +130,6 @@ fn add_leg(book: &Book, leg: Leg, values: &mut [i128], list: &mut Vec<Broken>) -
     add_past_limits_at(leg, &book.rules.counters, values, list)
 }
 
-/// Adds the counters that are past their limits along legs, from these values on.
 fn add_past_limits_from(
     book: &Book,
     legs: &[Leg],

@@ -7,9 +7,9 @@ use Rattle.tail_book.specs.declared.place.Place.TheVariants.{Carry, After}
 use Rattle.tail_book.specs.Lookup.{activities, aircraft}
 use Rattle.tail_book.specs.Numbers.{contains}
 use Rattle.tail_book.specs.Plan.{route_of, IsLegalPlan}
-use Rattle.tail_book.specs.Rising.{IsRisingFrom, LegalRoutesRise, EachIsFlownOnce}
-use Rattle.tail_book.specs.Sound.{IsBook}
-use Rattle.plan_enumeration.specs.Assignment.{flown_from, flown_by, routes_from, plan_of, IsLegalAssignment}
+use Rattle.tail_book.specs.inside.Rising.{IsRisingFrom, LegalRoutesRise, EachIsFlownOnce}
+use Rattle.tail_book.specs.inside.Sound.{IsBook}
+use Rattle.plan_enumeration.specs.inside.Assignment.{route_flown_from, route_flown, routes_from, plan_of, IsLegalAssignment}
 
 -- the first aircraft whose route has the activity
 abbrev flier_of : List (List ℕ) → ℕ → ℕ
@@ -80,7 +80,7 @@ fliers_at plan i (suc count) (suc a) d lt = fliers_at plan (i + 1) count a d (om
 
 -- what is left of a route, from number i on, is what its aircraft flies of the activities from there
 route_is : (plan : List (List ℕ)) (k i count : ℕ) (route : List ℕ) → RisesWithin i (i + count) route
-    → ((a : ℕ) → i ≤ a → a < i + count → contains route a ≡ nat_eq (flier_of plan a) k) → flown_from k i (fliers_from plan i count) ≡ route
+    → ((a : ℕ) → i ≤ a → a < i + count → contains route a ≡ nat_eq (flier_of plan a) k) → route_flown_from k i (fliers_from plan i count) ≡ route
 route_is plan k i zero [] h each = refl
 route_is plan k i zero (b ∷ rest) h each = absurd (omega (arith, h.0, h.1))
 route_is plan k i (suc count) [] h each =
@@ -102,21 +102,21 @@ route_is plan k i (suc count) (b ∷ rest) h each = elim (cases_Bool (nat_eq i b
       rw none (route_is plan k (i + 1) count (b ∷ rest) high (λ a low more. each a (omega arith) (omega arith)))
 ]
 
-routes_are : (k count : ℕ) (who : List ℕ) (plan : List (List ℕ)) → length plan ≡ count → ((i : ℕ) → i < count → flown_by (k + i) who ≡ route_of plan i) → routes_from k count who ≡ plan
+routes_are : (k count : ℕ) (who : List ℕ) (plan : List (List ℕ)) → length plan ≡ count → ((i : ℕ) → i < count → route_flown (k + i) who ≡ route_of plan i) → routes_from k count who ≡ plan
 routes_are k zero who [] e each = refl
 routes_are k zero who (route ∷ plan) e each = absurd (omega (arith, e))
 routes_are k (suc count) who [] e each = absurd (omega (arith, e))
 routes_are k (suc count) who (route ∷ plan) e each =
-    let first : flown_by k who ≡ route = ap (λ (n : ℕ). flown_by n who) (omega arith) ∙ each 0 (omega arith) in
+    let first : route_flown k who ≡ route = ap (λ (n : ℕ). route_flown n who) (omega arith) ∙ each 0 (omega arith) in
     ap₂ (λ (r : List ℕ) (t : List (List ℕ)). r ∷ t) first (routes_are (k + 1) count who plan (omega (arith, e))
-    (λ i lt. ap (λ (n : ℕ). flown_by n who) (omega arith) ∙ each (suc i) (omega (arith, lt))))
+    (λ i lt. ap (λ (n : ℕ). route_flown n who) (omega arith) ∙ each (suc i) (omega (arith, lt))))
 
 -- every legal plan is the plan of a legal assignment
 pub assignment_of : LegalRoutesRise → EachIsFlownOnce → (book : BookSeen) → IsBook book → (plan : List (List ℕ)) → IsLegalPlan book plan
     → (who : List ℕ) × IsLegalAssignment book who × (plan_of book who ≡ plan)
 assignment_of rise once book sound plan legal =
     let who : List ℕ = fliers_from plan 0 (activities book) in
-    let is : (k : ℕ) → k < aircraft book → flown_by k who ≡ route_of plan k = λ k lt.
+    let is : (k : ℕ) → k < aircraft book → route_flown k who ≡ route_of plan k = λ k lt.
     route_is plan k 0 (activities book) (route_of plan k)
     (subst (λ (n : ℕ). RisesWithin 0 n (route_of plan k)) (omega arith) (rises (activities book) (route_of plan k) (rise book sound k (route_of plan k) (legal.routes k lt))))
     (λ a low high. stands_with_flier once book plan legal a (omega (arith, high)) k) in (

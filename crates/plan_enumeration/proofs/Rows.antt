@@ -1,4 +1,5 @@
--- Rows of counters in one list of values.
+-- Rows of counters in one list of values: row x takes as many places as there are counters, from x times that number
+-- on. So rows do not overlap, and one that is written leaves those before it and behind it as they were.
 use Rattle.std.proofs.Common.{◌≡◌, ◌∙◌, ℕ, suc, ℤ, ◌+◌, ◌*◌, ◌<◌, ◌≤◌, arith, List, ◌++◌, length, take, drop, refl, sym, ap, subst, append_assoc, length-append, length-drop, length-take-le}
 use Rattle.std.proofs.Math.Nat.{mul-le-mul_right}
 use Rattle.std.proofs.Math.Seq.{take-append_seam, drop-append_seam}
@@ -6,7 +7,7 @@ use Rattle.std.proofs.lemmas.List.{drop-append-le, take-append-le, take-append-d
 use Rattle.tail_book.specs.Seen.{BookSeen}
 use Rattle.tail_book.specs.declared.place.Place.{Place}
 use Rattle.tail_book.specs.declared.place.Place.TheVariants.{Carry, After}
-use Rattle.plan_enumeration.specs.Enumeration.{IsPlaceBefore, IsRowBefore, row_of, values_at, width_of, with_row}
+use Rattle.plan_enumeration.specs.inside.Enumeration.{IsPlaceBefore, IsRowBefore, row_of, values_at, width_of, with_row}
 
 -- a row before another one ends where that one begins
 pub row_below : (w x a : ℕ) → x < a → x * w + w ≤ a * w

@@ -1,4 +1,9 @@
 -- The steps of the enumeration: going on with one activity, coming back, and what is tried then.
+--
+-- Going on writes the activity's flier and row, and that flier's place, and coming back puts the place as it was. So
+-- below the activity nothing has changed, and each aircraft is tried from the same state. All that begins with an
+-- assignment begins with one of its next steps, and no cost is below 0: so once each next step was tried, or the cost
+-- already reaches the best, nothing that begins so is better.
 use Rattle.std.proofs.Common.{◌≡◌, ◌≢◌, ◌∙◌, ℕ, ℤ, pos, ◌+◌, ◌*◌, ◌<◌, ◌≤◌, ◌⊎◌, inl, inr, arith, List, [], ◌∷◌, ◌++◌, length, get_or, take, drop, true, refl, sym, ap, ap₂, subst, append_assoc, add-one, length-append, length-take-le}
 use Rattle.std.proofs.lemmas.Int.{ints}
 use Rattle.std.proofs.lemmas.Bool.{eqb-true, eq-eqb, both_ways, cases_Bool}
@@ -7,26 +12,27 @@ use Rattle.std.proofs.lemmas.List.Elements.{All-take, All-drop, All-append, All-
 use Rattle.std.proofs.Math.Seq.{take-suc-set, take-append_seam, get_or-append_seam}
 use Rattle.std.proofs.Math.Nat.{mul-le-mul_right}
 use Rattle.std.specs.Prelude.{All, nat_eq, slice_set}
+use Rattle.tail_book.specs.declared.limits.TheConstants.{VALUE_LIMIT}
 use Rattle.tail_book.specs.Seen.{BookSeen}
 use Rattle.tail_book.specs.declared.place.Place.{Place}
 use Rattle.tail_book.specs.declared.place.Place.TheVariants.{Carry, After}
 use Rattle.tail_book.specs.Lookup.{activities, aircraft, carry_of, no_tail}
 use Rattle.tail_book.specs.Link.{IsLink}
 use Rattle.tail_book.specs.Counters.{step, WithinLimits}
-use Rattle.tail_book.specs.Route.{counters_after, place_after}
-use Rattle.tail_book.specs.Sound.{IsBook, IsWithin}
+use Rattle.tail_book.specs.inside.Route.{counters_after, place_after}
+use Rattle.tail_book.specs.inside.Sound.{IsBook, IsWithin}
 use Rattle.plan_enumeration.specs.declared.enumerate.Trial.{Trial}
 use Rattle.plan_enumeration.specs.declared.enumerate.Best.{Best}
 use Rattle.plan_enumeration.specs.declared.enumerate.Advance.{Advance}
 use Rattle.tail_book.specs.Cost.{activity_cost, connection_cost}
-use Rattle.plan_enumeration.specs.Assignment.{flown_from, flown_by, IsLegalAssignment, assignment_cost}
-use Rattle.plan_enumeration.specs.Enumeration.{Advances, AgreesBelow, GoesOn, HasRow, HasTried, IsCount, IsPlaceBefore, IsTrial, end_of_route, row_of, values_after, values_at, width_of, with_row}
-use Rattle.tail_book.specs.Place.{IsPlaceOf}
-use Rattle.plan_enumeration.proofs.Extended.{completed, cost_more, counters_push, flown_by-other, flown_by-same, legal_more, place_push}
+use Rattle.plan_enumeration.specs.inside.Assignment.{route_flown_from, route_flown, IsLegalAssignment, assignment_cost}
+use Rattle.plan_enumeration.specs.inside.Enumeration.{Advances, AgreesBelow, GoesOn, HasRow, HasTried, IsCounterValue, IsPlaceBefore, IsTrial, end_of_route, row_of, values_after, values_at, width_of, with_row}
+use Rattle.tail_book.specs.inside.Place.{IsPlaceOf}
+use Rattle.plan_enumeration.proofs.Extended.{completed, cost_more, counters_push, route_flown-other, route_flown-same, legal_more, place_push}
 use Rattle.plan_enumeration.proofs.Rows.{row_below, row_of_front, with_row-front, with_row-row, with_row-through, length-with_row}
 
 -- the end of a route lies before the activities that are not yet assigned
-end_before : (k i n : ℕ) (x : Place) (who : List ℕ) → IsPlaceBefore i x → n ≡ i + length who → IsPlaceBefore n (place_after x (flown_from k i who))
+end_before : (k i n : ℕ) (x : Place) (who : List ℕ) → IsPlaceBefore i x → n ≡ i + length who → IsPlaceBefore n (place_after x (route_flown_from k i who))
 end_before k i n Carry [] before e = tt
 end_before k i n (After x) [] before e = omega (arith, before, e)
 end_before k i n x (j ∷ who) before e = elim (cases_Bool (nat_eq j k)) [
@@ -54,7 +60,7 @@ module _ (book : BookSeen) (a : ℕ) (trial : Trial) (h : IsTrial book a trial) 
   room : a < activities book → a * width_of book + width_of book ≤ length trial.values.items
   room lt = let below = row_below (width_of book) a (activities book) lt in omega (arith, below, h.one_row_each)
 
-  pub values_are_small : IsBook book → (k : ℕ) → k < aircraft book → a ≤ activities book → All IsCount (values_at book trial.values.items k (get_or trial.places.items k Carry))
+  pub values_are_small : IsBook book → (k : ℕ) → k < aircraft book → a ≤ activities book → All IsCounterValue (values_at book trial.values.items k (get_or trial.places.items k Carry))
   values_are_small sound k lt le = at (get_or trial.places.items k Carry) (place_is_before k lt le)
     where
       fits : a * width_of book ≤ length trial.values.items
@@ -66,12 +72,12 @@ module _ (book : BookSeen) (a : ℕ) (trial : Trial) (h : IsTrial book a trial) 
           le_cases : (m n : ℕ) → m ≤ n → (m < n) ⊎ (m ≡ n)
           le_cases m n e = grind arith
 
-      at : (x : Place) → IsPlaceBefore a x → All IsCount (values_at book trial.values.items k x)
-      at Carry before = All-weaker (IsWithin (pos 0) (pos 10_000_000)) IsCount (λ z w. record { least = w.least; most = omega (arith, ints, w.most) }) (carry_of book k) (sound.tails k no_tail lt).carry
+      at : (x : Place) → IsPlaceBefore a x → All IsCounterValue (values_at book trial.values.items k x)
+      at Carry before = All-weaker (IsWithin (pos 0) VALUE_LIMIT) IsCounterValue (λ z w. record { least = w.least; most = omega (arith, ints, w.most) }) (carry_of book k) (sound.tails k no_tail lt).carry
       at (After x) before =
           let end = row_below (width_of book) x a before in
           rw (← row_of_front (width_of book) x (a * width_of book) trial.values.items end fits)
-          (All-take IsCount (width_of book) (drop (x * width_of book) (take (a * width_of book) trial.values.items)) (All-drop IsCount (x * width_of book) (take (a * width_of book) trial.values.items) h.small))
+          (All-take IsCounterValue (width_of book) (drop (x * width_of book) (take (a * width_of book) trial.values.items)) (All-drop IsCounterValue (x * width_of book) (take (a * width_of book) trial.values.items) h.small))
 
   -- it goes on from where its aircraft is
   pub goes_on_from : (k : ℕ) (x : Place) → k < aircraft book → a < activities book → x ≡ get_or trial.places.items k Carry → IsLink book k x a
@@ -79,11 +85,11 @@ module _ (book : BookSeen) (a : ℕ) (trial : Trial) (h : IsTrial book a trial) 
   goes_on_from k x lt in_book at link limits =
       let n = assigned (omega arith) in
       let there : x ≡ end_of_route k (take a trial.fliers.items) = at ∙ h.standing k lt in
-      let here : step book k x a (values_at book trial.values.items k x) ≡ step book k (end_of_route k (take a trial.fliers.items)) a (counters_after book k (flown_by k (take a trial.fliers.items))) =
+      let here : step book k x a (values_at book trial.values.items k x) ≡ step book k (end_of_route k (take a trial.fliers.items)) a (counters_after book k (route_flown k (take a trial.fliers.items))) =
       ap (λ (y : Place). step book k y a (values_at book trial.values.items k y)) there ∙ ap (step book k (end_of_route k (take a trial.fliers.items)) a) (h.counted k lt) in
       record {
         link = subst (λ (b : ℕ). IsLink book k (end_of_route k (take a trial.fliers.items)) b) (sym n) (subst (λ (y : Place). IsLink book k y a) there link);
-        limits = subst (λ (b : ℕ). WithinLimits book.rules.counters (step book k (end_of_route k (take a trial.fliers.items)) b (counters_after book k (flown_by k (take a trial.fliers.items))))) (sym n)
+        limits = subst (λ (b : ℕ). WithinLimits book.rules.counters (step book k (end_of_route k (take a trial.fliers.items)) b (counters_after book k (route_flown k (take a trial.fliers.items))))) (sym n)
             (subst (WithinLimits book.rules.counters) here limits);
       }
 
@@ -92,11 +98,11 @@ module _ (book : BookSeen) (a : ℕ) (trial : Trial) (h : IsTrial book a trial) 
   goes_on_back k x lt in_book at goes =
       let n = assigned (omega arith) in
       let there : x ≡ end_of_route k (take a trial.fliers.items) = at ∙ h.standing k lt in
-      let here : step book k x a (values_at book trial.values.items k x) ≡ step book k (end_of_route k (take a trial.fliers.items)) a (counters_after book k (flown_by k (take a trial.fliers.items))) =
+      let here : step book k x a (values_at book trial.values.items k x) ≡ step book k (end_of_route k (take a trial.fliers.items)) a (counters_after book k (route_flown k (take a trial.fliers.items))) =
       ap (λ (y : Place). step book k y a (values_at book trial.values.items k y)) there ∙ ap (step book k (end_of_route k (take a trial.fliers.items)) a) (h.counted k lt) in (
         subst (λ (y : Place). IsLink book k y a) (sym there) (subst (λ (b : ℕ). IsLink book k (end_of_route k (take a trial.fliers.items)) b) n goes.link),
         subst (WithinLimits book.rules.counters) (sym here)
-            (subst (λ (b : ℕ). WithinLimits book.rules.counters (step book k (end_of_route k (take a trial.fliers.items)) b (counters_after book k (flown_by k (take a trial.fliers.items))))) n goes.limits),
+            (subst (λ (b : ℕ). WithinLimits book.rules.counters (step book k (end_of_route k (take a trial.fliers.items)) b (counters_after book k (route_flown k (take a trial.fliers.items))))) n goes.limits),
       )
 
 -- a row that is written at a leaves the rows before it
@@ -141,7 +147,7 @@ module _ (book : BookSeen) (a k : ℕ) (old new : Trial) (row : List ℤ) (h : I
       ap (λ (vs : List ℤ). row_of (width_of book) vs a) values ∙ with_row-row (width_of book) a old.values.items row wide space
 
   module _ (goes : GoesOn book (take a old.fliers.items) k)
-      (is : row ≡ step book k (get_or old.places.items k Carry) a (values_at book old.values.items k (get_or old.places.items k Carry))) (small : All IsCount row) where
+      (is : row ≡ step book k (get_or old.places.items k Carry) a (values_at book old.values.items k (get_or old.places.items k Carry))) (small : All IsCounterValue row) where
     n : length (take a old.fliers.items) ≡ a
     n = assigned book a old h (omega arith)
 
@@ -150,31 +156,31 @@ module _ (book : BookSeen) (a k : ℕ) (old new : Trial) (row : List ℤ) (h : I
       | inl t ↦
           let same : k ≡ j = eqb-true k j t in
           let there : k < length old.places.items = omega (arith, h.one_place_each, lt) in
-          let after : end_of_route k (take a old.fliers.items ++ k ∷ []) ≡ After a = ap (place_after Carry) (flown_by-same k (take a old.fliers.items)) ∙ place_push book k Carry (flown_by k (take a old.fliers.items)) (length (take a old.fliers.items)) ∙ ap After n in
+          let after : end_of_route k (take a old.fliers.items ++ k ∷ []) ≡ After a = ap (place_after Carry) (route_flown-same k (take a old.fliers.items)) ∙ place_push book k Carry (route_flown k (take a old.fliers.items)) (length (take a old.fliers.items)) ∙ ap After n in
           subst (λ (i : ℕ). get_or new.places.items i Carry ≡ end_of_route i (take a old.fliers.items ++ k ∷ [])) same
           (ap (λ (ps : List Place). get_or ps k Carry) places ∙ get_or-set_same old.places.items k (After a) Carry there ∙ sym after)
       | inr f ↦
           let ne : k ≢ j = λ e. both_ways (nat_eq k j) f (eq-eqb k j e) in
           let other : j ≢ k = λ e. ne (sym e) in
           ap (λ (ps : List Place). get_or ps j Carry) places ∙ get_or-set_other old.places.items k j (After a) Carry other ∙ h.standing j below
-          ∙ sym (ap (place_after Carry) (flown_by-other k j (take a old.fliers.items) ne))
+          ∙ sym (ap (place_after Carry) (route_flown-other k j (take a old.fliers.items) ne))
     ]
 
-    counted_more : (j : ℕ) → j < aircraft book → values_at book new.values.items j (end_of_route j (take a old.fliers.items ++ k ∷ [])) ≡ counters_after book j (flown_by j (take a old.fliers.items ++ k ∷ []))
+    counted_more : (j : ℕ) → j < aircraft book → values_at book new.values.items j (end_of_route j (take a old.fliers.items ++ k ∷ [])) ≡ counters_after book j (route_flown j (take a old.fliers.items ++ k ∷ []))
     counted_more j below = elim (cases_Bool (nat_eq k j)) [
       | inl t ↦
           let same : k ≡ j = eqb-true k j t in
-          let after : end_of_route k (take a old.fliers.items ++ k ∷ []) ≡ After a = ap (place_after Carry) (flown_by-same k (take a old.fliers.items)) ∙ place_push book k Carry (flown_by k (take a old.fliers.items)) (length (take a old.fliers.items)) ∙ ap After n in
-          let stepped : row ≡ step book k (end_of_route k (take a old.fliers.items)) a (counters_after book k (flown_by k (take a old.fliers.items))) =
+          let after : end_of_route k (take a old.fliers.items ++ k ∷ []) ≡ After a = ap (place_after Carry) (route_flown-same k (take a old.fliers.items)) ∙ place_push book k Carry (route_flown k (take a old.fliers.items)) (length (take a old.fliers.items)) ∙ ap After n in
+          let stepped : row ≡ step book k (end_of_route k (take a old.fliers.items)) a (counters_after book k (route_flown k (take a old.fliers.items))) =
           is ∙ ap (λ (x : Place). step book k x a (values_at book old.values.items k x)) (h.standing k lt) ∙ ap (step book k (end_of_route k (take a old.fliers.items)) a) (h.counted k lt) in
-          let counters : counters_after book k (flown_by k (take a old.fliers.items ++ k ∷ [])) ≡ step book k (end_of_route k (take a old.fliers.items)) (length (take a old.fliers.items)) (counters_after book k (flown_by k (take a old.fliers.items))) =
-          ap (counters_after book k) (flown_by-same k (take a old.fliers.items)) ∙ counters_push book k Carry (carry_of book k) (flown_by k (take a old.fliers.items)) (length (take a old.fliers.items)) in
-          subst (λ (i : ℕ). values_at book new.values.items i (end_of_route i (take a old.fliers.items ++ k ∷ [])) ≡ counters_after book i (flown_by i (take a old.fliers.items ++ k ∷ []))) same
+          let counters : counters_after book k (route_flown k (take a old.fliers.items ++ k ∷ [])) ≡ step book k (end_of_route k (take a old.fliers.items)) (length (take a old.fliers.items)) (counters_after book k (route_flown k (take a old.fliers.items))) =
+          ap (counters_after book k) (route_flown-same k (take a old.fliers.items)) ∙ counters_push book k Carry (carry_of book k) (route_flown k (take a old.fliers.items)) (length (take a old.fliers.items)) in
+          subst (λ (i : ℕ). values_at book new.values.items i (end_of_route i (take a old.fliers.items ++ k ∷ [])) ≡ counters_after book i (route_flown i (take a old.fliers.items ++ k ∷ []))) same
           (ap (values_at book new.values.items k) after ∙ new_row ∙ stepped
-          ∙ sym (counters ∙ ap (λ (b : ℕ). step book k (end_of_route k (take a old.fliers.items)) b (counters_after book k (flown_by k (take a old.fliers.items)))) n))
+          ∙ sym (counters ∙ ap (λ (b : ℕ). step book k (end_of_route k (take a old.fliers.items)) b (counters_after book k (route_flown k (take a old.fliers.items)))) n))
       | inr f ↦
           let ne : k ≢ j = λ e. both_ways (nat_eq k j) f (eq-eqb k j e) in
-          let route : flown_by j (take a old.fliers.items ++ k ∷ []) ≡ flown_by j (take a old.fliers.items) = flown_by-other k j (take a old.fliers.items) ne in
+          let route : route_flown j (take a old.fliers.items ++ k ∷ []) ≡ route_flown j (take a old.fliers.items) = route_flown-other k j (take a old.fliers.items) ne in
           let before : IsPlaceBefore a (end_of_route j (take a old.fliers.items)) = end_before j 0 a Carry (take a old.fliers.items) tt (omega (arith, n)) in
           ap (λ (r : List ℕ). values_at book new.values.items j (place_after Carry r)) route ∙ kept_values j (end_of_route j (take a old.fliers.items)) before ∙ h.counted j below ∙ sym (ap (counters_after book j) route)
     ]
@@ -195,7 +201,7 @@ module _ (book : BookSeen) (a k : ℕ) (old new : Trial) (row : List ℤ) (h : I
               let next : (a + 1) * width_of book ≡ a * width_of book + width_of book = omega arith in
               let rows : take ((a + 1) * width_of book) new.values.items ≡ take (a * width_of book) old.values.items ++ row =
               ap (take ((a + 1) * width_of book)) values ∙ ap (λ (m : ℕ). take m (with_row (width_of book) old.values.items a row)) next ∙ with_row-through (width_of book) a old.values.items row wide space in
-              rw rows (All-append IsCount (take (a * width_of book) old.values.items) row h.small small);
+              rw rows (All-append IsCounterValue (take (a * width_of book) old.values.items) row h.small small);
         }
 
 -- what going on leaves

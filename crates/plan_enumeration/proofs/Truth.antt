@@ -1,16 +1,17 @@
--- The best of all assignments is a least plan.
+-- The best of all assignments is a least plan: every legal plan is the plan of an assignment, and every assignment was
+-- tried. So no legal plan costs less than the best one found, and where none was found, no plan is legal.
 use Rattle.std.proofs.Common.{◌≡◌, ℕ, ◌≤◌, false, true, List, [], subst}
 use Rattle.std.proofs.lemmas.Bool.{both_ways}
 use Rattle.tail_book.specs.Seen.{BookSeen}
 use Rattle.tail_book.specs.Cost.{plan_cost}
 use Rattle.tail_book.specs.Plan.{IsLegalPlan}
-use Rattle.tail_book.specs.Rising.{LegalRoutesRise, EachIsFlownOnce}
-use Rattle.tail_book.specs.Sound.{IsBook}
+use Rattle.tail_book.specs.inside.Rising.{LegalRoutesRise, EachIsFlownOnce}
+use Rattle.tail_book.specs.inside.Sound.{IsBook}
 use Rattle.tail_book.specs.Truth.{IsPlanOf, IsTrueOutcome}
 use Rattle.tail_book.specs.declared.outcome.Outcome.TheVariants as outcome
 use Rattle.plan_enumeration.specs.declared.enumerate.Best.{Best}
-use Rattle.plan_enumeration.specs.Assignment.{plan_of}
-use Rattle.plan_enumeration.specs.Enumeration.{HasTried, IsBest}
+use Rattle.plan_enumeration.specs.inside.Assignment.{plan_of}
+use Rattle.plan_enumeration.specs.inside.Enumeration.{HasTried, IsBest}
 use Rattle.plan_enumeration.proofs.Assigned.{legal_plan_of}
 use Rattle.plan_enumeration.proofs.Fliers.{assignment_of}
 

@@ -1,4 +1,1 @@
-pub mod Assignment
-pub mod Enumeration
-pub mod Tables
-pub mod Decided
+pub mod inside

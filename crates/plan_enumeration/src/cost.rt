@@ -1,15 +1,16 @@
 //! What activities and connections cost by the book's own table.
+//!
+//! An activity is one read. A connection takes the first of at most 8 bands that reaches its minutes on the ground.
 
 ghost use Rattle.std.specs.Prelude.{◌≡◌, ◌<◌, ◌≤◌, ◌+◌};
 ghost use Rattle.tail_book.specs.Lookup.{activities, aircraft};
 ghost use Rattle.tail_book.specs.Cost.{activity_cost, connection_cost};
-ghost use Rattle.tail_book.specs.CostTable.{connection_cost_in, costs_of};
-ghost use Rattle.tail_book.specs.Place.{IsPlaceOf};
+ghost use Rattle.tail_book.specs.inside.CostTable.{connection_cost_in, costs_of};
+ghost use Rattle.tail_book.specs.inside.Place.{IsPlaceOf};
 
 use tail_book::{Book, CostTable, Place, laws};
 use turn_rules::gap;
 
-// What a connection costs by a table.
 fn waiting_cost(book: &Book, costs: &CostTable, k: u32, from: Place, b: u32) -> u64
     requires aircraft { k < aircraft book.now }
     requires place { IsPlaceOf book.now from }

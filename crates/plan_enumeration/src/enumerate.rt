@@ -11,22 +11,23 @@
 ghost use Rattle.std.specs.Prelude.{◌≡◌, ◌<◌, ◌≤◌, ◌+◌, ◌*◌, ◌++◌, [], ◌∷◌, ℕ, List, IsTrue, ◌↔◌, IfOk, IfSome, IfNone, length, take, drop, All, ◌^◌, slice_set, slice_index_or};
 ghost use Rattle.tail_book.specs.Lookup.{activities, aircraft, carry_of};
 ghost use Rattle.tail_book.specs.Counters.{step, WithinLimits};
-ghost use Rattle.plan_enumeration.specs.Assignment.{IsLegalAssignment, assignment_cost, flown_by, routes_from};
+ghost use Rattle.plan_enumeration.specs.inside.Assignment.{IsLegalAssignment, assignment_cost, route_flown, routes_from};
 ghost use Rattle.tail_book.specs.Truth.{IsTrueOutcome};
-ghost use Rattle.plan_enumeration.specs.Enumeration.{Advances, AgreesBelow, HasRow, GoesOn, HasTried, IsBest, IsCount, IsNoBetter, IsTrial, KeepsBest, IsPlaceBefore, IsRowBefore, next_cost, row_of, values_at, width_of, with_row};
-ghost use Rattle.plan_enumeration.specs.Decided.{IsDecided};
-ghost use Rattle.plan_enumeration.specs.Tables.{AreTablesOf};
-ghost use Rattle.turn_rules.specs.FreeBefore.{IsFreeBefore};
-ghost use Rattle.tail_book.specs.Place.{IsPlaceOf};
+ghost use Rattle.plan_enumeration.specs.inside.Enumeration.{Advances, AgreesBelow, HasRow, GoesOn, HasTried, IsBest, IsCounterValue, IsNoBetter, IsTrial, KeepsBest, IsPlaceBefore, IsRowBefore, next_cost, row_of, values_at, width_of, with_row};
+ghost use Rattle.plan_enumeration.specs.inside.Decided.{IsDecided};
+ghost use Rattle.plan_enumeration.specs.inside.BookTables.{AreTablesOf};
+ghost use Rattle.turn_rules.specs.inside.FreeBefore.{IsFreeBefore};
+ghost use Rattle.tail_book.specs.inside.Place.{IsPlaceOf};
 
+use crate::book_tables::{BookTables, tables_of};
 use crate::cost::going_cost;
-use crate::tables::{Tables, tables_of};
 use maint_counters::{start, step};
 use std::alloc::Global;
 use tail_book::{Book, Memory, Outcome, Place, Plan, Route, laws};
 use turn_rules::link_by;
 
-/// The best assignment so far: for each activity the aircraft that flies it.
+/// The best assignment so far: for each activity the aircraft that flies it, and its cost in cost units. Neither means
+/// anything before one is found.
 #[derive(Debug, Drop)]
 pub struct Best {
     pub found: bool,
@@ -43,7 +44,7 @@ pub struct Trial {
     pub values: Vec<i64>,
 }
 
-/// What it costs an aircraft to go on with the next activity, and the place that it goes on from.
+/// What it costs an aircraft to go on with the next activity, in cost units, and the place that it goes on from.
 #[derive(Debug, Drop)]
 pub struct Advance {
     pub from: Place,
@@ -65,7 +66,6 @@ fn keep(book: &Book, best: &mut Best, fliers: &[u32], cost: u64)
     best.cost = cost;
 }
 
-// The row of an activity.
 fn row_of(values: &[i64], x: usize, width: usize) -> &[i64]
     requires { x * width + width ≤ length values.now }
     ensures { result.now ≡ row_of width values.now x }
@@ -97,11 +97,11 @@ fn step_into(book: &Book, before: &[i64], row: &mut [i64], k: u32, from: Place, 
     requires place { IsPlaceBefore a from }
     requires width { length row.old ≡ width_of book.now }
     requires there { IsRowBefore book.now from (length before.now) }
-    requires small { All IsCount (values_at book.now before.now k from) }
+    requires small { All IsCounterValue (values_at book.now before.now k from) }
     ensures row { row.new ≡ step book.now k from a (values_at book.now before.now k from) }
     ensures wide { length (step book.now k from a (values_at book.now before.now k from)) ≡ width_of book.now }
     ensures limits { IsTrue result ↔ WithinLimits book.now.rules.counters row.new }
-    ensures range { IsFreeBefore book.now k from a → IsTrue result → All IsCount row.new }
+    ensures range { IsFreeBefore book.now k from a → IsTrue result → All IsCounterValue row.new }
 {
     fill_row(book, before, row, k, from);
     step(book, k, from, a, row)
@@ -113,18 +113,17 @@ fn step_row(book: &Book, values: &mut [i64], k: u32, from: Place, a: u32) -> boo
     requires activity { a < activities book.now }
     requires place { IsPlaceBefore a from }
     requires width { length values.old ≡ activities book.now * width_of book.now }
-    requires small { All IsCount (values_at book.now values.old k from) }
+    requires small { All IsCounterValue (values_at book.now values.old k from) }
     ensures limits { IsTrue result ↔ WithinLimits book.now.rules.counters (step book.now k from a (values_at book.now values.old k from)) }
     ensures row { values.new ≡ with_row (width_of book.now) values.old a (step book.now k from a (values_at book.now values.old k from)) }
     ensures wide { length (step book.now k from a (values_at book.now values.old k from)) ≡ width_of book.now }
-    ensures range { IsFreeBefore book.now k from a → IsTrue result → All IsCount (step book.now k from a (values_at book.now values.old k from)) }
+    ensures range { IsFreeBefore book.now k from a → IsTrue result → All IsCounterValue (step book.now k from a (values_at book.now values.old k from)) }
 {
     let width = book.rules.counters.len();
     let (before, rest) = values.split_at_mut(a as usize * width);
     step_into(book, before, &mut rest[..width], k, from, a)
 }
 
-// Where an aircraft is.
 fn place_of(trial: &Trial, k: u32) -> Place
     requires { k < length trial.now.places.items }
     ensures { result ≡ slice_index_or trial.now.places.items k Place.Carry }
@@ -138,17 +137,17 @@ fn step_values(book: &Book, values: &mut Vec<i64>, k: u32, from: Place, a: u32) 
     requires activity { a < activities book.now }
     requires place { IsPlaceBefore a from }
     requires width { length values.old.items ≡ activities book.now * width_of book.now }
-    requires small { All IsCount (values_at book.now values.old.items k from) }
+    requires small { All IsCounterValue (values_at book.now values.old.items k from) }
     ensures limits { IsTrue result ↔ WithinLimits book.now.rules.counters (step book.now k from a (values_at book.now values.old.items k from)) }
     ensures row { values.new.items ≡ with_row (width_of book.now) values.old.items a (step book.now k from a (values_at book.now values.old.items k from)) }
     ensures wide { length (step book.now k from a (values_at book.now values.old.items k from)) ≡ width_of book.now }
-    ensures range { IsFreeBefore book.now k from a → IsTrue result → All IsCount (step book.now k from a (values_at book.now values.old.items k from)) }
+    ensures range { IsFreeBefore book.now k from a → IsTrue result → All IsCounterValue (step book.now k from a (values_at book.now values.old.items k from)) }
 {
     step_row(book, values.as_mut_slice(), k, from, a)
 }
 
 // Whether aircraft `k` may go on with activity `a`, the next one; its counters are then in the activity's row.
-fn can_go_on(book: &Book, tables: &Tables, trial: &mut Trial, k: u32, a: u32) -> bool
+fn can_go_on(book: &Book, tables: &BookTables, trial: &mut Trial, k: u32, a: u32) -> bool
     requires tables { AreTablesOf book.now tables.now }
     requires aircraft { k < aircraft book.now }
     requires activity { a < activities book.now }
@@ -167,7 +166,7 @@ fn can_go_on(book: &Book, tables: &Tables, trial: &mut Trial, k: u32, a: u32) ->
 }
 
 // Lets aircraft `k` fly activity `a`, the next one, if that is legal.
-fn go_on(book: &Book, tables: &Tables, trial: &mut Trial, k: u32, a: u32) -> Option<Advance>
+fn go_on(book: &Book, tables: &BookTables, trial: &mut Trial, k: u32, a: u32) -> Option<Advance>
     requires tables { AreTablesOf book.now tables.now }
     requires aircraft { k < aircraft book.now }
     requires activity { a < activities book.now }
@@ -191,7 +190,7 @@ fn go_on(book: &Book, tables: &Tables, trial: &mut Trial, k: u32, a: u32) -> Opt
 #[cycle(assign)]
 fn assign_to(
     book: &Book,
-    tables: &Tables,
+    tables: &BookTables,
     trial: &mut Trial,
     best: &mut Best,
     k: u32,
@@ -221,7 +220,14 @@ fn assign_to(
 
 // Tries all assignments of the activities from number `a` on.
 #[cycle(assign)]
-fn assign_from(book: &Book, tables: &Tables, trial: &mut Trial, best: &mut Best, a: u32, cost: u64)
+fn assign_from(
+    book: &Book,
+    tables: &BookTables,
+    trial: &mut Trial,
+    best: &mut Best,
+    a: u32,
+    cost: u64,
+)
     requires tables { AreTablesOf book.now tables.now }
     requires activity { a ≤ activities book.now }
     requires trial { IsTrial book.now a trial.old }
@@ -246,7 +252,6 @@ fn assign_from(book: &Book, tables: &Tables, trial: &mut Trial, best: &mut Best,
     }
 }
 
-// The best assignment of all.
 fn best_assignment(alloc: Global, book: &Book) -> Result<Best, Memory>
     ensures best { IfOk result (IsBest book.now) }
     ensures tried { IfOk result (λ best. HasTried book.now best []) }
@@ -267,10 +272,9 @@ fn best_assignment(alloc: Global, book: &Book) -> Result<Best, Memory>
     Ok(best)
 }
 
-// The route of an aircraft: its activities in rising number.
 fn route_of(alloc: Global, fliers: &[u32], k: u32) -> Result<Route, Memory>
     requires { length fliers.now < 2 ^ 32 }
-    ensures { IfOk result (λ route. route ≡ flown_by k fliers.now) }
+    ensures { IfOk result (λ route. route ≡ route_flown k fliers.now) }
 {
     let mut route = Vec::new(alloc);
     for (a, flier) in fliers.iter().enumerate() {
@@ -281,7 +285,6 @@ fn route_of(alloc: Global, fliers: &[u32], k: u32) -> Result<Route, Memory>
     Ok(Route(route))
 }
 
-// The plan of an assignment to so many aircraft.
 fn plan_of(alloc: Global, fliers: &[u32], count: u32) -> Result<Plan, Memory>
     requires { length fliers.now < 2 ^ 32 }
     ensures { IfOk result (λ plan. plan ≡ routes_from 0 count fliers.now) }
@@ -293,7 +296,6 @@ fn plan_of(alloc: Global, fliers: &[u32], count: u32) -> Result<Plan, Memory>
     Ok(Plan(routes))
 }
 
-// What the best assignment of all says of the book.
 fn outcome_of(alloc: Global, book: &Book, best: &Best) -> Result<Outcome, Memory>
     requires best { IsBest book.now best.now }
     requires tried { HasTried book.now best.now [] }

@@ -1,9 +1,9 @@
 //! The least plan of a book, by plain enumeration of who flies what.
 #![tactic(auto)]
 
+mod book_tables;
 mod cost;
 mod enumerate;
-mod tables;
 
 pub use enumerate::least_plan;
 

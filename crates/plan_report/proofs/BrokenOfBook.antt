@@ -6,10 +6,11 @@ use Rattle.std.specs.List.{All, filter, range_with_len}
 use Rattle.tail_book.specs.Lookup.{activities}
 use Rattle.tail_book.specs.Numbers.{contains, int_le}
 use Rattle.tail_book.specs.Seen.{BookSeen, CounterSeen, RawPlanSeen}
-use Rattle.tail_book.specs.Tests.{is_permitted}
+use Rattle.tail_book.specs.Allowed.{is_permitted}
 use Rattle.plan_audit.specs.Broken.{broken}
-use Rattle.plan_audit.specs.Kept.{IsLegOf, legs_met}
-use Rattle.plan_audit.specs.Laws.{LegsAreOfBook}
+use Rattle.plan_audit.specs.inside.Kept.{IsLegOf}
+use Rattle.plan_audit.specs.Kept.{legs_met}
+use Rattle.plan_audit.specs.inside.Laws.{LegsAreOfBook}
 use Rattle.plan_audit.specs.Met.{activities_met, names_met}
 use Rattle.plan_audit.specs.Rules.{past_limits, past_limits_at, twice, uncovered, unknown, values_after}
 use Rattle.plan_audit.specs.declared.broken.Audit.TheVariants as audit
@@ -18,8 +19,8 @@ use Rattle.plan_audit.specs.declared.broken.Broken.TheVariants as rule
 use Rattle.plan_audit.specs.declared.leg.Leg.{Leg}
 use Rattle.plan_audit.specs.declared.met.Met.{Met}
 use Rattle.plan_audit.specs.declared.met.Met.TheVariants.{Unknown, Twice, Tail, Activity}
-use Rattle.plan_report.specs.AuditText.{IsOfBook}
-use Rattle.plan_report.specs.Laws.{AuditsCanBeWritten}
+use Rattle.plan_report.specs.inside.AuditText.{IsOfBook}
+use Rattle.plan_report.specs.inside.Laws.{AuditsCanBeWritten}
 
 -- what is made of the elements that pass a test
 filtered : {X Y : Type 0} (P : X → Type 0) (Q : Y → Type 0) (test : X → Bool) (make : X → Y) (made : (x : X) → P x → Q (make x)) (xs : List X) → All P xs → All Q (map make (filter test xs))

@@ -1,4 +1,5 @@
--- Numbers below n of which none stands twice are at most n.
+-- Numbers below n of which none stands twice are at most n: none counts twice, so they differ, and there are no more
+-- than n different numbers below n.
 use Rattle.std.proofs.Common.{◌≡◌, ◌∙◌, ℕ, ◌+◌, ◌<◌, ◌≤◌, ◌||◌, Bool, true, false, cond, List, [], ◌∷◌, length, refl, sym, arith, nat_lt}
 use Rattle.std.proofs.lemmas.Bool.{eq-eqb, eqb-true, ltb-true}
 use Rattle.std.proofs.lemmas.Bool.Decides.{nat_tests}

@@ -1,4 +1,7 @@
 -- A number that is written in digits is read as itself.
+--
+-- Writing a number of two digits or more is writing a tenth of it and then its last digit, and reading takes ten times
+-- what was read and adds a digit: so one digit more keeps what is written and what is read equal.
 use Rattle.std.proofs.Common.{◌≡◌, ◌∙◌, ℕ, zero, suc, ◌+◌, ◌*◌, ◌-◌, ◌/◌, ◌%◌, ◌^◌, ◌<◌, ◌≤◌, Bool, true, false, List, [], ◌∷◌, ◌++◌, Ok, length, refl, arith, nat_lt, nat_le, ◌==◌, ◌&&◌}
 use Rattle.std.proofs.lemmas.Bool.Decides.{nat_tests}
 use Rattle.std.proofs.lemmas.Fmt.{decimal_by_steps, decimal_digit, decimal_nonempty, first_decimal}

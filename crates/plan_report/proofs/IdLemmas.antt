@@ -1,4 +1,4 @@
--- The ids of a line, word by word: those before the limit are kept, and the others are only tested.
+-- The ids of a line, part by part: those before the limit are kept, and the others are only tested.
 use Rattle.std.proofs.Common.{◌≡◌, ◌∙◌, ◌<◌, ◌≤◌, ℕ, ◌+◌, Bool, true, false, sym, List, [], ◌∷◌, ◌++◌, Result, Ok, Err, length, length-append, take, refl, arith, nat_lt, nat_le, length-take, append_assoc, ap}
 use Rattle.std.specs.List.{list_all}
 use Rattle.std.proofs.lemmas.Bool.Decides.{nat_tests}
@@ -6,10 +6,11 @@ use Rattle.std.proofs.lemmas.List.{append-nil, take_all, take-append-le}
 use Rattle.std.proofs.lemmas.List.Folds.{list_all-append}
 use Rattle.tail_book.specs.Name.{is_name}
 use Rattle.tail_text.specs.Bad.{bad}
+use Rattle.tail_text.specs.declared.codes.TheConstants.{SHAPE, TOO_MANY}
 use Rattle.tail_text.specs.NameText.{name_of}
 use Rattle.tail_text.specs.declared.bad.Bad.{Bad}
 use Rattle.plan_report.specs.PlanText.{ids_in, refused}
-use Rattle.plan_report.specs.declared.plan_text.TheConstants.{ID_LIMIT}
+use Rattle.tail_book.specs.declared.limits.TheConstants.{ACTIVITY_LIMIT}
 
 named : (test : Bool) (text name : List ℕ) → is_name text ≡ test → Ok name ≡ name_of text → (name ≡ text) × (is_name text ≡ true)
 named true text name is e = let told : ◌≡◌ {A = Result (List ℕ) Bad} (Ok name) (Ok text) = rw is at e in (cc told, is)
@@ -19,10 +20,10 @@ unnamed : (test : Bool) (text : List ℕ) (why : Bad) → is_name text ≡ test 
 unnamed true text why is e = let told : ◌≡◌ {A = Result (List ℕ) Bad} (Err why) (Ok text) = rw is at e in cc told
 unnamed false text why is e = is
 
--- of the words some were seen, and are names; the first of them are kept, and a word too many is remembered
-pub record AreKept (limit : ℕ) (words left ids : List (List ℕ)) (too_many : Bool) : Type 0 where
+-- of the parts some were seen, and are names; the first of them are kept, and a part too many is remembered
+pub record AreKept (limit : ℕ) (parts left ids : List (List ℕ)) (too_many : Bool) : Type 0 where
   pub seen : List (List ℕ)
-  pub split : words ≡ seen ++ left
+  pub split : parts ≡ seen ++ left
   pub good : list_all is_name seen ≡ true
   pub kept : ids ≡ take limit seen
   pub many : too_many ≡ nat_lt limit (length seen)
@@ -45,87 +46,87 @@ enough_few n limit h = grind (arith, nat_tests)
 nothing_kept : (limit : ℕ) → [] ≡ take {A = List ℕ} limit []
 nothing_kept limit = sym (take_all limit [] (omega arith))
 
--- before the first word
-pub AreKept-init : (limit : ℕ) (words : List (List ℕ)) → AreKept limit words words [] false
-AreKept-init limit words = record { seen = []; split = refl; good = refl; kept = nothing_kept limit; many = sym (few_enough 0 limit (omega arith)) }
+-- before the first part
+pub AreKept-init : (limit : ℕ) (parts : List (List ℕ)) → AreKept limit parts parts [] false
+AreKept-init limit parts = record { seen = []; split = refl; good = refl; kept = nothing_kept limit; many = sym (few_enough 0 limit (omega arith)) }
 
 -- no more are kept than may be
-pub AreKept-few : (limit : ℕ) (words left ids : List (List ℕ)) (too_many : Bool) → AreKept limit words left ids too_many → length ids ≤ limit
-AreKept-few limit words left ids too_many h = omega (arith, ap length h.kept, length-take limit h.seen)
+pub AreKept-few : (limit : ℕ) (parts left ids : List (List ℕ)) (too_many : Bool) → AreKept limit parts left ids too_many → length ids ≤ limit
+AreKept-few limit parts left ids too_many h = omega (arith, ap length h.kept, length-take limit h.seen)
 
--- the turns at one word
-module _ (limit : ℕ) (words left ids : List (List ℕ)) (too_many : Bool) (so_far : AreKept limit words left ids too_many)
-    (word : List ℕ) (more : List (List ℕ)) (next : left ≡ word ∷ more) where
-  split_on : words ≡ (so_far.seen ++ word ∷ []) ++ more
+-- the turns at one part
+module _ (limit : ℕ) (parts left ids : List (List ℕ)) (too_many : Bool) (so_far : AreKept limit parts left ids too_many)
+    (part : List ℕ) (more : List (List ℕ)) (next : left ≡ part ∷ more) where
+  split_on : parts ≡ (so_far.seen ++ part ∷ []) ++ more
   split_on = so_far.split ∙ rw (next, append_assoc) refl
 
-  longer : length (so_far.seen ++ word ∷ []) ≡ length so_far.seen + 1
-  longer = omega (arith, length-append so_far.seen (word ∷ []))
+  longer : length (so_far.seen ++ part ∷ []) ≡ length so_far.seen + 1
+  longer = omega (arith, length-append so_far.seen (part ∷ []))
 
-  good : (id : List ℕ) → Ok id ≡ name_of word → list_all is_name (so_far.seen ++ word ∷ []) ≡ true
-  good id e = rw (list_all-append is_name so_far.seen (word ∷ []), so_far.good, (named (is_name word) word id refl e).1) refl
+  good : (id : List ℕ) → Ok id ≡ name_of part → list_all is_name (so_far.seen ++ part ∷ []) ≡ true
+  good id e = rw (list_all-append is_name so_far.seen (part ∷ []), so_far.good, (named (is_name part) part id refl e).1) refl
 
   room : length ids < limit → length so_far.seen < limit
   room few = omega (arith, few, ap length so_far.kept, length-take limit so_far.seen)
 
-  -- a good word that still has room is kept
-  pub turn-kept : (id : List ℕ) → Ok id ≡ name_of word → length ids < limit → AreKept limit words more (ids ++ id ∷ []) too_many
+  -- a good part that still has room is kept
+  pub turn-kept : (id : List ℕ) → Ok id ≡ name_of part → length ids < limit → AreKept limit parts more (ids ++ id ∷ []) too_many
   turn-kept id e few =
       let n = room few in
       let before : ids ≡ so_far.seen = so_far.kept ∙ take_all limit so_far.seen (omega (arith, n)) in
-      let all : take limit (so_far.seen ++ word ∷ []) ≡ so_far.seen ++ word ∷ [] = take_all limit (so_far.seen ++ word ∷ []) (omega (arith, n, longer)) in
+      let all : take limit (so_far.seen ++ part ∷ []) ≡ so_far.seen ++ part ∷ [] = take_all limit (so_far.seen ++ part ∷ []) (omega (arith, n, longer)) in
       record {
-        seen = so_far.seen ++ word ∷ [];
+        seen = so_far.seen ++ part ∷ [];
         split = split_on;
         good = good id e;
-        kept = rw (all, before, (named (is_name word) word id refl e).0) refl;
-        many = so_far.many ∙ few_enough (length so_far.seen) limit (omega (arith, n)) ∙ sym (few_enough (length (so_far.seen ++ word ∷ [])) limit (omega (arith, n, longer)));
+        kept = rw (all, before, (named (is_name part) part id refl e).0) refl;
+        many = so_far.many ∙ few_enough (length so_far.seen) limit (omega (arith, n)) ∙ sym (few_enough (length (so_far.seen ++ part ∷ [])) limit (omega (arith, n, longer)));
       }
 
   full : limit ≤ length ids → limit ≤ length so_far.seen
   full most = omega (arith, most, ap length so_far.kept, length-take limit so_far.seen)
 
-  -- a good word past the room is only tested
-  pub turn-over : (id : List ℕ) → Ok id ≡ name_of word → limit ≤ length ids → AreKept limit words more ids true
+  -- a good part past the room is only tested
+  pub turn-over : (id : List ℕ) → Ok id ≡ name_of part → limit ≤ length ids → AreKept limit parts more ids true
   turn-over id e most =
       let n = full most in
       record {
-        seen = so_far.seen ++ word ∷ [];
+        seen = so_far.seen ++ part ∷ [];
         split = split_on;
         good = good id e;
-        kept = so_far.kept ∙ sym (take-append-le limit so_far.seen (word ∷ []) n);
-        many = too_few (length (so_far.seen ++ word ∷ [])) limit (omega (arith, n, longer));
+        kept = so_far.kept ∙ sym (take-append-le limit so_far.seen (part ∷ []) n);
+        many = too_few (length (so_far.seen ++ part ∷ [])) limit (omega (arith, n, longer));
       }
 
-  -- a bad word decides
-  pub turn-bad : (why : Bad) → Err why ≡ name_of word → list_all is_name words ≡ false
+  -- a bad part decides
+  pub turn-bad : (why : Bad) → Err why ≡ name_of part → list_all is_name parts ≡ false
   turn-bad why e =
-      let bad_word : is_name word ≡ false = unnamed (is_name word) word why refl e in
-      rw (so_far.split, next, list_all-append is_name so_far.seen (word ∷ more), so_far.good, bad_word) refl
+      let bad_part : is_name part ≡ false = unnamed (is_name part) part why refl e in
+      rw (so_far.split, next, list_all-append is_name so_far.seen (part ∷ more), so_far.good, bad_part) refl
 
--- behind the last word
-module _ (limit : ℕ) (words left ids : List (List ℕ)) (done : left ≡ []) where
-  whole : (too_many : Bool) (so_far : AreKept limit words left ids too_many) → words ≡ so_far.seen
+-- behind the last part
+module _ (limit : ℕ) (parts left ids : List (List ℕ)) (done : left ≡ []) where
+  whole : (too_many : Bool) (so_far : AreKept limit parts left ids too_many) → parts ≡ so_far.seen
   whole too_many so_far = so_far.split ∙ rw (done, append-nil) refl
 
-  pub end-good : (too_many : Bool) → AreKept limit words left ids too_many → list_all is_name words ≡ true
+  pub end-good : (too_many : Bool) → AreKept limit parts left ids too_many → list_all is_name parts ≡ true
   end-good too_many so_far = rw (whole too_many so_far) so_far.good
 
-  pub end-many : AreKept limit words left ids true → nat_le (length words) limit ≡ false
+  pub end-many : AreKept limit parts left ids true → nat_le (length parts) limit ≡ false
   end-many so_far = rw (whole true so_far) (over (length so_far.seen) limit so_far.many)
 
-  pub end-few : AreKept limit words left ids false → (nat_le (length words) limit ≡ true) × (words ≡ ids)
+  pub end-few : AreKept limit parts left ids false → (nat_le (length parts) limit ≡ true) × (parts ≡ ids)
   end-few so_far =
       let few = under (length so_far.seen) limit so_far.many in
       let all = whole false so_far in
       (rw all (enough_few (length so_far.seen) limit few), all ∙ sym (so_far.kept ∙ take_all limit so_far.seen few))
 
--- what the words of a line give then
-pub ids_in-bad : (place : ℕ) (words : List (List ℕ)) → list_all is_name words ≡ false → ids_in place words ≡ Err (refused 4 place)
-ids_in-bad place words e = rw e refl
+-- what the parts of a line give then
+pub ids_in-bad : (place : ℕ) (parts : List (List ℕ)) → list_all is_name parts ≡ false → ids_in place parts ≡ Err (refused SHAPE place)
+ids_in-bad place parts e = rw e refl
 
-pub ids_in-many : (place : ℕ) (words : List (List ℕ)) → list_all is_name words ≡ true → nat_le (length words) ID_LIMIT ≡ false → ids_in place words ≡ Err (refused 10 place)
-ids_in-many place words good many = rw (good, many) refl
+pub ids_in-many : (place : ℕ) (parts : List (List ℕ)) → list_all is_name parts ≡ true → nat_le (length parts) ACTIVITY_LIMIT ≡ false → ids_in place parts ≡ Err (refused TOO_MANY place)
+ids_in-many place parts good many = rw (good, many) refl
 
-pub ids_in-good : (place : ℕ) (words ids : List (List ℕ)) → list_all is_name words ≡ true → nat_le (length words) ID_LIMIT ≡ true → words ≡ ids → ids_in place words ≡ Ok ids
-ids_in-good place words ids good few same = rw (good, few, same) refl
+pub ids_in-good : (place : ℕ) (parts ids : List (List ℕ)) → list_all is_name parts ≡ true → nat_le (length parts) ACTIVITY_LIMIT ≡ true → parts ≡ ids → ids_in place parts ≡ Ok ids
+ids_in-good place parts ids good few same = rw (good, few, same) refl

@@ -1,6 +1,5 @@
 pub mod SinkLemmas
 pub mod Writable
-pub mod PartLemmas
 pub mod IdLemmas
 pub mod LineLemmas
 pub mod DecimalLemmas

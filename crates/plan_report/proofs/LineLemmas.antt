@@ -1,28 +1,16 @@
 -- The later lines of a plan file, one by one: those that were read stand before what is left, and each turn takes one line.
-use Rattle.std.proofs.Common.{◌≡◌, ◌∙◌, ◌<◌, ◌≤◌, ℕ, ◌+◌, ◌-◌, true, false, length-append, List, [], ◌∷◌, ◌++◌, Result, Ok, Err, length, refl, arith, append_assoc, nat_lt}
+use Rattle.std.proofs.Common.{◌≡◌, ◌∙◌, ◌<◌, ◌≤◌, ℕ, ◌+◌, ◌-◌, true, false, length-append, List, [], ◌∷◌, ◌++◌, Result, Ok, Err, length, refl, arith, nat_lt}
 use Rattle.std.proofs.lemmas.Bool.Decides.{nat_tests}
 use Rattle.std.proofs.lemmas.List.{append-nil}
 use Rattle.tail_book.specs.Seen.{RawLineSeen}
-use Rattle.tail_text.specs.Checks.{look}
-use Rattle.tail_text.specs.Reading.{Answers}
+use Rattle.tail_text.specs.declared.codes.TheConstants.{TOO_MANY}
+use Rattle.tail_text.specs.inside.Joined.{joined, joined-more}
+use Rattle.tail_text.specs.inside.Reading.{Answers}
 use Rattle.tail_text.specs.declared.refusal.Refusal.{Refusal}
 use Rattle.tail_text.specs.declared.refusal.Stopped.{Stopped}
 use Rattle.tail_text.specs.declared.refusal.Stopped.TheVariants.{Refused, Memory}
-use Rattle.plan_report.specs.Parts.{LineSeen}
+use Rattle.plan_report.specs.TextLines.{LineSeen}
 use Rattle.plan_report.specs.PlanText.{line_in, lines_from, refused}
-
--- lines before those of a result
-abbrev pub joined : List RawLineSeen → Result (List RawLineSeen) Refusal → Result (List RawLineSeen) Refusal
-joined lines (Ok more) = Ok (lines ++ more)
-joined lines (Err refusal) = Err refusal
-
-pub joined-nil : (r : Result (List RawLineSeen) Refusal) → r ≡ joined [] r
-joined-nil (Ok lines) = refl
-joined-nil (Err refusal) = refl
-
-joined-one : (lines : List RawLineSeen) (line : RawLineSeen) (r : Result (List RawLineSeen) Refusal) → joined lines (look r (λ rest. Ok (line ∷ rest))) ≡ joined (lines ++ line ∷ []) r
-joined-one lines line (Ok more) = rw append_assoc refl
-joined-one lines line (Err refusal) = refl
 
 has_room : (n : ℕ) → 0 < n → nat_lt 0 n ≡ true
 has_room n h = grind (arith, nat_tests)
@@ -38,7 +26,7 @@ module _ (limit : ℕ) (all : Result (List RawLineSeen) Refusal) (lines : List R
   turn-end e = known ∙ rw (e, append-nil) refl
 
   module _ (line : LineSeen) (more : List LineSeen) (next : left ≡ line ∷ more) (place : ℕ) (here : place ≡ length lines + 2) where
-    pub turn-full : limit ≤ length lines → all ≡ Err (refused 10 place)
+    pub turn-full : limit ≤ length lines → all ≡ Err (refused TOO_MANY place)
     unfolding lines_from
     turn-full full =
         let none : limit - length lines ≡ 0 = omega arith in
@@ -60,7 +48,7 @@ module _ (limit : ℕ) (all : Result (List RawLineSeen) Refusal) (lines : List R
         let longer : length (lines ++ given ∷ []) ≡ length lines + 1 = omega (arith, length-append lines (given ∷ [])) in
         let next_place : length lines + 1 + 2 ≡ length lines + 2 + 1 = omega arith in
         let room_left : limit - (length lines + 1) ≡ limit - length lines - 1 = omega arith in
-        known ∙ rw (next, some, judged, longer, next_place, room_left) (joined-one lines given (lines_from (length lines + 2 + 1) (limit - length lines - 1) more))
+        known ∙ rw (next, some, judged, longer, next_place, room_left) (joined-more lines given (lines_from (length lines + 2 + 1) (limit - length lines - 1) more))
 
 -- what stops one line stops them all
 pub stopped-through : {S T U V : Type 0} (seen : T → S) (shown : V → U) (due : Result S Refusal) (all : Result U Refusal) (why : Stopped)

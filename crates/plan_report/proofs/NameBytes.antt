@@ -1,4 +1,5 @@
--- Names and numbers have no space, no newline and no colon.
+-- Names and numbers have no space, no newline and no colon: each of their bytes passes a test that these fail. So a
+-- line is cut where something was put between them, and nowhere else.
 use Rattle.std.proofs.Common.{◌≡◌, ◌∙◌, ℕ, Bool, true, false, List, [], ◌∷◌, length, sym, refl, arith, ◌≤◌, ◌==◌, ◌&&◌, ◌||◌, nat_le, get_or}
 use Rattle.std.proofs.lemmas.Bool.{and_parts, eqb-true, leb-true}
 use Rattle.std.proofs.lemmas.List.Sums.{AllPass-from_list_all}

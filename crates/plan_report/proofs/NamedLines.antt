@@ -1,4 +1,7 @@
 -- The line of an aircraft is read as its name and the ids of its route.
+--
+-- A line is a name with a colon, and then a space and an id for each activity. None of these has a space or a newline
+-- inside, so the words between spaces are what was written, and by induction on the routes so is line after line.
 use Rattle.std.proofs.Common.{◌≡◌, ◌∙◌, ℕ, ◌+◌, ◌-◌, ◌*◌, ◌<◌, ◌≤◌, true, false, List, [], ◌∷◌, ◌++◌, Ok, length, length-append, refl, ap, map, arith, nat_lt, nat_le, slice_index, ◌==◌}
 use Rattle.std.proofs.lemmas.Bool.Decides.{nat_tests}
 use Rattle.std.proofs.lemmas.List.{append-nil, length-map}
@@ -10,13 +13,14 @@ use Rattle.std.specs.Prelude.{codes}
 use Rattle.tail_book.specs.Lookup.{activities, activity_of, aircraft, no_activity, no_tail, tail_of}
 use Rattle.tail_book.specs.Name.{is_name, is_name_byte}
 use Rattle.tail_book.specs.Seen.{BookSeen}
-use Rattle.tail_book.specs.Sound.{IsBook}
-use Rattle.plan_report.specs.Laws.{names_from}
+use Rattle.tail_book.specs.inside.Sound.{IsBook}
+use Rattle.plan_report.specs.inside.Laws.{names_from}
 use Rattle.plan_report.specs.Lines.{newline}
-use Rattle.plan_report.specs.Parts.{parts_of, whole_line}
+use Rattle.tail_text.specs.Parts.{parts_of}
+use Rattle.plan_report.specs.TextLines.{whole_line}
 use Rattle.plan_report.specs.PlanText.{line_in, lines_from, tail_in}
 use Rattle.plan_report.specs.Report.{aircraft_line, aircraft_lines, ids_of}
-use Rattle.plan_report.specs.declared.plan_text.TheConstants.{ID_LIMIT}
+use Rattle.tail_book.specs.declared.limits.TheConstants.{ACTIVITY_LIMIT}
 use Rattle.plan_report.proofs.NameBytes.{Lacks, is_name-lacks, is_name-short}
 use Rattle.plan_report.proofs.TextLemmas.{ended}
 
@@ -88,29 +92,29 @@ module _ (book : BookSeen) (sound : IsBook book) where
   lines_lack k (route ∷ routes) fits known =
       (line_lacks k route (omega (arith, fits)) (All-head (All Known) route routes known), lines_lack (k + 1) routes (omega (arith, fits)) (All-tail (All Known) route routes known))
 
-  -- the words are what stands before the first space, and the ids
+  -- the parts are what stands before the first space, and the ids
   ids_parts : (front : List ℕ) (route : List ℕ) → Lacks 32 front → All Known route → parts_of 32 (front ++ ids_of book route) ≡ front ∷ map id_text route
   ids_parts front [] lacks known = rw append-nil (slice_split_none (λ b. b == 32) front lacks)
   ids_parts front (a ∷ route) lacks known =
       slice_split_at (λ b. b == 32) front 32 (id_text a ++ ids_of book route) lacks refl
       ∙ ap (λ (parts : List (List ℕ)). front ∷ parts) (ids_parts (id_text a) route (is_name-lacks 32 (id_text a) refl (id_named a (All-head Known a route known))) (All-tail Known a route known))
 
-  line_words : (k : ℕ) (route : List ℕ) → k < aircraft book → All Known route → parts_of 32 (line_text k route) ≡ (tail_text k ++ 58 ∷ []) ∷ map id_text route
-  line_words k route lt known = ids_parts (tail_text k ++ 58 ∷ []) route (front_lacks 32 k refl refl lt) known
+  line_parts : (k : ℕ) (route : List ℕ) → k < aircraft book → All Known route → parts_of 32 (line_text k route) ≡ (tail_text k ++ 58 ∷ []) ∷ map id_text route
+  line_parts k route lt known = ids_parts (tail_text k ++ 58 ∷ []) route (front_lacks 32 k refl refl lt) known
 
   ids_named : (route : List ℕ) → All Known route → list_all is_name (map id_text route) ≡ true
   ids_named [] known = refl
   ids_named (a ∷ route) known = rw (id_named a (All-head Known a route known), ids_named route (All-tail Known a route known)) refl
 
-  line_read : (place k : ℕ) (route : List ℕ) → k < aircraft book → All Known route → length route ≤ ID_LIMIT
+  line_read : (place k : ℕ) (route : List ℕ) → k < aircraft book → All Known route → length route ≤ ACTIVITY_LIMIT
       → line_in place (whole_line (line_text k route)) ≡ Ok (record { tail = tail_text k; ids = map id_text route })
   line_read place k route lt known short =
-      let fits : nat_le (length (map id_text route)) ID_LIMIT ≡ true = few _ _ (omega (arith, length-map route id_text, short)) in
-      rw (line_words k route lt known, tail_in-colon place (tail_text k) (tail_named k lt), ids_named route known, fits) refl
+      let fits : nat_le (length (map id_text route)) ACTIVITY_LIMIT ≡ true = few _ _ (omega (arith, length-map route id_text, short)) in
+      rw (line_parts k route lt known, tail_in-colon place (tail_text k) (tail_named k lt), ids_named route known, fits) refl
 
   -- the lines of the aircraft are read as the names of the plan
   pub lines_read : (place room k : ℕ) (routes : List (List ℕ)) → length routes ≤ room → k + length routes ≤ aircraft book → All (All Known) routes
-      → AllByRecursion (λ route. length route ≤ ID_LIMIT) routes → lines_from place room (map whole_line (line_texts k routes)) ≡ Ok (names_from book k routes)
+      → AllByRecursion (λ route. length route ≤ ACTIVITY_LIMIT) routes → lines_from place room (map whole_line (line_texts k routes)) ≡ Ok (names_from book k routes)
   unfolding lines_from
   lines_read place room k [] space fits known short = refl
   lines_read place room k (route ∷ routes) space fits known short =

@@ -11,14 +11,17 @@ use Rattle.std.specs.List.{All, AllByRecursion, flat_map, list_all}
 use Rattle.std.specs.Prelude.{codes, ◌==◌}
 use Rattle.tail_book.specs.Lookup.{activities, aircraft}
 use Rattle.tail_book.specs.Seen.{BookSeen}
-use Rattle.tail_book.specs.Sound.{IsBook}
+use Rattle.tail_book.specs.inside.Sound.{IsBook}
 use Rattle.tail_book.specs.declared.outcome.Outcome.TheVariants as outcome
-use Rattle.plan_report.specs.Laws.{HasNoRepeats, ReportIsReadBack, names_from, names_of_plan}
+use Rattle.plan_report.specs.inside.Laws.{HasNoRepeats, ReportIsReadBack, names_from, names_of_plan}
 use Rattle.plan_report.specs.Lines.{newline, text_of}
-use Rattle.plan_report.specs.Parts.{lines_of, parts_of, whole_line}
+use Rattle.tail_text.specs.Parts.{parts_of}
+use Rattle.plan_report.specs.TextLines.{lines_of, whole_line}
 use Rattle.plan_report.specs.PlanText.{is_cost, is_heading, lines_from, plan_in, without_mark}
-use Rattle.plan_report.specs.Report.{IsPlanFor, aircraft_line, aircraft_lines}
-use Rattle.plan_report.specs.declared.plan_text.TheConstants.{ID_LIMIT, LINE_LIMIT, SIZE_LIMIT}
+use Rattle.plan_report.specs.inside.Report.{IsPlanFor}
+use Rattle.plan_report.specs.Report.{aircraft_line, aircraft_lines}
+use Rattle.tail_book.specs.declared.limits.TheConstants.{ACTIVITY_LIMIT, TAIL_LIMIT}
+use Rattle.tail_text.specs.declared.refusal.TheConstants.{SIZE_LIMIT}
 use Rattle.plan_report.proofs.CountLemmas.{at_most}
 use Rattle.plan_report.proofs.DecimalLemmas.{decimal-digits, number_of-decimal}
 use Rattle.plan_report.proofs.NameBytes.{Lacks, lacks}
@@ -67,8 +70,8 @@ module _ (book : BookSeen) (sound : IsBook book) where
       fits_in _ _ (omega (arith, length-append (ended first) (text_of (aircraft_lines book 0 plan)), length-append first newline, short, lines_length 0 plan all known.activities, few, known.one_each, sound.few_activities, sound.few_tails)) in
       let texts : lines_of (ended first ++ text_of (aircraft_lines book 0 plan)) ≡ map whole_line (first ∷ line_texts book sound 0 plan) =
       rw (aircraft_lines-ended book sound 0 plan) (lines_of-text (first ∷ line_texts book sound 0 plan) (clean, lines_lack book sound 0 plan all known.activities)) in
-      let lines : lines_from 2 LINE_LIMIT (map whole_line (line_texts book sound 0 plan)) ≡ Ok (names_from book 0 plan) =
-      lines_read book sound 2 LINE_LIMIT 0 plan (omega (arith, known.one_each, sound.few_tails)) all known.activities (routes_short ID_LIMIT plan (omega (arith, few, sound.few_activities))) in
+      let lines : lines_from 2 TAIL_LIMIT (map whole_line (line_texts book sound 0 plan)) ≡ Ok (names_from book 0 plan) =
+      lines_read book sound 2 TAIL_LIMIT 0 plan (omega (arith, known.one_each, sound.few_tails)) all known.activities (routes_short ACTIVITY_LIMIT plan (omega (arith, few, sound.few_activities))) in
       rw (size, unmarked, texts, heading, lines) refl
 
 -- a number has no space and no newline
@@ -78,38 +81,38 @@ decimal_lacks byte n fails small = lacks is_ascii_digit byte (decimal n) fails (
 decimal_short : (n : ℕ) → n < 2 ^ 64 → length (decimal n) ≤ 20
 decimal_short n small = length-decimal-le 20 n (omega arith) (omega (arith, small)) small
 
--- the words of the first lines
-optimal_words : (cost : ℕ) → cost < 2 ^ 64 → is_heading (parts_of 32 (codes "optimal " ++ decimal cost)) ≡ true
-optimal_words cost small =
+-- the parts of the first lines
+optimal_parts : (cost : ℕ) → cost < 2 ^ 64 → is_heading (parts_of 32 (codes "optimal " ++ decimal cost)) ≡ true
+optimal_parts cost small =
     rw (slice_split_none (λ b. b == 32) (decimal cost) (decimal_lacks 32 cost refl small), number_of-decimal 18_446_744_073_709_551_615 cost small (omega (arith, small))) refl
 
-costs_words : (low high : ℕ) → low < 2 ^ 64 → high < 2 ^ 64 → parts_of 32 (decimal low ++ codes " " ++ decimal high) ≡ decimal low ∷ decimal high ∷ []
-costs_words low high small_low small_high =
+costs_parts : (low high : ℕ) → low < 2 ^ 64 → high < 2 ^ 64 → parts_of 32 (decimal low ++ codes " " ++ decimal high) ≡ decimal low ∷ decimal high ∷ []
+costs_parts low high small_low small_high =
     rw append_assoc (slice_split_at (λ b. b == 32) (decimal low) 32 (decimal high) (decimal_lacks 32 low refl small_low) refl
-    ∙ ap (λ (words : List (List ℕ)). decimal low ∷ words) (slice_split_none (λ b. b == 32) (decimal high) (decimal_lacks 32 high refl small_high)))
+    ∙ ap (λ (parts : List (List ℕ)). decimal low ∷ parts) (slice_split_none (λ b. b == 32) (decimal high) (decimal_lacks 32 high refl small_high)))
 
--- `limit` and two costs; the words of what stands behind `limit` are the costs
+-- `limit` and two costs; the parts of what stands behind `limit` are the costs
 limit_then : (costs : List ℕ) (low high : ℕ) → parts_of 32 costs ≡ decimal low ∷ decimal high ∷ [] → is_cost (decimal low) ≡ true → is_cost (decimal high) ≡ true
     → is_heading (parts_of 32 (codes "limit " ++ costs)) ≡ true
-limit_then costs low high words is_low is_high = rw (words, is_low, is_high) refl
+limit_then costs low high parts is_low is_high = rw (parts, is_low, is_high) refl
 
 is_cost-decimal : (n : ℕ) → n < 2 ^ 64 → is_cost (decimal n) ≡ true
 is_cost-decimal n small = rw (number_of-decimal 18_446_744_073_709_551_615 n small (omega (arith, small))) refl
 
 -- the first lines have no newline inside
-word_lacks : (word : List ℕ) → list_all (λ c. not (c == 10)) word ≡ true → Lacks 10 word
-word_lacks word passes = lacks (λ c. not (c == 10)) 10 word refl passes
+text_lacks : (text : List ℕ) → list_all (λ c. not (c == 10)) text ≡ true → Lacks 10 text
+text_lacks text passes = lacks (λ c. not (c == 10)) 10 text refl passes
 
 joined_lack : (xs ys : List ℕ) → Lacks 10 xs → Lacks 10 ys → Lacks 10 (xs ++ ys)
 joined_lack xs ys = All-append (λ c. (c == 10) ≡ false) xs ys
 
--- what stands in the first line of a limit, behind its word
+-- what stands in the first line of a limit, behind its first part
 abbrev costs : ℕ → ℕ → List ℕ
 costs low high = decimal low ++ codes " " ++ decimal high
 
 costs_lack : (low high : ℕ) → low < 2 ^ 64 → high < 2 ^ 64 → Lacks 10 (costs low high)
 costs_lack low high small_low small_high =
-    joined_lack (decimal low ++ codes " ") (decimal high) (joined_lack (decimal low) (codes " ") (decimal_lacks 10 low refl small_low) (word_lacks (codes " ") refl)) (decimal_lacks 10 high refl small_high)
+    joined_lack (decimal low ++ codes " ") (decimal high) (joined_lack (decimal low) (codes " ") (decimal_lacks 10 low refl small_low) (text_lacks (codes " ") refl)) (decimal_lacks 10 high refl small_high)
 
 costs_short : (low high : ℕ) → low < 2 ^ 64 → high < 2 ^ 64 → length (costs low high) ≤ 41
 costs_short low high small_low small_high =
@@ -118,10 +121,10 @@ costs_short low high small_low small_high =
 pub read_back : ReportIsReadBack
 read_back book sound (outcome.Optimal plan cost) known = λ once small.
     read_under book sound (codes "optimal " ++ decimal cost) plan (omega (arith, length-append (codes "optimal ") (decimal cost), decimal_short cost small))
-    (joined_lack (codes "optimal ") (decimal cost) (word_lacks (codes "optimal ") refl) (decimal_lacks 10 cost refl small)) (optimal_words cost small) refl known once
+    (joined_lack (codes "optimal ") (decimal cost) (text_lacks (codes "optimal ") refl) (decimal_lacks 10 cost refl small)) (optimal_parts cost small) refl known once
 read_back book sound outcome.Infeasible known = tt
 read_back book sound (outcome.Between plan low high nodes) known = λ once small_low small_high.
     read_under book sound (codes "limit " ++ costs low high) plan (omega (arith, length-append (codes "limit ") (costs low high), costs_short low high small_low small_high))
-    (joined_lack (codes "limit ") (costs low high) (word_lacks (codes "limit ") refl) (costs_lack low high small_low small_high))
-    (limit_then (costs low high) low high (costs_words low high small_low small_high) (is_cost-decimal low small_low) (is_cost-decimal high small_high)) refl known once
+    (joined_lack (codes "limit ") (costs low high) (text_lacks (codes "limit ") refl) (costs_lack low high small_low small_high))
+    (limit_then (costs low high) low high (costs_parts low high small_low small_high) (is_cost-decimal low small_low) (is_cost-decimal high small_high)) refl known once
 read_back book sound (outcome.Above low nodes) known = tt

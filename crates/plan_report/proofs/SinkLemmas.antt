@@ -1,4 +1,5 @@
--- Pieces that a sink takes, one after the other.
+-- Pieces that a sink takes, one after the other: two that it takes are their texts joined, and a front of the next
+-- behind what it took is a front of the whole.
 use Rattle.std.proofs.Common.{◌≡◌, ◌∙◌, ℕ, ◌+◌, ◌<◌, List, [], ◌∷◌, ◌++◌, Option, Some, None, length, take, drop, get_or, refl, ap, sym, append_assoc}
 use Rattle.std.proofs.lemmas.List.{append-nil, drop_more, take_more, take-append-drop}
 use Rattle.tail_outside.specs.Outside.{Adds, AddsFront}

@@ -1,10 +1,12 @@
--- A text that was put together of lines has these lines again.
+-- A text that was put together of lines has these lines again, by induction on them: none has a newline inside, so the
+-- first newline of the text ends the first line, and what is behind it is the text of the others.
 use Rattle.std.proofs.Common.{◌≡◌, ◌∙◌, ℕ, List, [], ◌∷◌, ◌++◌, refl, ap, map, append_assoc}
 use Rattle.std.proofs.lemmas.List.Splits.{slice_split_at}
 use Rattle.std.specs.List.{AllByRecursion}
 use Rattle.std.specs.Prelude.{◌==◌}
 use Rattle.plan_report.specs.Lines.{newline, text_of}
-use Rattle.plan_report.specs.Parts.{LineSeen, lines_among, lines_of, parts_of, whole_line}
+use Rattle.tail_text.specs.Parts.{parts_of}
+use Rattle.plan_report.specs.TextLines.{LineSeen, lines_among, lines_of, whole_line}
 use Rattle.plan_report.proofs.NameBytes.{Lacks}
 
 -- a line's text with its newline

@@ -1,4 +1,5 @@
--- The plan of a true outcome can be written: a legal plan has a route for each aircraft, of activities of the book.
+-- The plan of a true outcome can be written: a legal plan has a route for each aircraft, and the numbers of a legal
+-- route rise and stay below the number of activities, so each is of the book.
 use Rattle.std.proofs.Common.{◌≡◌, ℕ, zero, suc, ◌<◌, arith, List, [], ◌∷◌, length, get_or}
 use Rattle.std.proofs.lemmas.List.{get_or_default}
 use Rattle.tail_book.specs.Seen.{BookSeen}
@@ -7,10 +8,10 @@ use Rattle.tail_book.specs.declared.place.Place.{Place}
 use Rattle.tail_book.specs.declared.place.Place.TheVariants.{Carry, After}
 use Rattle.tail_book.specs.Lookup.{activities}
 use Rattle.tail_book.specs.Plan.{route_of, IsLegalPlan}
-use Rattle.tail_book.specs.Rising.{IsRisingFrom, LegalRoutesRise}
-use Rattle.tail_book.specs.Sound.{IsBook}
-use Rattle.plan_report.specs.Laws.{TrueOutcomesCanBeWritten}
-use Rattle.plan_report.specs.Report.{IsPlanFor}
+use Rattle.tail_book.specs.inside.Rising.{IsRisingFrom, LegalRoutesRise}
+use Rattle.tail_book.specs.inside.Sound.{IsBook}
+use Rattle.plan_report.specs.inside.Laws.{TrueOutcomesCanBeWritten}
+use Rattle.plan_report.specs.inside.Report.{IsPlanFor}
 
 in_range : (n : ℕ) (x : Place) (route : List ℕ) → IsRisingFrom n x route → (i d : ℕ) → i < length route → get_or route i d < n
 in_range n x [] rise i d lt = absurd (omega (arith, lt))

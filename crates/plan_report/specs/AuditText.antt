@@ -1,12 +1,12 @@
 -- What is printed for an audit: what a legal plan costs, or how many rules a plan breaks, and a line for each of them.
-use Rattle.std.specs.Prelude.{ℕ, ◌<◌, ⊤, All, length, map, List, [], ◌∷◌, ◌++◌, codes, decimal, slice_index_or}
+use Rattle.std.specs.Prelude.{ℕ, length, map, List, [], ◌∷◌, ◌++◌, codes, decimal, slice_index_or}
 use Rattle.tail_book.specs.Seen.{BookSeen}
-use Rattle.tail_book.specs.Lookup.{activities, activity_of, aircraft, tail_of}
+use Rattle.tail_book.specs.Lookup.{activity_of, tail_of}
 use Rattle.plan_audit.specs.declared.broken.Audit.{Audit}
-use Rattle.plan_audit.specs.declared.broken.Audit.TheVariants as audit
 use Rattle.plan_audit.specs.declared.broken.Broken.{Broken}
 use Rattle.plan_audit.specs.declared.broken.Broken.TheVariants.{Unknown, Twice, Uncovered, NotAllowed, Curfew, NoLink, Counter}
-use Rattle.plan_report.specs.Lines.{newline, text_of}
+use Rattle.plan_report.specs.Lines.{newline}
+use Rattle.plan_audit.specs.declared.broken.Audit.TheVariants as audit
 
 -- the name of a counter, empty where no counter has the number
 abbrev pub counter_name : BookSeen → ℕ → List ℕ
@@ -42,22 +42,3 @@ broken_lines book rules = (codes "broken " ++ decimal (length rules) ++ newline)
 abbrev pub audit_lines : BookSeen → Audit → List (List ℕ)
 audit_lines book (audit.Legal cost) = legal_line cost ∷ []
 audit_lines book (audit.Broken rules) = broken_lines book rules.items
-
--- the audit as it is printed
-abbrev pub audit_text : BookSeen → Audit → List ℕ
-audit_text book found = text_of (audit_lines book found)
-
--- the numbers in a broken rule are of the book
-abbrev pub IsOfBook : BookSeen → Broken → Type 0
-IsOfBook book (Unknown name) = ⊤
-IsOfBook book (Twice name) = ⊤
-IsOfBook book (Uncovered a) = a < activities book
-IsOfBook book (NotAllowed k a) = (k < aircraft book) × (a < activities book)
-IsOfBook book (Curfew k a) = (k < aircraft book) × (a < activities book)
-IsOfBook book (NoLink k a) = (k < aircraft book) × (a < activities book)
-IsOfBook book (Counter k a c) = (k < aircraft book) × (a < activities book) × (c < length book.rules.counters)
-
--- the numbers in an audit's broken rules are of the book
-abbrev pub AreOfBook : BookSeen → Audit → Type 0
-AreOfBook book (audit.Legal cost) = ⊤
-AreOfBook book (audit.Broken rules) = All (IsOfBook book) rules.items

@@ -1,8 +1,7 @@
 pub mod Lines
 pub mod Refused
-pub mod Parts
-pub mod PartsLeft
+pub mod TextLines
 pub mod Report
 pub mod AuditText
-pub mod Laws
 pub mod PlanText
+pub mod inside

@@ -1,7 +1,7 @@
 -- What is printed for an outcome: its first line, and with a plan a line for each aircraft in the book's order.
-use Rattle.std.specs.Prelude.{ℕ, ◌+◌, ◌<◌, ◌≡◌, ⊤, All, length, List, [], ◌∷◌, ◌++◌, codes, decimal}
+use Rattle.std.specs.Prelude.{ℕ, ◌+◌, List, [], ◌∷◌, ◌++◌, codes, decimal}
 use Rattle.tail_book.specs.Seen.{BookSeen}
-use Rattle.tail_book.specs.Lookup.{activities, activity_of, aircraft, tail_of}
+use Rattle.tail_book.specs.Lookup.{activity_of, tail_of}
 use Rattle.tail_book.specs.declared.outcome.Outcome.{Outcome}
 use Rattle.tail_book.specs.declared.outcome.Outcome.TheVariants.{Optimal, Infeasible, Between, Above}
 use Rattle.plan_report.specs.Lines.{newline, text_of}
@@ -19,18 +19,6 @@ aircraft_line book k route = (tail_of book k).name ++ codes ":" ++ ids_of book r
 abbrev pub aircraft_lines : BookSeen → ℕ → List (List ℕ) → List (List ℕ)
 aircraft_lines book k [] = []
 aircraft_lines book k (route ∷ routes) = aircraft_line book k route ∷ aircraft_lines book (k + 1) routes
-
--- one route for each aircraft of the book, each of activities of the book
-pub record IsPlanFor (book : BookSeen) (plan : List (List ℕ)) : Type 0 where
-  pub one_each : length plan ≡ aircraft book
-  pub activities : All (All (λ a. a < activities book)) plan
-
--- the plan of an outcome, where it has one, is one for the book
-abbrev pub HasPlanFor : BookSeen → Outcome → Type 0
-HasPlanFor book (Optimal plan cost) = IsPlanFor book plan
-HasPlanFor book Infeasible = ⊤
-HasPlanFor book (Between plan low high nodes) = IsPlanFor book plan
-HasPlanFor book (Above low nodes) = ⊤
 
 -- what was found: the least cost, that no plan is legal, or the bound and the cost of the best plan found
 abbrev pub first_line : Outcome → List ℕ

@@ -1,10 +1,14 @@
-//! The text of an audit.
+//! The text of an audit: what was found, and a line for each broken rule.
+//!
+//! Numbers are printed as the book's names, so they have to be of the book, as those of every audit are: a law says it.
+//! All lines are made before the first is put.
 
 ghost use Rattle.std.specs.Prelude.{◌≡◌, ◌++◌, ◌<◌, ◌≤◌, false, length, map, All, IfOk, OnOk, OnErr, IsErrOf, decimal};
 ghost use Rattle.tail_book.specs.Lookup.{activities, activity_of, aircraft};
 ghost use Rattle.tail_outside.specs.Outside.{PieceHasFailed, Takes, TakesFront};
 ghost use Rattle.plan_report.specs.Lines.{newline};
-ghost use Rattle.plan_report.specs.AuditText.{AreOfBook, IsOfBook, audit_lines, audit_text, broken_line, broken_text, pair_names};
+ghost use Rattle.plan_report.specs.inside.AuditText.{AreOfBook, IsOfBook, audit_text};
+ghost use Rattle.plan_report.specs.AuditText.{audit_lines, broken_line, broken_text, pair_names};
 
 use crate::writing::{ReportFail, write_lines};
 use plan_audit::{Audit, Broken};
@@ -34,7 +38,6 @@ pub fn write_audit<S: Sink>(
     write_lines(&lines, out)
 }
 
-// The lines of what an audit found.
 fn audit_lines(alloc: Global, book: &Book, audit: &Audit) -> Result<Vec<Line>, Memory>
     requires { AreOfBook book.now audit.now }
     ensures { IfOk result (λ lines. lines.items ≡ audit_lines book.now audit.now) }
@@ -50,17 +53,16 @@ fn audit_lines(alloc: Global, book: &Book, audit: &Audit) -> Result<Vec<Line>, M
     Ok(lines)
 }
 
-fn counted_line(alloc: Global, word: &[u8], count: u64) -> Result<Line, Memory>
-    ensures { IfOk result (λ line. line ≡ word.now ++ decimal count ++ newline) }
+fn counted_line(alloc: Global, front: &[u8], count: u64) -> Result<Line, Memory>
+    ensures { IfOk result (λ line. line ≡ front.now ++ decimal count ++ newline) }
 {
     let mut line = Line::new(alloc)?;
-    line.text(word)?;
+    line.text(front)?;
     line.unsigned(count)?;
     line.text(b"\n")?;
     Ok(line)
 }
 
-// Adds the lines of the broken rules.
 fn add_broken(
     alloc: Global,
     book: &Book,
@@ -86,7 +88,6 @@ fn broken_line(alloc: Global, book: &Book, rule: &Broken) -> Result<Line, Memory
     Ok(line)
 }
 
-// Adds which rule is broken, and by whom.
 fn add_rule(book: &Book, rule: &Broken, line: &mut Line) -> Result<(), Memory>
     requires { IsOfBook book.now rule.now }
     ensures { OnOk result (line.new ≡ line.old ++ broken_text book.now rule.now) }
@@ -112,19 +113,19 @@ fn id_of(book: &Book, a: u32) -> &[u8]
     book.activities[a as usize].id.as_bytes()
 }
 
-fn add_text(word: &[u8], name: &[u8], line: &mut Line) -> Result<(), Memory>
-    ensures { OnOk result (line.new ≡ line.old ++ word.now ++ name.now) }
+fn add_text(front: &[u8], name: &[u8], line: &mut Line) -> Result<(), Memory>
+    ensures { OnOk result (line.new ≡ line.old ++ front.now ++ name.now) }
 {
-    line.text(word)?;
+    line.text(front)?;
     line.text(name)
 }
 
-// Adds an aircraft and an activity behind a word.
-fn add_pair(word: &[u8], book: &Book, k: u32, a: u32, line: &mut Line) -> Result<(), Memory>
+// Adds an aircraft and an activity behind a front.
+fn add_pair(front: &[u8], book: &Book, k: u32, a: u32, line: &mut Line) -> Result<(), Memory>
     requires aircraft { k < aircraft book.now }
     requires activity { a < activities book.now }
-    ensures { OnOk result (line.new ≡ line.old ++ word.now ++ pair_names book.now k a) }
+    ensures { OnOk result (line.new ≡ line.old ++ front.now ++ pair_names book.now k a) }
 {
-    add_text(word, book.tails[k as usize].name.as_bytes(), line)?;
+    add_text(front, book.tails[k as usize].name.as_bytes(), line)?;
     add_text(b" ", id_of(book, a), line)
 }

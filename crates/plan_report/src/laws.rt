@@ -1,6 +1,6 @@
 //! Laws over the definitions alone: the contract of each function is the law.
 
-ghost use Rattle.plan_report.specs.Laws.{AuditsCanBeWritten, ReportIsReadBack, TrueOutcomesCanBeWritten};
+ghost use Rattle.plan_report.specs.inside.Laws.{AuditsCanBeWritten, ReportIsReadBack, TrueOutcomesCanBeWritten};
 
 use plan_audit::laws::legs_are_of_book;
 use tail_book::laws::legal_routes_rise;

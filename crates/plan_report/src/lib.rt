@@ -4,7 +4,6 @@
 mod audit_text;
 pub mod laws;
 mod lines;
-mod parts;
 mod plan_text;
 mod refused;
 mod report;

@@ -1,4 +1,7 @@
 //! Lines, one put each.
+//!
+//! The first put that fails is the last one. So a sink has taken the lines before it and a front of that one: a front
+//! of the whole text.
 
 ghost use Rattle.std.specs.Prelude.{◌≡◌, ◌≤◌, false, OnOk, OnErr, IsErrOf};
 ghost use Rattle.plan_report.specs.Lines.{text_of};

@@ -4,25 +4,17 @@
 //! Names are kept as they stand, since no book is at hand to look them up.
 
 ghost use Rattle.std.specs.Prelude.{◌≡◌, ◌≤◌, length, IfOk};
-ghost use Rattle.tail_text.specs.Reading.{Answers};
+ghost use Rattle.tail_book.specs.declared.limits.TheConstants.{ACTIVITY_LIMIT, TAIL_LIMIT};
+ghost use Rattle.tail_text.specs.inside.Reading.{Answers};
 ghost use Rattle.tail_text.specs.declared.refusal.Stopped.TheVariants.{Refused};
-ghost use Rattle.plan_report.specs.declared.plan_text.TheConstants.{ID_LIMIT, LINE_LIMIT};
-ghost use Rattle.plan_report.specs.PlanText.{IsSmallPlan, ids_in, is_cost, is_first_line, is_heading, line_in, line_of, lines_from, plan_in, plan_of, refused, tail_in, without_mark};
+ghost use Rattle.plan_report.specs.inside.PlanText.{IsSmallPlan};
+ghost use Rattle.plan_report.specs.PlanText.{ids_in, is_cost, is_first_line, is_heading, line_in, line_of, lines_from, plan_in, plan_of, refused, tail_in, without_mark};
 
-use crate::parts::Parts;
 use crate::text_lines::{TextLine, TextLines};
 use std::alloc::Global;
+use tail_book::limits::{ACTIVITY_LIMIT, TAIL_LIMIT};
 use tail_book::{Name, RawLine, RawPlan};
-use tail_text::{Refusal, Stopped, Table, name, number};
-
-/// The most bytes that a plan file may have.
-pub const SIZE_LIMIT: usize = 16_777_216;
-
-/// The most lines under the first one.
-pub const LINE_LIMIT: usize = 200;
-
-/// The most ids in one line.
-pub const ID_LIMIT: usize = 4_000;
+use tail_text::{Parts, Refusal, SIZE_LIMIT, Stopped, Table, codes, name, number};
 
 /// The plan in a file, with the names as they stand there, or the file's first refusal. A refusal's place is the number
 /// of its line, counted from 1, or 0 where the whole file is meant.
@@ -31,7 +23,7 @@ pub fn read_plan(alloc: Global, bytes: &[u8]) -> Result<RawPlan, Stopped>
     ensures small { IfOk result IsSmallPlan }
 {
     if bytes.len() > SIZE_LIMIT {
-        return Err(refused(1, 0));
+        return Err(refused(codes::TOO_BIG, 0));
     }
     let mut lines = TextLines::new(without_mark(bytes));
     plan_of(alloc, &mut lines)
@@ -61,10 +53,10 @@ fn plan_of(alloc: Global, lines: &mut TextLines<'_>) -> Result<RawPlan, Stopped>
     ensures small { IfOk result IsSmallPlan }
 {
     let Some(first) = lines.take() else {
-        return Err(refused(3, 1));
+        return Err(refused(codes::HEADER, 1));
     };
     if !is_first_line(&first) {
-        return Err(refused(3, 1));
+        return Err(refused(codes::HEADER, 1));
     }
     lines_from(alloc, lines)
 }
@@ -75,35 +67,35 @@ fn is_first_line(line: &TextLine<'_>) -> bool
     line.ends && is_heading(&mut Parts::new(line.text, b' '))
 }
 
-fn is_heading(words: &mut Parts<'_>) -> bool
-    ensures { result ≡ is_heading words.old }
+fn is_heading(parts: &mut Parts<'_>) -> bool
+    ensures { result ≡ is_heading parts.old }
 {
-    let (word, low, high, more) = (words.take(), words.take(), words.take(), words.take());
-    match (word, low, high, more) {
-        (Some(word), Some(cost), None, _) => word == b"optimal".as_slice() && is_cost(cost),
-        (Some(word), Some(low), Some(high), None) => {
-            word == b"limit".as_slice() && is_cost(low) && is_cost(high)
+    let (first, low, high, more) = (parts.take(), parts.take(), parts.take(), parts.take());
+    match (first, low, high, more) {
+        (Some(first), Some(cost), None, _) => first == b"optimal".as_slice() && is_cost(cost),
+        (Some(first), Some(low), Some(high), None) => {
+            first == b"limit".as_slice() && is_cost(low) && is_cost(high)
         }
         _ => false,
     }
 }
 
-fn is_cost(word: &[u8]) -> bool
-    ensures { result ≡ is_cost word.now }
+fn is_cost(part: &[u8]) -> bool
+    ensures { result ≡ is_cost part.now }
 {
-    number(word, u64::MAX).is_ok()
+    number(part, u64::MAX).is_ok()
 }
 
 // The lines under the first one.
 fn lines_from(alloc: Global, left: &mut TextLines<'_>) -> Result<RawPlan, Stopped>
-    ensures lines { Answers (λ plan. plan.lines) (lines_from 2 LINE_LIMIT left.old) result }
+    ensures lines { Answers (λ plan. plan.lines) (lines_from 2 TAIL_LIMIT left.old) result }
     ensures small { IfOk result IsSmallPlan }
 {
     let mut lines = Vec::new(alloc);
     while let Some(line) = left.take() {
         let place = lines.len() as u64 + 2;
-        if lines.len() >= LINE_LIMIT {
-            return Err(refused(10, place));
+        if lines.len() >= TAIL_LIMIT {
+            return Err(refused(codes::TOO_MANY, place));
         }
         match line_in(alloc, place, &line) {
             Ok(line) => {
@@ -119,65 +111,65 @@ fn lines_from(alloc: Global, left: &mut TextLines<'_>) -> Result<RawPlan, Stoppe
 
 fn line_in(alloc: Global, place: u64, line: &TextLine<'_>) -> Result<RawLine, Stopped>
     ensures line { Answers (λ line. line) (line_in place line.now) result }
-    ensures few { IfOk result (λ line. length line.ids ≤ ID_LIMIT) }
+    ensures few { IfOk result (λ line. length line.ids ≤ ACTIVITY_LIMIT) }
 {
     if !line.ends {
-        return Err(refused(4, place));
+        return Err(refused(codes::SHAPE, place));
     }
     line_of(alloc, place, &mut Parts::new(line.text, b' '))
 }
 
-fn line_of(alloc: Global, place: u64, words: &mut Parts<'_>) -> Result<RawLine, Stopped>
-    ensures line { Answers (λ line. line) (line_of place words.old) result }
-    ensures few { IfOk result (λ line. length line.ids ≤ ID_LIMIT) }
+fn line_of(alloc: Global, place: u64, parts: &mut Parts<'_>) -> Result<RawLine, Stopped>
+    ensures line { Answers (λ line. line) (line_of place parts.old) result }
+    ensures few { IfOk result (λ line. length line.ids ≤ ACTIVITY_LIMIT) }
 {
-    let Some(word) = words.take() else {
-        return Err(refused(4, place));
+    let Some(part) = parts.take() else {
+        return Err(refused(codes::SHAPE, place));
     };
-    let tail = match tail_in(place, word) {
+    let tail = match tail_in(place, part) {
         Ok(tail) => tail,
         Err(stopped) => return Err(stopped),
     };
-    match ids_in(alloc, place, words) {
+    match ids_in(alloc, place, parts) {
         Ok(ids) => Ok(RawLine { tail, ids }),
         Err(stopped) => Err(stopped),
     }
 }
 
-fn tail_in(place: u64, word: &[u8]) -> Result<Name, Stopped>
-    ensures { Answers (λ tail. tail) (tail_in place word.now) result }
+fn tail_in(place: u64, part: &[u8]) -> Result<Name, Stopped>
+    ensures { Answers (λ tail. tail) (tail_in place part.now) result }
 {
-    let Some((last, front)) = word.split_last() else {
-        return Err(refused(4, place));
+    let Some((last, front)) = part.split_last() else {
+        return Err(refused(codes::SHAPE, place));
     };
     if *last != b':' {
-        return Err(refused(4, place));
+        return Err(refused(codes::SHAPE, place));
     }
     match name(front) {
         Ok(tail) => Ok(tail),
-        Err(_) => Err(refused(4, place)),
+        Err(_) => Err(refused(codes::SHAPE, place)),
     }
 }
 
-// The words that are left, as ids. An id too many is kept back, since a bad one may follow it.
-fn ids_in(alloc: Global, place: u64, words: &mut Parts<'_>) -> Result<Vec<Name>, Stopped>
-    ensures ids { Answers (λ ids. ids.items) (ids_in place words.old) result }
-    ensures few { IfOk result (λ ids. length ids.items ≤ ID_LIMIT) }
+// The parts that are left, as ids. An id too many is kept back, since a bad one may follow it.
+fn ids_in(alloc: Global, place: u64, parts: &mut Parts<'_>) -> Result<Vec<Name>, Stopped>
+    ensures ids { Answers (λ ids. ids.items) (ids_in place parts.old) result }
+    ensures few { IfOk result (λ ids. length ids.items ≤ ACTIVITY_LIMIT) }
 {
     let mut ids = Vec::new(alloc);
     let mut too_many = false;
-    while let Some(word) = words.take() {
-        let Ok(id) = name(word) else {
-            return Err(refused(4, place));
+    while let Some(part) = parts.take() {
+        let Ok(id) = name(part) else {
+            return Err(refused(codes::SHAPE, place));
         };
-        if ids.len() >= ID_LIMIT {
+        if ids.len() >= ACTIVITY_LIMIT {
             too_many = true;
         } else if ids.push(id).is_err() {
             return Err(Stopped::Memory);
         }
     }
     if too_many {
-        return Err(refused(10, place));
+        return Err(refused(codes::TOO_MANY, place));
     }
     Ok(ids)
 }

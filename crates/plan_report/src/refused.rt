@@ -1,4 +1,4 @@
-//! The line of a refusal.
+//! The line of a refusal: its code, the name of its table, and its place.
 
 ghost use Rattle.std.specs.Prelude.{◌≡◌, IfOk};
 ghost use Rattle.plan_report.specs.Refused.{refusal_line, table_name};

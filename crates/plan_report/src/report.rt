@@ -1,9 +1,13 @@
 //! The report of an outcome, line by line.
+//!
+//! With a plan that flies nothing twice it is a plan file too: read back, it gives the names of that plan, by a law. So
+//! what the planner prints can be judged by the checker as it is.
 
 ghost use Rattle.std.specs.Prelude.{◌≡◌, ◌++◌, ◌<◌, ◌≤◌, false, IfOk, OnOk, OnErr, IsErrOf, All, codes};
 ghost use Rattle.tail_book.specs.Lookup.{activities, activity_of, aircraft};
 ghost use Rattle.tail_outside.specs.Outside.{PieceHasFailed, Takes, TakesFront};
-ghost use Rattle.plan_report.specs.Report.{HasPlanFor, IsPlanFor, aircraft_line, aircraft_lines, first_line, ids_of, report, report_lines};
+ghost use Rattle.plan_report.specs.inside.Report.{HasPlanFor, IsPlanFor};
+ghost use Rattle.plan_report.specs.Report.{aircraft_line, aircraft_lines, first_line, ids_of, report, report_lines};
 
 use crate::writing::{ReportFail, write_lines};
 use std::alloc::Global;
@@ -33,7 +37,6 @@ pub fn write_report<S: Sink>(
     write_lines(&lines, out)
 }
 
-// The lines of the report.
 fn report_lines(alloc: Global, book: &Book, outcome: &Outcome) -> Result<Vec<Line>, Memory>
     requires { HasPlanFor book.now outcome.now }
     ensures { IfOk result (λ lines. lines.items ≡ report_lines book.now outcome.now) }
@@ -75,7 +78,6 @@ fn first_line(alloc: Global, outcome: &Outcome) -> Result<Line, Memory>
     Ok(line)
 }
 
-// Adds the lines of the aircraft.
 fn add_aircraft(
     alloc: Global,
     book: &Book,

@@ -2,8 +2,8 @@
 
 ghost use Rattle.std.specs.Prelude.{◌≡◌, ◌<◌, IfOk, length, All};
 ghost use Rattle.tail_book.specs.Lookup.{activities, aircraft};
-ghost use Rattle.plan_report.specs.AuditText.{AreOfBook};
-ghost use Rattle.plan_report.specs.Report.{HasPlanFor, IsPlanFor};
+ghost use Rattle.plan_report.specs.inside.AuditText.{AreOfBook};
+ghost use Rattle.plan_report.specs.inside.Report.{HasPlanFor, IsPlanFor};
 
 use crate::*;
 use plan_audit::{Audit, Broken};

@@ -1,10 +1,13 @@
 //! The lines of a text, one after the other.
+//!
+//! They are the parts between newlines. What stands behind the last newline is a line only where it is not empty, and
+//! then it has no newline of its own.
 
 ghost use Rattle.std.specs.Prelude.{◌≡◌, ◌∷◌, [], MatchOption};
-ghost use Rattle.plan_report.specs.Parts.{lines_of};
+ghost use Rattle.plan_report.specs.TextLines.{lines_of};
 
-use crate::parts::Parts;
 use std::marker::Model;
+use tail_text::Parts;
 
 /// A line without its newline, and whether it has one. Contracts see the record of both.
 #[derive(Debug, Drop)]
@@ -14,7 +17,7 @@ pub struct TextLine<'a> {
 }
 
 impl<'a> Model for TextLine<'a> {
-    ghost use Rattle.plan_report.specs.Parts.{LineSeen};
+    ghost use Rattle.plan_report.specs.TextLines.{LineSeen};
 
     ghost Value = { LineSeen };
 
@@ -29,7 +32,7 @@ pub struct TextLines<'a> {
 
 impl<'a> Model for TextLines<'a> {
     ghost use Rattle.std.specs.Prelude.{List};
-    ghost use Rattle.plan_report.specs.Parts.{LineSeen, lines_among};
+    ghost use Rattle.plan_report.specs.TextLines.{LineSeen, lines_among};
 
     ghost Value = { List LineSeen };
 

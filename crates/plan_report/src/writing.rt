@@ -1,4 +1,6 @@
 //! Lines that are written, and how that can fail.
+//!
+//! A write that failed shows in the sink's count, and want of memory shows nowhere, so the two are kept apart.
 
 ghost use Rattle.std.specs.Prelude.{◌≡◌, ◌≤◌, false, OnOk, OnErr, IsErrOf};
 ghost use Rattle.plan_report.specs.Lines.{text_of};

@@ -9,9 +9,10 @@ use Rattle.tail_text.specs.declared.refusal.Refusal.{Refusal}
 use Rattle.plan_report.specs.Lines.{text_of}
 use Rattle.plan_report.specs.Refused.{refusal_line}
 use Rattle.run_frame.proofs.Held.{OfHeld-at, OfHeld-map, given-held, whole}
-use Rattle.run_frame.specs.Answer.{IsAnswerTo, IsPrintable, IsPrinted, IsStopped, IsTrueAnswer, IsUnlessStopped, lines_of, status_of}
+use Rattle.run_frame.specs.inside.Answer.{IsAnswerTo, IsPrintable, IsPrinted, status_of}
+use Rattle.run_frame.specs.Answer.{IsStopped, IsTrueAnswer, IsUnlessStopped, lines_of}
 use Rattle.run_frame.specs.Promise.{Judges, PrintsFront, PrintsRefusal, Refuses}
-use Rattle.run_frame.specs.Reading.{AreGiven, OfHeld}
+use Rattle.run_frame.specs.TableFiles.{AreGiven, OfHeld}
 use Rattle.run_frame.specs.declared.answer.Answer.{Answer}
 use Rattle.run_frame.specs.declared.answer.Answer.TheVariants.{Usage, Refused, Found, ReadFailed, Memory}
 

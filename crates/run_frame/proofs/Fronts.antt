@@ -5,9 +5,10 @@ use Rattle.std.proofs.lemmas.List.{take_all}
 use Rattle.std.specs.Prelude.{nat_le, Result, Ok, Err}
 use Rattle.tail_text.specs.Checks.{look}
 use Rattle.tail_text.specs.Reading.{refusal_at}
+use Rattle.tail_text.specs.declared.codes.TheConstants.{TOO_BIG}
 use Rattle.tail_text.specs.declared.refusal.Refusal.{Refusal}
-use Rattle.table_records.specs.Layout.{Layout, table_of}
-use Rattle.table_records.specs.declared.table.TheConstants.{SIZE_LIMIT}
+use Rattle.table_records.specs.Table.{Layout, table_of}
+use Rattle.tail_text.specs.declared.refusal.TheConstants.{SIZE_LIMIT}
 use Rattle.timetable_reader.specs.Activity.{RawActivitySeen}
 use Rattle.timetable_reader.specs.Timetable.{timetable as timetable_layout}
 use Rattle.fleet_rules.specs.Entries.{refused}
@@ -16,9 +17,9 @@ use Rattle.fleet_rules.specs.RawRules.{RawRulesSeen}
 use Rattle.fleet_rules.specs.RulesTable.{rules_of}
 use Rattle.fleet_rules.specs.Tail.{RawTailSeen}
 use Rattle.book_maker.specs.Made.{book_of, made_of}
-use Rattle.run_frame.specs.Reading.{front, fronts}
+use Rattle.run_frame.specs.inside.TableFiles.{front, fronts}
 use Rattle.run_frame.specs.Tables.{TablesSeen}
-use Rattle.run_frame.specs.declared.reading.TheConstants.{READ_LIMIT}
+use Rattle.run_frame.specs.declared.table_files.TheConstants.{READ_LIMIT}
 
 too_big : (n size : ℕ) → size < n → nat_le n size ≡ false
 too_big n size h = grind (arith, nat_tests)
@@ -45,10 +46,10 @@ pub front-limited : {A : Type 0} (read : List ℕ → Result A Refusal) (why : R
 front-limited read why refuses bytes = limited read why refuses bytes READ_LIMIT (omega arith)
 
 pub table_of-front : {A : Type 0} (layout : Layout A) (bytes : List ℕ) → table_of layout (front bytes) ≡ table_of layout bytes
-table_of-front layout bytes = front-limited (table_of layout) (refusal_at 1 layout.table 0) (λ b big. rw big refl) bytes
+table_of-front layout bytes = front-limited (table_of layout) (refusal_at TOO_BIG layout.table 0) (λ b big. rw big refl) bytes
 
 pub rules_of-front : (bytes : List ℕ) → rules_of (front bytes) ≡ rules_of bytes
-rules_of-front bytes = front-limited rules_of (refused 1 0) (λ b big. rw big refl) bytes
+rules_of-front bytes = front-limited rules_of (refused TOO_BIG 0) (λ b big. rw big refl) bytes
 
 -- three tables that are read alike, one after the other, give the same to what follows
 pub tables-same : {A : Type 0} (next : List RawActivitySeen → List RawTailSeen → RawRulesSeen → Result A Refusal) (tables : TablesSeen)

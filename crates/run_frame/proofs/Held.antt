@@ -2,7 +2,8 @@
 use Rattle.std.proofs.Common.{◌≡◌, ◌∙◌, ℕ, List, Option, Some, None, IfSome, ap, option_map, refl, subst, sym, take}
 use Rattle.std.specs.Prelude.{option_and_then}
 use Rattle.tail_outside.specs.Shown.{FilesShown}
-use Rattle.run_frame.specs.Reading.{IsHeld, OfHeld, front, fronts, tables_held}
+use Rattle.run_frame.specs.TableFiles.{IsHeld, OfHeld, tables_held}
+use Rattle.run_frame.specs.inside.TableFiles.{front, fronts}
 use Rattle.run_frame.specs.Tables.{NamesSeen, TablesSeen}
 
 abbrev Same : TablesSeen → TablesSeen → Type 0

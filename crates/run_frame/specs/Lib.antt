@@ -1,6 +1,7 @@
 pub mod Spelled
 pub mod Tables
-pub mod Reading
+pub mod TableFiles
 pub mod Words
 pub mod Answer
 pub mod Promise
+pub mod inside

@@ -5,7 +5,7 @@ use Rattle.tail_outside.specs.Shown.{SinkShown}
 use Rattle.tail_text.specs.declared.refusal.Refusal.{Refusal}
 use Rattle.plan_report.specs.Refused.{refusal_line}
 use Rattle.run_frame.specs.Answer.{IsStopped, IsUnlessStopped}
-use Rattle.run_frame.specs.Reading.{AreGiven, IsHeld, OfHeld}
+use Rattle.run_frame.specs.TableFiles.{AreGiven, IsHeld, OfHeld}
 
 -- what is held is refused, and the first refusal was printed
 pub record PrintsRefusal {X : Type 0} (refuses : X → Refusal → Type 0) (before after : SinkShown) (x : X) : Type 0 where

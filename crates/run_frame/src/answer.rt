@@ -1,4 +1,7 @@
 //! What a run answers.
+//!
+//! All but what was found is the same for every program. What a program finds tells by the trait `Finding` its lines and
+//! its status, so printing and the promises of a run are written once.
 
 ghost use Rattle.std.specs.Prelude.{◌≡◌, ◌≤◌, ℕ, false, List, OnErr, OnOk, IsErrOf};
 ghost use Rattle.tail_outside.specs.Outside.{PieceHasFailed, Takes, TakesFront};

@@ -5,15 +5,15 @@
 mod answer;
 mod printing;
 mod process;
-mod reading;
 mod status;
+mod table_files;
 mod tables;
 mod words;
 
 pub use answer::{Answer, Finding};
 pub use printing::print;
 pub use process::{Process, process_of};
-pub use reading::{READ_LIMIT, read_tables};
 pub use status::{NO_MEMORY, READ_FAILED, REFUSED, Ran, Status, USAGE, WRITE_FAILED};
+pub use table_files::{READ_LIMIT, read_tables};
 pub use tables::{TableNames, Tables};
 pub use words::{tables_command, tables_in, value_of};

@@ -1,9 +1,11 @@
-//! The printing of an answer.
+//! The printing of an answer, line by line as the lines are made. Where it stops in the middle, what is printed is a front
+//! of the answer, and the status says why it stopped.
 
 ghost use Rattle.std.specs.Prelude.{◌≡◌, ◌≤◌, false, IfOk, OnErr, OnOk, IsErrOf};
 ghost use Rattle.tail_outside.specs.Outside.{PieceHasFailed, Takes, TakesFront};
 ghost use Rattle.plan_report.specs.Lines.{text_of};
-ghost use Rattle.run_frame.specs.Answer.{IsPrintable, IsPrinted, lines_of, status_of};
+ghost use Rattle.run_frame.specs.inside.Answer.{IsPrintable, IsPrinted, status_of};
+ghost use Rattle.run_frame.specs.Answer.{lines_of};
 
 use crate::{Answer, Finding, NO_MEMORY, READ_FAILED, REFUSED, Status, USAGE, WRITE_FAILED};
 use plan_report::{ReportFail, refusal_line, write_lines};

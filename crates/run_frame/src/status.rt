@@ -1,4 +1,4 @@
-//! How a run ends.
+//! How a run ends: each status has one meaning, which is promised in `specs/Promise.antt`.
 
 /// How a run ended, as the exit status of its process: 0 or 1 with what it found, 4 at a limit of the search, and else
 /// for one of the reasons below.
@@ -23,6 +23,8 @@ pub const NO_MEMORY: Status = Status(7);
 /// The status of a run, and the files as they stand.
 #[derive(Drop)]
 pub struct Ran<F> {
+    /// How it ended.
     pub status: Status,
+    /// The files that were handed in.
     pub files: F,
 }

@@ -5,16 +5,22 @@ use std::marker::Model;
 /// The names of the three tables, as the words give them.
 #[derive(Clone, Copy, PartialEq, Eq, Debug)]
 pub struct TableNames<'a> {
+    /// The file of the timetable.
     pub timetable: &'a str,
+    /// The file of the fleet.
     pub fleet: &'a str,
+    /// The file of the rules.
     pub rules: &'a str,
 }
 
 /// The bytes of the three tables.
 #[derive(Debug, Drop)]
 pub struct Tables {
+    /// A CSV table of activities.
     pub timetable: Vec<u8>,
+    /// A CSV table of aircraft.
     pub fleet: Vec<u8>,
+    /// A TOML text.
     pub rules: Vec<u8>,
 }
 

@@ -5,7 +5,7 @@
 
 ghost use Rattle.std.specs.Prelude.{◌≡◌, IfOk, option_map};
 ghost use Rattle.clap.specs.Words.{app_of, first_of, found_of, rows_of};
-ghost use Rattle.run_frame.specs.Reading.{names_seen};
+ghost use Rattle.run_frame.specs.inside.TableFiles.{names_seen};
 ghost use Rattle.run_frame.specs.Words.{tables_command, tables_in};
 
 use crate::TableNames;

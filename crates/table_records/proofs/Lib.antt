@@ -4,4 +4,3 @@ pub mod Rest
 pub mod RowLemmas
 pub mod TextLemmas
 pub mod ListLemmas
-pub mod WordLemmas

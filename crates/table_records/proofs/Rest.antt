@@ -1,7 +1,7 @@
 -- What one read of a record takes from the records that are left.
 use Rattle.std.proofs.Common.{◌≡◌, ◌∙◌, ◌+◌, ◌<◌, ◌≤◌, ℕ, zero, suc, Bool, true, false, List, [], ◌∷◌, ◌++◌, Option, Some, None, length, refl, ap, inl, arith, add-one, if◌then◌else◌, ◌==◌, ◌&&◌}
 use Rattle.csv.specs.Machine.{Read, next_record, step, in_field, start_field, start_record, is_end, ends_at_end, ends_with, after_end, is_byte, fields_after, field_after}
-use Rattle.csv.specs.Reading.{default_config, records_from, records_next, Reached, ReadRecord, source_of}
+use Rattle.csv.specs.Reading.{default_config, records_from, records_next, Reached, ReadRecord, source_of, Ready, is_flexible, reader_trim, took_first}
 use Rattle.csv.specs.declared.parser.Config.{Config}
 use Rattle.csv.specs.declared.parser.Terminator.{Terminator}
 use Rattle.csv.specs.declared.parser.Terminator.TheVariants as term
@@ -10,11 +10,10 @@ use Rattle.csv.specs.declared.parser.State.TheVariants as st
 use Rattle.csv.specs.declared.parser.Action.{Action}
 use Rattle.csv.specs.declared.reader.Reader.{Reader}
 use Rattle.csv.proofs.ReadFacts.{rows-more, rows-end}
-use Rattle.csv.specs.Reading.{Ready, is_flexible, reader_trim, took_first}
 use Rattle.std.specs.Bool.{MatchBool}
 use Rattle.csv.specs.declared.reader.Trim.TheVariants as trim
 use Rattle.std.specs.Borrow.{Bor}
-use Rattle.table_records.specs.RecordsParts.{rest_of, left_of, IsReading}
+use Rattle.table_records.specs.inside.RecordsParts.{rest_of, left_of, IsReading}
 
 -- a step that ends a record leaves the machine between two records
 abbrev Ends : State × Action → Type 0

@@ -1,32 +1,14 @@
 -- The rows of a table, record by record: what a reader has so far stands before what is left, and each turn of its loop
 -- takes one record from what is left.
-use Rattle.std.proofs.Common.{◌≡◌, ◌∙◌, ◌<◌, ℕ, ◌+◌, ◌-◌, Bool, true, false, length-append, List, [], ◌∷◌, ◌++◌, Result, Ok, Err, length, refl, arith, append_assoc, nat_lt, ◌==◌}
+use Rattle.std.proofs.Common.{◌≡◌, ◌∙◌, ◌<◌, ℕ, ◌+◌, ◌-◌, Bool, true, false, length-append, List, [], ◌∷◌, ◌++◌, Result, Ok, Err, length, refl, arith, nat_lt, ◌==◌}
 use Rattle.std.proofs.lemmas.Bool.Decides.{nat_tests}
 use Rattle.std.proofs.lemmas.List.{append-nil}
 use Rattle.tail_text.specs.Reading.{refusal_at}
 use Rattle.tail_text.specs.declared.refusal.Refusal.{Refusal}
-use Rattle.tail_text.specs.declared.refusal.Table.{Table}
 use Rattle.tail_text.specs.Checks.{must}
-use Rattle.table_records.specs.Layout.{Layout, record_of, row_then, rows_from}
-
--- rows before those of a result
-abbrev pub joined : {A : Type 0} → List A → Result (List A) Refusal → Result (List A) Refusal
-joined rows (Ok more) = Ok (rows ++ more)
-joined rows (Err refusal) = Err refusal
-
-pub joined-nil : {A : Type 0} (r : Result (List A) Refusal) → joined [] r ≡ r
-joined-nil (Ok rows) = refl
-joined-nil (Err refusal) = refl
-
-joined-row_then : {A : Type 0} (table : Table) (place : ℕ) (rows : List A) (row : A) (r : Result (List A) Refusal)
-    → joined rows (row_then table place (Ok row) r) ≡ joined (rows ++ row ∷ []) r
-joined-row_then table place rows row (Ok more) = rw append_assoc refl
-joined-row_then table place rows row (Err refusal) = refl
-
-joined-refused : {A : Type 0} (table : Table) (place code : ℕ) (rows : List A) (r : Result (List A) Refusal)
-    → joined rows (row_then table place (Err code) r) ≡ Err (refusal_at code table place)
-joined-refused table place code rows (Ok more) = refl
-joined-refused table place code rows (Err refusal) = refl
+use Rattle.tail_text.specs.declared.codes.TheConstants.{SHAPE, TOO_MANY}
+use Rattle.tail_text.specs.inside.Joined.{joined, joined-more}
+use Rattle.table_records.specs.Table.{Layout, record_of, rows_from}
 
 -- a check that lets a value through has passed
 pub must-passes : {A : Type 0} (test : Bool) (why : ℕ) (next : Result A ℕ) (x : A) → must test why next ≡ Ok x → (test ≡ true) × (next ≡ Ok x)
@@ -39,8 +21,8 @@ positive n e = grind (arith, nat_tests)
 -- a record that gives a row had room
 pub record_of-room : {A : Type 0} (layout : Layout A) (room : ℕ) (fields : List (List ℕ)) (row : A) → record_of layout room fields ≡ Ok row → 0 < room
 record_of-room layout room fields row e =
-    let counted = must-passes (length fields == length layout.header) 4 (must (nat_lt 0 room) 10 (layout.row_of fields)) row e in
-    positive room (must-passes (nat_lt 0 room) 10 (layout.row_of fields) row counted.1).0
+    let counted = must-passes (length fields == length layout.header) SHAPE (must (nat_lt 0 room) TOO_MANY (layout.row_of fields)) row e in
+    positive room (must-passes (nat_lt 0 room) TOO_MANY (layout.row_of fields) row counted.1).0
 
 -- the turns of the loop that reads a table, over what all its records give
 module _ {A : Type 0} (layout : Layout A) (all : Result (List A) Refusal) (rows : List A) (left : List (List (List ℕ)))
@@ -52,8 +34,7 @@ module _ {A : Type 0} (layout : Layout A) (all : Result (List A) Refusal) (rows 
   pub turn-bad : (fields : List (List ℕ)) (more : List (List (List ℕ))) (code : ℕ) → left ≡ fields ∷ more
       → record_of layout (layout.limit - length rows) fields ≡ Err code → all ≡ Err (refusal_at code layout.table (length rows + 2))
   unfolding rows_from
-  turn-bad fields more code e bad =
-      known ∙ rw (e, bad) (joined-refused layout.table (length rows + 2) code rows (rows_from layout (length rows + 2 + 1) (layout.limit - length rows - 1) more))
+  turn-bad fields more code e bad = known ∙ rw (e, bad) refl
 
   pub turn-good : (fields : List (List ℕ)) (more : List (List (List ℕ))) (row : A) → left ≡ fields ∷ more
       → record_of layout (layout.limit - length rows) fields ≡ Ok row
@@ -63,4 +44,4 @@ module _ {A : Type 0} (layout : Layout A) (all : Result (List A) Refusal) (rows 
       let longer : length (rows ++ row ∷ []) ≡ length rows + 1 = omega (arith, length-append rows (row ∷ [])) in
       let place : length rows + 1 + 2 ≡ length rows + 2 + 1 = omega arith in
       let room : layout.limit - (length rows + 1) ≡ layout.limit - length rows - 1 = omega arith in
-      known ∙ rw (e, good, longer, place, room) (joined-row_then layout.table (length rows + 2) rows row (rows_from layout (length rows + 2 + 1) (layout.limit - length rows - 1) more))
+      known ∙ rw (e, good, longer, place, room) (joined-more rows row (rows_from layout (length rows + 2 + 1) (layout.limit - length rows - 1) more))

@@ -1,9 +1,7 @@
 pub mod Fields
-pub mod Layout
 pub mod Lists
 pub mod NameLists
-pub mod NoRow
 pub mod Records
-pub mod RecordsParts
+pub mod Table
 pub mod Values
-pub mod WordsParts
+pub mod inside

@@ -4,19 +4,20 @@ use Rattle.tail_text.specs.Checks.{look, or_code}
 use Rattle.tail_text.specs.NameText.{name_of}
 use Rattle.tail_text.specs.Number.{number_of}
 use Rattle.tail_text.specs.Stamp.{stamp_of}
+use Rattle.tail_text.specs.declared.codes.TheConstants.{NAME, NUMBER, STAMP}
 
--- a name, or else code 5
+-- a name
 abbrev pub name_in : List ℕ → Result (List ℕ) ℕ
-name_in field = or_code 5 (name_of field)
+name_in field = or_code NAME (name_of field)
 
--- none where the field is empty, and otherwise a name, or else code 5
+-- none where the field is empty, and otherwise a name
 abbrev pub optional_name_in : List ℕ → Result (Option (List ℕ)) ℕ
 optional_name_in field = if length field == 0 then Ok None else look (name_in field) (λ name. Ok (Some name))
 
--- a moment in minutes since 1970-01-01T00:00 UTC, or else code 6
+-- a moment in minutes since 1970-01-01T00:00 UTC
 abbrev pub stamp_in : List ℕ → Result ℤ ℕ
-stamp_in field = or_code 6 (stamp_of field)
+stamp_in field = or_code STAMP (stamp_of field)
 
--- a number of at most so much, or else code 9
+-- a number of at most so much
 abbrev pub number_in : ℕ → List ℕ → Result ℕ ℕ
-number_in most field = or_code 9 (number_of most field)
+number_in most field = or_code NUMBER (number_of most field)

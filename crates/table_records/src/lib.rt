@@ -7,13 +7,12 @@ mod name_lists;
 mod records;
 mod table;
 mod values;
-mod words;
 
 pub use fields::Fields;
-pub use lists::{ITEM_LIMIT, Item, list_of};
-pub use name_lists::{NAME_LIMIT, names};
+pub use lists::{Item, list_of};
+pub use name_lists::names;
 pub use records::Records;
-pub use table::{NoRow, Row, SIZE_LIMIT, read_table};
+pub use table::{NoRow, Row, read_table};
 pub use values::{name_in, number_in, optional_name_in, stamp_in};
 
 #[cfg(test)]

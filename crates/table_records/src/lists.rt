@@ -1,16 +1,15 @@
 //! Lists of items in one field, whatever the items are.
 
 ghost use Rattle.std.specs.Prelude.{◌≡◌, ◌≤◌, ℕ, List, Result, length, All, IfOk};
-ghost use Rattle.table_records.specs.Lists.{items_of, list_of, words_of};
-ghost use Rattle.table_records.specs.NoRow.{Judges};
-ghost use Rattle.table_records.specs.declared.lists.TheConstants.{ITEM_LIMIT};
+ghost use Rattle.table_records.specs.Lists.{items_of, list_of};
+ghost use Rattle.table_records.specs.inside.NoRow.{Judges};
+ghost use Rattle.tail_book.specs.declared.limits.TheConstants.{ITEM_LIMIT};
+ghost use Rattle.tail_text.specs.Parts.{parts_of, space};
 
 use crate::NoRow;
-use crate::words::Words;
 use std::alloc::Global;
-
-/// The most items that one field may list.
-pub const ITEM_LIMIT: usize = 20;
+use tail_book::limits::ITEM_LIMIT;
+use tail_text::{Parts, codes};
 
 /// The items of one kind of list.
 pub trait Item: Drop {
@@ -25,8 +24,8 @@ pub trait Item: Drop {
         ensures sound { IfOk result holds };
 }
 
-/// The items that a field lists, each two with one space between them. The code of the first bad one, and code 10
-/// where all are good and more than 20.
+/// The items that a field lists, each two with one space between them. The code of the first bad one, and `TOO_MANY` where
+/// all are good and more than one field may list.
 pub fn list_of<T: Item>(alloc: Global, field: &[u8]) -> Result<Vec<T>, NoRow>
     ensures value { Judges (λ list. list.items) (list_of T.item_of field.now) result }
     ensures each { IfOk result (λ list. All T.holds list.items) }
@@ -38,17 +37,17 @@ pub fn list_of<T: Item>(alloc: Global, field: &[u8]) -> Result<Vec<T>, NoRow>
     items_of(alloc, field)
 }
 
-// The words of a field as items. An item too many is kept back, since a bad one may follow it.
+// The parts of a field as items. An item too many is kept back, since a bad one may follow it.
 fn items_of<T: Item>(alloc: Global, field: &[u8]) -> Result<Vec<T>, NoRow>
-    ensures value { Judges (λ list. list.items) (items_of T.item_of (words_of field.now)) result }
+    ensures value { Judges (λ list. list.items) (items_of T.item_of (parts_of space field.now)) result }
     ensures each { IfOk result (λ list. All T.holds list.items) }
     ensures few { IfOk result (λ list. length list.items ≤ ITEM_LIMIT) }
 {
-    let mut words = Words::new(field);
+    let mut parts = Parts::new(field, b' ');
     let mut list = Vec::new(alloc);
     let mut too_many = false;
-    while let Some(word) = words.take() {
-        let item = match T::item_of(word) {
+    while let Some(part) = parts.take() {
+        let item = match T::item_of(part) {
             Ok(item) => item,
             Err(code) => return Err(NoRow::Code(code)),
         };
@@ -59,7 +58,7 @@ fn items_of<T: Item>(alloc: Global, field: &[u8]) -> Result<Vec<T>, NoRow>
         }
     }
     if too_many {
-        return Err(NoRow::Code(10));
+        return Err(NoRow::Code(codes::TOO_MANY));
     }
     Ok(list)
 }

@@ -2,24 +2,22 @@
 
 ghost use Rattle.std.specs.Prelude.{◌≡◌, true, IfOk};
 ghost use Rattle.tail_book.specs.Name.{is_name};
-ghost use Rattle.table_records.specs.NameLists.{AreNames, names_of};
-ghost use Rattle.table_records.specs.NoRow.{Judges};
+ghost use Rattle.table_records.specs.inside.NameLists.{AreNames};
+ghost use Rattle.table_records.specs.NameLists.{names_of};
+ghost use Rattle.table_records.specs.inside.NoRow.{Judges};
 ghost use Rattle.table_records.specs.Values as values;
-ghost use Rattle.table_records.specs.declared.name_lists.TheConstants.{NAME_LIMIT};
+ghost use Rattle.tail_book.specs.declared.limits.TheConstants.{ITEM_LIMIT};
 
-use crate::lists::{ITEM_LIMIT, Item, list_of};
+use crate::lists::{Item, list_of};
 use crate::{NoRow, name_in};
 use std::alloc::Global;
 use tail_book::Name;
 
-/// The most names that one field may list.
-pub const NAME_LIMIT: usize = ITEM_LIMIT;
-
-/// The names that a field lists, each two with one space between them. Code 5 where one is bad, and code 10 where all
-/// are good and more than 20.
+/// The names that a field lists, each two with one space between them. Code `NAME` where one is bad, and
+/// `TOO_MANY` where all are good and more than one field may list.
 pub fn names(alloc: Global, field: &[u8]) -> Result<Vec<Name>, NoRow>
     ensures value { Judges (λ names. names.items) (names_of field.now) result }
-    ensures grammar { IfOk result (λ names. AreNames NAME_LIMIT names.items) }
+    ensures grammar { IfOk result (λ names. AreNames ITEM_LIMIT names.items) }
 {
     list_of(alloc, field)
 }

@@ -4,7 +4,7 @@ ghost use Rattle.std.specs.Prelude.{◌≡◌, ◌∷◌, [], IfOk};
 ghost use Rattle.std.specs.Bool.{MatchBool};
 ghost use Rattle.csv.specs.Records.{fields_of};
 ghost use Rattle.table_records.specs.Records.{records_of};
-ghost use Rattle.table_records.specs.RecordsParts.{left_of, IsReading};
+ghost use Rattle.table_records.specs.inside.RecordsParts.{left_of, IsReading};
 
 use crate::Fields;
 use csv::{ByteRecord, Reader, ReaderBuilder};
@@ -21,7 +21,7 @@ pub struct Records<'a> {
 
 impl<'a> Model for Records<'a> {
     ghost use Rattle.std.specs.Prelude.{ℕ, List};
-    ghost use Rattle.table_records.specs.RecordsParts.{left_unless, IsSound};
+    ghost use Rattle.table_records.specs.inside.RecordsParts.{left_unless, IsSound};
 
     ghost Value = { List (List (List ℕ)) };
 

@@ -5,19 +5,17 @@
 
 ghost use Rattle.std.specs.Str.{is_utf8};
 ghost use Rattle.std.specs.Prelude.{◌≡◌, ◌-◌, ◌≤◌, length, true, IfOk};
-ghost use Rattle.tail_text.specs.Reading.{Answers, refusal_at};
+ghost use Rattle.tail_text.specs.inside.Reading.{Answers};
+ghost use Rattle.tail_text.specs.Reading.{refusal_at};
 ghost use Rattle.tail_text.specs.declared.refusal.Stopped.TheVariants.{Refused};
 ghost use Rattle.table_records.specs.Fields.{are_same};
-ghost use Rattle.table_records.specs.Layout.{Layout, is_headed, record_of, rows_from, rows_of, table_of, under};
-ghost use Rattle.table_records.specs.NoRow.{Judges};
+ghost use Rattle.table_records.specs.Table.{Layout, is_headed, record_of, rows_from, rows_of, table_of, under};
+ghost use Rattle.table_records.specs.inside.NoRow.{Judges};
 
 use crate::{Fields, Records};
 use std::alloc::Global;
 use tail_book::Memory;
-use tail_text::{Refusal, Stopped, Table};
-
-/// The most bytes that a table may have.
-pub const SIZE_LIMIT: usize = 16_777_216;
+use tail_text::{Refusal, SIZE_LIMIT, Stopped, Table, codes};
 
 /// Why a record gives no row.
 #[derive(Clone, Copy, PartialEq, Eq, Debug)]
@@ -70,10 +68,10 @@ pub fn read_table<R: Row>(alloc: Global, bytes: &[u8]) -> Result<Vec<R>, Stopped
     ensures few { IfOk result (λ rows. length rows.items ≤ R.layout.limit) }
 {
     if bytes.len() > SIZE_LIMIT {
-        return Err(refused::<R>(1, 0));
+        return Err(refused::<R>(codes::TOO_BIG, 0));
     }
     if !is_utf8(bytes) {
-        return Err(refused::<R>(2, 0));
+        return Err(refused::<R>(codes::NOT_UTF8, 0));
     }
     let mut records = Records::new(alloc, bytes);
     rows_of(alloc, &mut records)
@@ -102,7 +100,7 @@ fn rows_of<R: Row>(alloc: Global, records: &mut Records<'_>) -> Result<Vec<R>, S
     let mut fields = Fields::new(alloc);
     let headed = takes_header::<R>(records, &mut fields)?;
     if !headed {
-        return Err(refused::<R>(3, 1));
+        return Err(refused::<R>(codes::HEADER, 1));
     }
     rows_from(alloc, records, &mut fields)
 }
@@ -145,10 +143,10 @@ fn record_of<R: Row>(alloc: Global, room: usize, fields: &Fields) -> Result<R, N
     ensures { Judges (λ row. row) (record_of R.layout room fields.now) result }
 {
     if fields.len() != R::width() {
-        return Err(NoRow::Code(4));
+        return Err(NoRow::Code(codes::SHAPE));
     }
     if room == 0 {
-        return Err(NoRow::Code(10));
+        return Err(NoRow::Code(codes::TOO_MANY));
     }
     R::row_of(alloc, fields)
 }

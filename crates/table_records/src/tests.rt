@@ -5,12 +5,11 @@ ghost use Rattle.tail_text.specs.declared.refusal.Table.TheVariants.{Fleet};
 ghost use Rattle.table_records.specs.Fields.{field_at};
 
 use crate::{
-    Fields, NoRow, Records, Row, SIZE_LIMIT, name_in, names, number_in, optional_name_in,
-    read_table, stamp_in,
+    Fields, NoRow, Records, Row, name_in, names, number_in, optional_name_in, read_table, stamp_in,
 };
 use std::alloc::Global;
 use std::test::Fail;
-use tail_text::{Refusal, Stopped, Table};
+use tail_text::{Refusal, SIZE_LIMIT, Stopped, Table};
 
 // A table of the fields `name` and `note` with at most two records: how long each name is, and code 5 for an empty one.
 #[derive(Clone, Copy, PartialEq, Eq, Debug)]

@@ -2,24 +2,24 @@
 
 ghost use Rattle.std.specs.Prelude.{◌≡◌, ◌≤◌, true, IfOk, IfSome};
 ghost use Rattle.tail_book.specs.Name.{is_name};
-ghost use Rattle.tail_book.specs.Sound.{IsMoment};
+ghost use Rattle.tail_book.specs.inside.Sound.{IsMoment};
 ghost use Rattle.table_records.specs.Values.{name_in, number_in, optional_name_in, stamp_in};
 
 use tail_book::Name;
-use tail_text::{name, number, stamp};
+use tail_text::{codes, name, number, stamp};
 
-/// The name that a field holds, or code 5.
+/// The name that a field holds, or code `NAME`.
 pub fn name_in(field: &[u8]) -> Result<Name, u8>
     ensures value { result ≡ name_in field.now }
     ensures grammar { IfOk result (λ name. is_name name ≡ true) }
 {
     match name(field) {
         Ok(name) => Ok(name),
-        Err(_) => Err(5),
+        Err(_) => Err(codes::NAME),
     }
 }
 
-/// The name that a field holds, none where it is empty, or code 5.
+/// The name that a field holds, none where it is empty, or code `NAME`.
 pub fn optional_name_in(field: &[u8]) -> Result<Option<Name>, u8>
     ensures value { result ≡ optional_name_in field.now }
     ensures grammar { IfOk result (λ found. IfSome found (λ name. is_name name ≡ true)) }
@@ -29,28 +29,28 @@ pub fn optional_name_in(field: &[u8]) -> Result<Option<Name>, u8>
     }
     match name(field) {
         Ok(name) => Ok(Some(name)),
-        Err(_) => Err(5),
+        Err(_) => Err(codes::NAME),
     }
 }
 
-/// The moment that a field holds, in minutes since 1970-01-01T00:00 UTC, or code 6.
+/// The moment that a field holds, in minutes since 1970-01-01T00:00 UTC, or code `STAMP`.
 pub fn stamp_in(field: &[u8]) -> Result<i64, u8>
     ensures value { result ≡ stamp_in field.now }
     ensures range { IfOk result IsMoment }
 {
     match stamp(field) {
         Ok(moment) => Ok(moment),
-        Err(_) => Err(6),
+        Err(_) => Err(codes::STAMP),
     }
 }
 
-/// The number of at most `most` that a field holds, or code 9.
+/// The number of at most `most` that a field holds, or code `NUMBER`.
 pub fn number_in(field: &[u8], most: u64) -> Result<u64, u8>
     ensures value { result ≡ number_in most field.now }
     ensures range { IfOk result (λ n. n ≤ most) }
 {
     match number(field, most) {
         Ok(number) => Ok(number),
-        Err(_) => Err(9),
+        Err(_) => Err(codes::NUMBER),
     }
 }

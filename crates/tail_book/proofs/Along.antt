@@ -7,9 +7,10 @@ use Rattle.tail_book.specs.declared.place.Place.{Place}
 use Rattle.tail_book.specs.declared.place.Place.TheVariants.{Carry, After}
 use Rattle.tail_book.specs.Lookup.{carry_of}
 use Rattle.tail_book.specs.Counters.{step, WithinLimits}
-use Rattle.tail_book.specs.Route.{IsLegalFrom, IsLegalRoute, counters_from, counters_after}
-use Rattle.tail_book.specs.OneMore.{end_place}
-use Rattle.tail_book.specs.Along.{counters_along, IsLinkedFrom, IsLegalAlong}
+use Rattle.tail_book.specs.Route.{IsLegalFrom, IsLegalRoute}
+use Rattle.tail_book.specs.inside.Route.{counters_from, counters_after}
+use Rattle.tail_book.specs.inside.OneMore.{end_place}
+use Rattle.tail_book.specs.inside.Along.{counters_along, IsLinkedFrom, IsLegalAlong}
 use Rattle.tail_book.proofs.OneMore.{counters_more}
 
 pub along_step : (book : BookSeen) (k : ℕ) (route : List ℕ) (i : ℕ) → i < length route

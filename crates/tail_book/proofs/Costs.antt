@@ -15,9 +15,9 @@ use Rattle.tail_book.specs.Counters.{flown}
 use Rattle.tail_book.specs.Link.{gap}
 use Rattle.tail_book.specs.Cost.{activity_cost, connection_cost, cost_from, cost_of_routes, plan_cost}
 use Rattle.tail_book.specs.Plan.{IsLegalPlan}
-use Rattle.tail_book.specs.Bounds.{greatest_cost}
-use Rattle.tail_book.specs.Sound.{IsKind, IsTail, IsBand, IsBook}
-use Rattle.tail_book.specs.Partition.{all_flown}
+use Rattle.tail_book.specs.inside.Bounds.{greatest_cost}
+use Rattle.tail_book.specs.inside.Sound.{IsKind, IsTail, IsBand, IsBook}
+use Rattle.tail_book.specs.inside.Partition.{all_flown}
 use Rattle.tail_book.proofs.Partition.{plan_of_book, all_are_flown}
 use Rattle.tail_book.proofs.Timed.{everywhere}
 

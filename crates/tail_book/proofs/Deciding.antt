@@ -1,11 +1,10 @@
 -- The tests of legality decide their words.
-use Rattle.std.specs.Prelude.{⊤}
+use Rattle.std.specs.Prelude.{⊤, int_lt, not, ◌==◌}
 use Rattle.std.proofs.Common.{◌≡◌, ℕ, ℤ, ◌+ℤ◌, ◌≤ℤ◌, Bool, true, false, arith, List, [], ◌∷◌, refl, sym, length}
 use lib.Signed.{◌<ℤ◌}
 use Rattle.std.proofs.lemmas.Int.{ints, by_lt_z}
 use Rattle.std.proofs.lemmas.Bool.{both_ways}
 use Rattle.std.proofs.lemmas.Bool.Decides.{Decides-eqb, Decides-ltb, Decides-and, Decides-not, Decides-like, Decides-below_and}
-use Rattle.std.specs.Prelude.{int_lt, not, ◌==◌}
 use Rattle.std.specs.Bool.{Decides}
 use Rattle.tail_book.specs.Seen.{CounterSeen, BookSeen}
 use Rattle.tail_book.specs.declared.place.Place.{Place}
@@ -13,12 +12,12 @@ use Rattle.tail_book.specs.declared.place.Place.TheVariants.{Carry, After}
 use Rattle.tail_book.specs.Numbers.{contains, int_le}
 use Rattle.tail_book.specs.Lookup.{activities, aircraft, carry_of, from_port, to_port, start_of, avoided}
 use Rattle.tail_book.specs.Curfew.{is_curfewed}
-use Rattle.tail_book.specs.Allowed.{IsAllowed}
-use Rattle.tail_book.specs.Link.{port, free_from, turn_time, IsLink, IsAllowedAt}
+use Rattle.tail_book.specs.Allowed.{IsAllowed, is_permitted}
+use Rattle.tail_book.specs.Link.{port, free_from, turn_time, IsLink, IsAllowedAt, is_connected}
 use Rattle.tail_book.specs.Counters.{step, WithinLimits}
 use Rattle.tail_book.specs.Route.{IsLegalFrom, IsLegalRoute}
 use Rattle.tail_book.specs.Plan.{times_flown, route_of, IsLegalPlan}
-use Rattle.tail_book.specs.Tests.{is_permitted, is_allowed, is_allowed_at, is_connected, is_link, within_limits, is_legal_from, is_legal_route, are_legal_below, are_flown_once_below, is_legal_plan}
+use Rattle.tail_book.specs.inside.Tests.{is_allowed, is_allowed_at, is_link, within_limits, is_legal_from, is_legal_route, are_legal_below, are_flown_once_below, is_legal_plan}
 
 pub always : Decides true ⊤
 always = ((λ h. tt), (λ h. refl))

@@ -11,8 +11,8 @@ use Rattle.tail_book.specs.declared.flown.Flown.TheVariants.{Never, Once, More}
 use Rattle.tail_book.specs.declared.place.Place.TheVariants.{Carry}
 use Rattle.tail_book.specs.Numbers.{contains}
 use Rattle.tail_book.specs.Plan.{times_flown, route_of}
-use Rattle.tail_book.specs.Rising.{IsRisingFrom}
-use Rattle.tail_book.specs.Flown.{flown_of_count, flown_by, IsCount, flown_one_more, is_flown_once, IsInOneRoute, least_not_once, IsLeastNotOnce}
+use Rattle.tail_book.specs.inside.Rising.{IsRisingFrom}
+use Rattle.tail_book.specs.inside.Flown.{flown_of_count, flown_by, IsCount, flown_one_more, is_flown_once, IsInOneRoute, least_not_once, IsLeastNotOnce}
 use Rattle.tail_book.proofs.FlownOnce.{times_flown-cons, contains_counts, contained_from_count, flown_somewhere, one_flier, someone_flies}
 use Rattle.tail_book.proofs.RisingLists.{rising_once}
 

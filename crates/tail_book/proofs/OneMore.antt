@@ -1,18 +1,20 @@
 -- A route with one activity more at its end, by induction on the route from any place on.
 use Rattle.std.proofs.Common.{◌≡◌, ℕ, ℤ, ◌+◌, ◌<◌, arith, List, [], ◌∷◌, ◌++◌, refl}
 use Rattle.std.specs.Prelude.{◌↔◌}
-use Rattle.tail_book.specs.Seen.{BookSeen, CostTableSeen}
+use Rattle.tail_book.specs.Seen.{BookSeen}
+use Rattle.tail_book.specs.inside.Seen.{CostTableSeen}
 use Rattle.tail_book.specs.declared.place.Place.{Place}
 use Rattle.tail_book.specs.declared.place.Place.TheVariants.{Carry, After}
 use Rattle.tail_book.specs.Lookup.{activities, carry_of}
 use Rattle.tail_book.specs.Link.{IsLink}
 use Rattle.tail_book.specs.Counters.{step, WithinLimits}
-use Rattle.tail_book.specs.Route.{IsLegalFrom, IsLegalRoute, counters_from, place_after}
+use Rattle.tail_book.specs.Route.{IsLegalFrom, IsLegalRoute}
+use Rattle.tail_book.specs.inside.Route.{counters_from, place_after}
 use Rattle.tail_book.specs.Cost.{activity_cost, connection_cost, cost_from}
-use Rattle.tail_book.specs.CostTable.{activity_cost_in, connection_cost_in, cost_from_in}
-use Rattle.tail_book.specs.Place.{IsBefore}
-use Rattle.tail_book.specs.Rising.{IsRisingFrom}
-use Rattle.tail_book.specs.OneMore.{GoesOnWith}
+use Rattle.tail_book.specs.inside.CostTable.{activity_cost_in, connection_cost_in, cost_from_in}
+use Rattle.tail_book.specs.inside.Place.{IsBefore}
+use Rattle.tail_book.specs.inside.Rising.{IsRisingFrom}
+use Rattle.tail_book.specs.inside.OneMore.{GoesOnWith}
 
 pub place_more : (x : Place) (route : List ℕ) (b : ℕ) → place_after x (route ++ b ∷ []) ≡ After b
 place_more x [] b = refl

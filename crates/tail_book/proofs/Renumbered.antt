@@ -1,7 +1,6 @@
 -- Each rule reads an activity's record alone: what it says of two activities it says in the book that has just these two.
-use Rattle.std.specs.Prelude.{⊤}
+use Rattle.std.specs.Prelude.{⊤, ◌↔◌, IsTrue}
 use Rattle.std.proofs.Common.{◌≡◌, ℕ, ℤ, ◌+◌, ◌+ℤ◌, ◌≤ℤ◌, ◌<◌, arith, List, [], ◌∷◌, length, get_or, false, refl, ap, ap₂, sym, subst, ◌∙◌}
-use Rattle.std.specs.Prelude.{◌↔◌, IsTrue}
 use Rattle.std.specs.List.{list_all}
 use Rattle.tail_book.specs.Seen.{ActivitySeen, TailSeen, RulesSeen, BookSeen}
 use Rattle.tail_book.specs.declared.place.Place.{Place}
@@ -12,9 +11,10 @@ use Rattle.tail_book.specs.Curfew.{covers_type, is_curfewed}
 use Rattle.tail_book.specs.Allowed.{IsAllowed}
 use Rattle.tail_book.specs.Link.{port, free_from, turn_time, IsLink}
 use Rattle.tail_book.specs.Counters.{step, WithinLimits}
-use Rattle.tail_book.specs.Route.{IsLegalFrom, IsLegalRoute, counters_from, counters_after}
+use Rattle.tail_book.specs.Route.{IsLegalFrom, IsLegalRoute}
+use Rattle.tail_book.specs.inside.Route.{counters_from, counters_after}
 use Rattle.tail_book.specs.Cost.{activity_cost, connection_cost, cost_from, route_cost}
-use Rattle.tail_book.specs.Renumbered.{HaveSameFleet, IsSameActivity, AreSameActivities}
+use Rattle.tail_book.specs.inside.Renumbered.{HaveSameFleet, IsSameActivity, AreSameActivities}
 
 same_again : (book other : BookSeen) (a b : ℕ) → IsSameActivity book other a b → IsSameActivity other book b a
 same_again book other a b same = record { of_book = same.of_other; of_other = same.of_book; alike = sym same.alike }

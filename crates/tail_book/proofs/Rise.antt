@@ -9,8 +9,8 @@ use Rattle.tail_book.specs.declared.place.Place.TheVariants.{Carry, After}
 use Rattle.tail_book.specs.Lookup.{activities}
 use Rattle.tail_book.specs.Link.{IsLink, turn_time}
 use Rattle.tail_book.specs.Route.{IsLegalFrom}
-use Rattle.tail_book.specs.Place.{IsPlaceOf, IsBefore}
-use Rattle.tail_book.specs.Rising.{IsRisingFrom}
+use Rattle.tail_book.specs.inside.Place.{IsPlaceOf, IsBefore}
+use Rattle.tail_book.specs.inside.Rising.{IsRisingFrom}
 use Rattle.tail_book.proofs.Timed.{IsTimed}
 
 chosen : (b : Bool) (z w : ℤ) → pos 0 ≤ℤ z → pos 0 ≤ℤ (if b then int_max z w else pos 0)

@@ -6,7 +6,7 @@ use Rattle.std.specs.Prelude.{count_by, nat_eq}
 use Rattle.tail_book.specs.declared.place.Place.{Place}
 use Rattle.tail_book.specs.declared.place.Place.TheVariants.{After}
 use Rattle.tail_book.specs.Numbers.{contains}
-use Rattle.tail_book.specs.Rising.{IsRisingFrom}
+use Rattle.tail_book.specs.inside.Rising.{IsRisingFrom}
 use Rattle.tail_book.proofs.Sums.{count_here, count_other}
 use Rattle.tail_book.proofs.FlownOnce.{contains_counts, contained_from_count}
 

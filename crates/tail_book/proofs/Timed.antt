@@ -8,7 +8,8 @@ use Rattle.std.specs.Ordering.{nat_cmp, int_eq, is_lt}
 use Rattle.std.specs.Cmp.Lexicographic.{slice_cmp}
 use Rattle.tail_book.specs.Seen.{ActivitySeen, AirportSeen, BookSeen}
 use Rattle.tail_book.specs.Lookup.{activities, activity_of, start_of, end_of, type_turn, port_turn, no_activity, no_type, no_airport}
-use Rattle.tail_book.specs.Sound.{IsKind, IsAirport, IsBook, comes_before}
+use Rattle.tail_book.specs.inside.Sound.{IsKind, IsAirport, IsBook}
+use Rattle.tail_book.specs.ActivityOrder.{comes_before}
 
 pub record IsTimed (book : BookSeen) : Type 0 where
   pub ordered : (a b : ℕ) → a ≤ b → b < activities book → start_of book a ≤ℤ start_of book b

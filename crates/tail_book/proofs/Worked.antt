@@ -7,14 +7,15 @@ use Rattle.tail_book.specs.declared.rules.AircraftType.{AircraftType}
 use Rattle.tail_book.specs.declared.rules.Band.{Band}
 use Rattle.tail_book.specs.declared.rules.CounterKind.{CounterKind}
 use Rattle.tail_book.specs.declared.rules.CounterKind.TheVariants.{Minutes, Landings, Days}
-use Rattle.tail_book.specs.Along.{counters_along}
+use Rattle.tail_book.specs.inside.Along.{counters_along}
 use Rattle.tail_book.specs.Counters.{step}
 use Rattle.tail_book.specs.Cost.{plan_cost}
-use Rattle.tail_book.specs.CostTable.{activity_cost_in, box_end, costs_of, plan_cost_in}
+use Rattle.tail_book.specs.inside.CostTable.{activity_cost_in, box_end, costs_of, plan_cost_in}
 use Rattle.tail_book.specs.Curfew.{is_curfewed}
-use Rattle.tail_book.specs.Link.{gap}
-use Rattle.tail_book.specs.Route.{counters_after}
-use Rattle.tail_book.specs.Tests.{is_allowed, is_connected, is_legal_plan, is_legal_route, is_link, is_permitted}
+use Rattle.tail_book.specs.Link.{gap, is_connected}
+use Rattle.tail_book.specs.inside.Route.{counters_after}
+use Rattle.tail_book.specs.inside.Tests.{is_allowed, is_legal_plan, is_legal_route, is_link}
+use Rattle.tail_book.specs.Allowed.{is_permitted}
 
 -- a minute of 2025-03-03 UTC
 abbrev at : ℕ → ℤ

@@ -17,17 +17,3 @@ IsLegalFrom book k x values (b ∷ rest) =
 -- the route is legal for aircraft k; the empty one always is
 abbrev pub IsLegalRoute : BookSeen → ℕ → List ℕ → Type 0
 IsLegalRoute book k route = IsLegalFrom book k Carry (carry_of book k) route
-
--- the counters at the end of a route from a place on
-abbrev pub counters_from : BookSeen → ℕ → Place → List ℤ → List ℕ → List ℤ
-counters_from book k x values [] = values
-counters_from book k x values (b ∷ rest) = counters_from book k (After b) (step book k x b values) rest
-
--- the counters of aircraft k after a route
-abbrev pub counters_after : BookSeen → ℕ → List ℕ → List ℤ
-counters_after book k route = counters_from book k Carry (carry_of book k) route
-
--- the place at the end of a route from a place on
-abbrev pub place_after : Place → List ℕ → Place
-place_after x [] = x
-place_after x (b ∷ rest) = place_after (After b) rest

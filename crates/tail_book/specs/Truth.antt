@@ -1,9 +1,8 @@
 -- When a claim, and what a planner answers, is true of a book, by the costs of plans that are meant.
 use Rattle.std.specs.Prelude.{◌≡◌, ℕ, ◌≤◌, ◌<◌, ⊤, List, None, Some}
-use Rattle.tail_book.specs.Seen.{BookSeen, CostTableSeen}
+use Rattle.tail_book.specs.Seen.{BookSeen}
 use Rattle.tail_book.specs.Plan.{IsLegalPlan}
 use Rattle.tail_book.specs.Cost.{plan_cost}
-use Rattle.tail_book.specs.CostTable.{plan_cost_in}
 use Rattle.tail_book.specs.declared.claim.Claim.{Claim}
 use Rattle.tail_book.specs.declared.claim.Claim.TheVariants.{Optimal, Infeasible, Limit}
 use Rattle.tail_book.specs.declared.outcome.Outcome.{Outcome}
@@ -45,7 +44,7 @@ claim_of outcome.Infeasible = Infeasible
 claim_of (outcome.Between plan low high nodes) = Limit low (Some high)
 claim_of (outcome.Above low nodes) = Limit low None
 
--- the plan of an answer, where it has one, is legal and has the cost that stands beside it
+-- where an answer has a plan, that plan is legal, and costs what the answer says
 abbrev pub HasItsPlanBy : Costs → BookSeen → Outcome → Type 0
 HasItsPlanBy costs book (outcome.Optimal plan cost) = IsPlanBy costs book cost plan
 HasItsPlanBy costs book outcome.Infeasible = ⊤
@@ -57,28 +56,8 @@ pub record IsTrueOutcomeBy (costs : Costs) (book : BookSeen) (answer : Outcome) 
   pub claim : IsTrueClaimBy costs book (claim_of answer)
   pub plan : HasItsPlanBy costs book answer
 
--- the same by what the book itself says that plans cost
-abbrev pub CostsAtLeast : BookSeen → ℕ → Type 0
-CostsAtLeast book = CostsAtLeastBy (plan_cost book) book
-
 abbrev pub IsPlanOf : BookSeen → ℕ → List (List ℕ) → Type 0
 IsPlanOf book = IsPlanBy (plan_cost book) book
 
-abbrev pub IsTrueClaim : BookSeen → Claim → Type 0
-IsTrueClaim book = IsTrueClaimBy (plan_cost book) book
-
 abbrev pub IsTrueOutcome : BookSeen → Outcome → Type 0
 IsTrueOutcome book = IsTrueOutcomeBy (plan_cost book) book
-
--- and by what a table for the book says
-abbrev pub CostsAtLeastIn : CostTableSeen → BookSeen → ℕ → Type 0
-CostsAtLeastIn table book = CostsAtLeastBy (plan_cost_in table book) book
-
-abbrev pub IsPlanIn : CostTableSeen → BookSeen → ℕ → List (List ℕ) → Type 0
-IsPlanIn table book = IsPlanBy (plan_cost_in table book) book
-
-abbrev pub IsTrueClaimIn : CostTableSeen → BookSeen → Claim → Type 0
-IsTrueClaimIn table book = IsTrueClaimBy (plan_cost_in table book) book
-
-abbrev pub IsTrueOutcomeIn : CostTableSeen → BookSeen → Outcome → Type 0
-IsTrueOutcomeIn table book = IsTrueOutcomeBy (plan_cost_in table book) book

@@ -1,4 +1,4 @@
-//! What is claimed of a book.
+//! What is claimed of a book, by a planner's answer and at the end of a certificate. When it is true, `IsTrueClaim` says.
 
 /// What is claimed of a book: the cost of a cheapest legal plan, that no plan is legal, or a bound. Costs are in cost units.
 #[derive(Clone, Copy, PartialEq, Eq, Debug)]

@@ -1,33 +1,39 @@
 //! What flying costs, as a table: an entry for each aircraft and activity, and the bands of connection costs.
+//!
+//! A search is asked for any such table, of which the book's own costs are one. The two maxima bound what a legal plan
+//! costs, and so the box of duals; `IsCostTable` asks that sums of costs and duals in thousandths stay below 2^61, so that
+//! they fit 64 bits wherever they are taken. A cost is one read, and a connection's a walk over at most eight bands.
 
 ghost use Rattle.std.specs.Prelude.{◌≡◌, ◌↔◌, ◌<◌, ◌≤◌, ◌+◌, ◌*◌, ◌^◌, ◌++◌, IfOk, IfSome, IsSome, length, pos, unsigned_abs, nat_le};
 ghost use Rattle.std.specs.List.{list_all};
 ghost use Rattle.tail_book.specs.Lookup.{activities, aircraft};
 ghost use Rattle.tail_book.specs.Cost.{activity_cost, band_cost};
 ghost use Rattle.tail_book.specs.Counters.{flown};
-ghost use Rattle.tail_book.specs.CostTable.{activity_cost_in, activity_costs, box_end, costs_of, greatest_cost_in, IsCostTable};
-ghost use Rattle.tail_book.specs.SoundTests.{keeps_maxima, sums_fit};
+ghost use Rattle.tail_book.specs.inside.CostTable.{activity_cost_in, activity_costs, box_end, costs_of, greatest_cost_in, IsCostTable};
+ghost use Rattle.tail_book.specs.inside.SoundTests.{keeps_maxima, sums_fit};
 
 use crate::{Band, Book, Memory, laws};
 use std::alloc::Global;
 use std::marker::Model;
 
-/// What each of `n` activities costs each of `m` aircraft, in cost units, with that of aircraft `k` and activity `a` at
-/// `fly[k * n + a]`, the bands of connection costs, and the most that an entry and a band cost. Every table keeps these
-/// maxima, and sums of its costs in thousandths stay below 2^61. Contracts see the record of its fields.
+/// What activities and connections cost. Every table keeps its maxima. Contracts see the record of its fields.
 #[derive(Debug, Drop)]
 pub struct CostTable {
+    /// How many activities, and how many aircraft.
     pub n: usize,
     pub m: usize,
+    /// What activity `a` costs aircraft `k`, in cost units, at `k * n + a`.
     pub fly: Vec<u64>,
+    /// What a connection costs by its minutes on the ground: the first band that reaches counts.
     pub bands: Vec<Band>,
+    /// The most that an entry, and a band, cost, in cost units.
     pub fly_max: u64,
     pub band_max: u64,
 }
 
 impl Model for CostTable {
-    ghost use Rattle.tail_book.specs.Seen.{CostTableSeen};
-    ghost use Rattle.tail_book.specs.CostTable.{IsCostTable};
+    ghost use Rattle.tail_book.specs.inside.Seen.{CostTableSeen};
+    ghost use Rattle.tail_book.specs.inside.CostTable.{IsCostTable};
 
     ghost Value = { CostTableSeen };
 

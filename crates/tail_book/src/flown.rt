@@ -1,13 +1,17 @@
-//! How often routes fly an activity.
+//! How often routes fly an activity. Nobody asks how often beyond once, so three cases are enough, and no count can grow
+//! out of range.
 
 ghost use Rattle.std.specs.Prelude.{◌≡◌};
-ghost use Rattle.tail_book.specs.Flown.{flown_one_more};
+ghost use Rattle.tail_book.specs.inside.Flown.{flown_one_more};
 
 /// How often routes fly an activity: not at all, once, or more often.
 #[derive(Clone, Copy, PartialEq, Eq, Debug)]
 pub enum Flown {
+    /// In no route.
     Never,
+    /// Once in all.
     Once,
+    /// More often than once.
     More,
 }
 

@@ -1,11 +1,11 @@
 //! Laws over the definitions alone: the contract of each function is the law.
 
-ghost use Rattle.tail_book.specs.Rising.{LinksRise, LegalRoutesRise, EachIsFlownOnce};
-ghost use Rattle.tail_book.specs.Bounds.{ActivitiesCostAtMost, ConnectionsCostAtMost, LegalPlansCostAtMost};
-ghost use Rattle.tail_book.specs.Sound.{IsBook};
-ghost use Rattle.tail_book.specs.TableLaws.{OwnCostsAreForBook, OwnCostsOfActivities, OwnCostsOfConnections, OwnCostsOfRoutes, OwnCostsOfPlans, OwnCostsOfLegalPlans, OwnCostsKeepClaims, OwnCostsKeepOutcomes, LegalPlansCostAtMostIn};
-ghost use Rattle.tail_book.specs.SoundTests.{BookDecides, CostTableDecides};
-ghost use Rattle.tail_book.specs.Tests.{AllowedDecides, LinkDecides, LimitsDecide, LegalRouteDecides, LegalPlanDecides};
+ghost use Rattle.tail_book.specs.inside.Rising.{LinksRise, LegalRoutesRise, EachIsFlownOnce};
+ghost use Rattle.tail_book.specs.inside.Bounds.{ActivitiesCostAtMost, ConnectionsCostAtMost, LegalPlansCostAtMost};
+ghost use Rattle.tail_book.specs.inside.Sound.{IsBook};
+ghost use Rattle.tail_book.specs.inside.TableLaws.{OwnCostsAreForBook, OwnCostsOfActivities, OwnCostsOfConnections, OwnCostsOfRoutes, OwnCostsOfPlans, OwnCostsOfLegalPlans, OwnCostsKeepClaims, OwnCostsKeepOutcomes, LegalPlansCostAtMostIn};
+ghost use Rattle.tail_book.specs.inside.SoundTests.{BookDecides, CostTableDecides};
+ghost use Rattle.tail_book.specs.inside.Tests.{AllowedDecides, LinkDecides, LimitsDecide, LegalRouteDecides, LegalPlanDecides};
 
 mod along;
 mod bounds;

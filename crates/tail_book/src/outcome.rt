@@ -1,4 +1,4 @@
-//! What a planner answers of a book.
+//! What a planner answers of a book. When it is true of the book, `IsTrueOutcome` says. Costs and bounds are in cost units.
 
 use crate::Plan;
 

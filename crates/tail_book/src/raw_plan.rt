@@ -1,4 +1,4 @@
-//! A plan as a text says it, with names in place of numbers.
+//! A plan as a text says it, with names in place of numbers. Nothing is known of its names: an audit looks them up.
 
 use crate::Name;
 use std::marker::Model;
@@ -7,7 +7,9 @@ use std::marker::Model;
 /// Contracts see the record of its fields.
 #[derive(Debug, Drop)]
 pub struct RawLine {
+    /// The aircraft's name.
     pub tail: Name,
+    /// The ids of its activities, in the order in which it flies them.
     pub ids: Vec<Name>,
 }
 

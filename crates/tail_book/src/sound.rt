@@ -1,57 +1,23 @@
 //! Whether the parts of a book keep its limits: each test here has the name of the definition that it computes.
+//!
+//! It is what lets a program make a book without a proof about its parts. All is one pass over the lists, but for the names
+//! of one kind and the order of activities, which are compared pair by pair and need no memory.
 
 ghost use Rattle.std.specs.Prelude.{◌≡◌, ℕ, List, pos, not, bytes_eq, length, IsTrue};
 ghost use Rattle.std.specs.List.{list_all};
-ghost use Rattle.tail_book.specs.Sound.{is_none_or_below, comes_before};
-ghost use Rattle.tail_book.specs.SoundTests.{is_within, is_moment, are_below, each_pair, lasts, is_timed, names_of_book, has_short_lists, is_activity, comes_in, has_short_marks, carries_each, is_tail, is_kind, is_airport, is_curfew, is_limit, is_counter, is_band, are_kinds, are_airports, are_counters, are_curfews, are_bands, are_rules, are_activities, are_tails, is_book};
+ghost use Rattle.tail_book.specs.declared.limits.TheConstants.{VALUE_LIMIT};
+ghost use Rattle.tail_book.specs.inside.Sound.{is_none_or_below};
+ghost use Rattle.tail_book.specs.ActivityOrder.{comes_before};
+ghost use Rattle.tail_book.specs.inside.SoundTests.{is_within, is_moment, are_below, each_pair, lasts, is_timed, names_of_book, has_short_lists, is_activity, comes_in, has_short_marks, carries_each, is_tail, is_kind, is_airport, is_curfew, is_limit, is_counter, is_band, are_kinds, are_airports, are_counters, are_curfews, are_bands, are_rules, are_activities, are_tails, is_book};
 
+use crate::limits::{
+    ACTIVITY_LIMIT, AIRPORT_LIMIT, BAND_COST_LIMIT, BAND_LIMIT, BASE_LIMIT, COUNT_LIMIT,
+    COUNTER_LIMIT, CURFEW_LIMIT, DAY, FIXED_LIMIT, ITEM_LIMIT, LAST_MOMENT, OFFSET_LIMIT,
+    RATE_LIMIT, SPAN_LIMIT, STOP_LIMIT, TAIL_LIMIT, TYPE_LIMIT, VALUE_LIMIT,
+};
 use crate::{
     Activity, AircraftType, Airport, Band, Counter, CounterKind, Curfew, Name, Rules, Tail,
 };
-
-// How many of each a book has at most.
-const MOST_ACTIVITIES: usize = 4000;
-
-const MOST_TAILS: usize = 200;
-
-const MOST_KINDS: usize = 20;
-
-const MOST_AIRPORTS: usize = 200;
-
-const MOST_CURFEWS: usize = 400;
-
-const MOST_COUNTERS: usize = 6;
-
-const MOST_BANDS: usize = 8;
-
-// The longest list of types, tags, avoided airports or counters, and of a counter's bases.
-const MOST_IN_LIST: usize = 20;
-
-const MOST_BASES: usize = 200;
-
-// The last minute of 2199, counted from 1970-01-01T00:00, and the minutes of a day.
-const LAST_MOMENT: i64 = 120_968_639;
-
-const DAY: i64 = 1440;
-
-// The longest activity, the longest stop, and the most that a counter, a limit and a band reach, in minutes.
-const LONGEST_ACTIVITY: i64 = 2880;
-
-const LONGEST_STOP: i64 = 100_000;
-
-const MOST_MINUTES: i64 = 10_000_000;
-
-const MOST_DAYS: i64 = 10_000;
-
-// The farthest that local time is from UTC, in minutes.
-const MOST_OFFSET: i64 = 840;
-
-// What a minute flown, an activity beside its minutes, and a band cost at most.
-const MOST_RATE: u64 = 300;
-
-const MOST_FIXED: u64 = 100_000;
-
-const MOST_BAND_COST: u64 = 1_000_000;
 
 fn is_within(low: i64, high: i64, z: i64) -> bool
     ensures { result ≡ is_within low high z }
@@ -84,7 +50,7 @@ fn lasts(start: i64, end: i64) -> bool
     requires { IsTrue (is_moment start) }
     ensures { result ≡ lasts start end }
 {
-    start + 1 <= end && end <= start + LONGEST_ACTIVITY
+    start + 1 <= end && end <= start + SPAN_LIMIT
 }
 
 fn is_timed(a: &Activity) -> bool
@@ -106,7 +72,7 @@ fn names_of_book(rules: &Rules, aircraft: usize, a: &Activity) -> bool
 fn has_short_lists(a: &Activity) -> bool
     ensures { result ≡ has_short_lists a.now }
 {
-    a.types.len() <= MOST_IN_LIST && a.tags.len() <= MOST_IN_LIST && a.resets.len() <= MOST_IN_LIST
+    a.types.len() <= ITEM_LIMIT && a.tags.len() <= ITEM_LIMIT && a.resets.len() <= ITEM_LIMIT
 }
 
 fn is_activity(rules: &Rules, aircraft: usize, a: &Activity) -> bool
@@ -123,23 +89,21 @@ fn comes_in(rules: &Rules, t: &Tail) -> bool
     (t.kind as usize) < rules.kinds.len()
         && (t.at as usize) < rules.airports.len()
         && is_moment(t.ready)
-        && t.fixed <= MOST_FIXED
+        && t.fixed <= FIXED_LIMIT
 }
 
 fn has_short_marks(rules: &Rules, t: &Tail) -> bool
     ensures { result ≡ has_short_marks rules.now t.now }
 {
-    t.tags.len() <= MOST_IN_LIST
+    t.tags.len() <= ITEM_LIMIT
         && are_below(rules.airports.len(), &t.avoid)
-        && t.avoid.len() <= MOST_IN_LIST
+        && t.avoid.len() <= ITEM_LIMIT
 }
 
 fn are_carried(values: &[i64]) -> bool
-    ensures { result ≡ list_all (is_within (pos 0) (pos 10_000_000)) values.now }
+    ensures { result ≡ list_all (is_within (pos 0) VALUE_LIMIT) values.now }
 {
-    values
-        .iter()
-        .all(|value| is_within(0, MOST_MINUTES, *value))
+    values.iter().all(|value| is_within(0, VALUE_LIMIT, *value))
 }
 
 fn carries_each(rules: &Rules, t: &Tail) -> bool
@@ -160,14 +124,14 @@ fn is_kind(t: &AircraftType) -> bool
     ensures { result ≡ is_kind t.now }
 {
     let _ = t.name.as_bytes();
-    t.rate <= MOST_RATE && is_within(0, DAY, t.turn)
+    t.rate <= RATE_LIMIT && is_within(0, DAY, t.turn)
 }
 
 fn is_airport(p: &Airport) -> bool
     ensures { result ≡ is_airport p.now }
 {
     let _ = p.name.as_bytes();
-    is_within(-MOST_OFFSET, MOST_OFFSET, p.offset) && is_within(0, DAY, p.turn)
+    is_within(-OFFSET_LIMIT, OFFSET_LIMIT, p.offset) && is_within(0, DAY, p.turn)
 }
 
 fn is_curfew(rules: &Rules, c: &Curfew) -> bool
@@ -177,17 +141,17 @@ fn is_curfew(rules: &Rules, c: &Curfew) -> bool
         && is_within(0, DAY - 1, c.from)
         && is_within(0, DAY - 1, c.to)
         && are_below(rules.kinds.len(), &c.types)
-        && c.types.len() <= MOST_IN_LIST
+        && c.types.len() <= ITEM_LIMIT
 }
 
 fn is_limit(kind: CounterKind, limit: i64) -> bool
     ensures { result ≡ is_limit kind limit }
 {
     match kind {
-        CounterKind::Minutes => is_within(1, MOST_MINUTES, limit),
-        CounterKind::Landings => is_within(1, MOST_MINUTES, limit),
+        CounterKind::Minutes => is_within(1, VALUE_LIMIT, limit),
+        CounterKind::Landings => is_within(1, VALUE_LIMIT, limit),
         CounterKind::Days => {
-            is_within(DAY, MOST_DAYS * DAY, limit) && limit.unsigned_abs() % 1440 == 0
+            is_within(DAY, COUNT_LIMIT, limit) && limit.unsigned_abs() % 1440 == 0
         }
     }
 }
@@ -198,14 +162,14 @@ fn is_counter(rules: &Rules, c: &Counter) -> bool
     let _ = c.name.as_bytes();
     is_limit(c.kind, c.limit)
         && are_below(rules.airports.len(), &c.bases)
-        && c.bases.len() <= MOST_BASES
-        && is_within(1, LONGEST_STOP, c.stop)
+        && c.bases.len() <= BASE_LIMIT
+        && is_within(1, STOP_LIMIT, c.stop)
 }
 
 fn is_band(b: &Band) -> bool
     ensures { result ≡ is_band b.now }
 {
-    is_within(0, MOST_MINUTES, b.upto) && b.cost <= MOST_BAND_COST
+    is_within(0, VALUE_LIMIT, b.upto) && b.cost <= BAND_COST_LIMIT
 }
 
 // What has a name of its own.
@@ -311,7 +275,7 @@ fn each_kind(kinds: &[AircraftType]) -> bool
 fn are_kinds(kinds: &[AircraftType]) -> bool
     ensures { result ≡ are_kinds kinds.now }
 {
-    kinds.len() <= MOST_KINDS && each_kind(kinds) && names_differ(kinds)
+    kinds.len() <= TYPE_LIMIT && each_kind(kinds) && names_differ(kinds)
 }
 
 fn each_airport(airports: &[Airport]) -> bool
@@ -323,7 +287,7 @@ fn each_airport(airports: &[Airport]) -> bool
 fn are_airports(airports: &[Airport]) -> bool
     ensures { result ≡ are_airports airports.now }
 {
-    airports.len() <= MOST_AIRPORTS && each_airport(airports) && names_differ(airports)
+    airports.len() <= AIRPORT_LIMIT && each_airport(airports) && names_differ(airports)
 }
 
 fn each_curfew(rules: &Rules, curfews: &[Curfew]) -> bool
@@ -335,7 +299,7 @@ fn each_curfew(rules: &Rules, curfews: &[Curfew]) -> bool
 fn are_curfews(rules: &Rules) -> bool
     ensures { result ≡ are_curfews rules.now }
 {
-    rules.curfews.len() <= MOST_CURFEWS && each_curfew(rules, &rules.curfews)
+    rules.curfews.len() <= CURFEW_LIMIT && each_curfew(rules, &rules.curfews)
 }
 
 fn each_counter(rules: &Rules, counters: &[Counter]) -> bool
@@ -347,7 +311,7 @@ fn each_counter(rules: &Rules, counters: &[Counter]) -> bool
 fn are_counters(rules: &Rules) -> bool
     ensures { result ≡ are_counters rules.now }
 {
-    rules.counters.len() <= MOST_COUNTERS
+    rules.counters.len() <= COUNTER_LIMIT
         && each_counter(rules, &rules.counters)
         && names_differ(&rules.counters)
 }
@@ -361,7 +325,7 @@ fn each_band(bands: &[Band]) -> bool
 fn are_bands(bands: &[Band]) -> bool
     ensures { result ≡ are_bands bands.now }
 {
-    bands.len() <= MOST_BANDS && each_band(bands)
+    bands.len() <= BAND_LIMIT && each_band(bands)
 }
 
 fn are_rules(rules: &Rules) -> bool
@@ -385,7 +349,7 @@ fn each_activity(rules: &Rules, aircraft: usize, activities: &[Activity]) -> boo
 fn are_activities(rules: &Rules, aircraft: usize, activities: &[Activity]) -> bool
     ensures { result ≡ are_activities rules.now aircraft activities.now }
 {
-    activities.len() <= MOST_ACTIVITIES
+    activities.len() <= ACTIVITY_LIMIT
         && each_activity(rules, aircraft, activities)
         && are_ordered(activities)
         && names_differ(activities)
@@ -400,7 +364,7 @@ fn each_tail(rules: &Rules, tails: &[Tail]) -> bool
 fn are_tails(rules: &Rules, tails: &[Tail]) -> bool
     ensures { result ≡ are_tails rules.now tails.now }
 {
-    tails.len() <= MOST_TAILS && each_tail(rules, tails) && names_differ(tails)
+    tails.len() <= TAIL_LIMIT && each_tail(rules, tails) && names_differ(tails)
 }
 
 /// Whether these activities, aircraft and rules are a book.

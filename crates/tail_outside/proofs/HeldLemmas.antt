@@ -11,7 +11,7 @@ use Rattle.std.specs.List.{position_or_len, slice_get}
 use Rattle.std.specs.Option.{option_or}
 use Rattle.std.specs.Prelude.{nat_lt}
 use Rattle.std.specs.Str.{bytes_eq}
-use Rattle.tail_outside.specs.Held.{first_under}
+use Rattle.tail_outside.specs.inside.Held.{first_under}
 
 none-cond : (b : Bool) (n : ℕ) → cond b (Some n) None ≡ None → b ≡ false
 none-cond true n h = cc

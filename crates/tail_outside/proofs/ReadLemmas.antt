@@ -1,7 +1,7 @@
 -- A file read piece by piece, where its bytes are told.
 use Rattle.std.proofs.Common.{◌≡◌, ◌∙◌, ℕ, ◌+◌, ◌-◌, ◌≤◌, ◌<◌, List, [], ◌++◌, Option, Some, None, IfSome, length, take, drop, refl, ap, sym, arith, inl, inr, append_assoc, length-append, length-take-le}
 use Rattle.std.proofs.lemmas.List.{append-nil, length-take, drop-drop, take_all, take-append-drop, take-take}
-use Rattle.tail_outside.specs.Outside.{IsRead}
+use Rattle.tail_outside.specs.inside.Outside.{IsRead}
 
 -- the bytes begin with these
 abbrev pub Begins : List ℕ → List ℕ → Type 0

@@ -1,6 +1,3 @@
 pub mod Shown
 pub mod Outside
-pub mod OverFile
-pub mod Seen
-pub mod Held
-pub mod Sure
+pub mod inside

@@ -1,7 +1,7 @@
-//! The calls of one object, some of which fail by their number.
+//! The calls of one object, some of which fail by their number, so that a test can let any one of them fail.
 
 ghost use Rattle.std.specs.Prelude.{◌≡◌};
-ghost use Rattle.tail_outside.specs.Held.{calls_to_come, fails_next, one_more};
+ghost use Rattle.tail_outside.specs.inside.Held.{calls_to_come, fails_next, one_more};
 
 use std::marker::Model;
 
@@ -13,7 +13,7 @@ pub(crate) struct Calls {
 }
 
 impl Model for Calls {
-    ghost use Rattle.tail_outside.specs.Seen.{CallsSeen};
+    ghost use Rattle.tail_outside.specs.inside.Seen.{CallsSeen};
 
     ghost Value = { CallsSeen };
 

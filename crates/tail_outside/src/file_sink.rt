@@ -1,4 +1,4 @@
-//! A sink over one named file.
+//! A sink over one named file: each piece is appended there, and every other file stays as it is.
 
 ghost use Rattle.std.specs.Prelude.{◌≡◌, IsTrue};
 
@@ -7,7 +7,9 @@ use crate::{Fault, Files, Sink};
 /// A sink over one named file of some files, which it holds meanwhile. A file that isn't there yet has taken nothing.
 #[derive(Drop)]
 pub struct FileSink<'a, F: Files> {
+    /// The files, among which the sink's is one.
     pub files: F,
+    /// The name of the sink's file.
     pub name: &'a str,
     ghost lets: { IsTrue ((F.shows files).lets_write name.now) },
 }
@@ -34,8 +36,8 @@ impl<'a, F: Files> FileSink<'a, F> {
 impl<'a, F: Files> Sink for FileSink<'a, F> {
     ghost use Rattle.std.specs.Prelude.{◌≡◌, refl};
     ghost use Rattle.std.proofs.Common.{◌∙◌, ap};
-    ghost use Rattle.tail_outside.specs.OverFile.{shown_over, told_over-ceased};
-    ghost use Rattle.tail_outside.specs.Outside.{OnlyWritten, only_written_same, only_written_chains};
+    ghost use Rattle.tail_outside.specs.inside.OverFile.{shown_over, told_over-ceased};
+    ghost use Rattle.tail_outside.specs.inside.Outside.{OnlyWritten, only_written_same, only_written_chains};
 
     ghost shows = { λ s. shown_over (F.shows s.files) s.name.now };
 

@@ -1,9 +1,10 @@
-//! Files in memory, which tell their bytes.
+//! Files in memory, which tell their bytes: the files of tests and of proofs, whose calls fail where one says so.
 
 ghost use Rattle.std.specs.Prelude.{◌≡◌, ◌≤◌, ◌^◌, ◌↔◌, ◌⊎◌, ◌++◌, [], ◌∷◌, length, option_map, position, IsTrue, IsOk, IfOk, IfSome, IsErr, OnOk, OnErr, IsErrOf};
 ghost use Rattle.std.specs.Str.{bytes_eq};
-ghost use Rattle.tail_outside.specs.Held.{bytes_under, fails_next, one_more, files_at_first};
-ghost use Rattle.tail_outside.specs.Outside.{HasRisen, IsRead, SameOthers, with_piece};
+ghost use Rattle.tail_outside.specs.inside.Held.{bytes_under, fails_next, one_more, files_at_first};
+ghost use Rattle.tail_outside.specs.Outside.{HasRisen};
+ghost use Rattle.tail_outside.specs.inside.Outside.{IsRead, SameOthers, with_piece};
 
 use crate::calls::Calls;
 use crate::{Failed, Fault, Files};
@@ -14,13 +15,15 @@ use tail_book::Memory;
 /// A file in memory. Clauses see its name and its bytes as lists.
 #[derive(Debug, Drop)]
 pub struct MemFile {
+    /// The name under which it is found.
     pub name: String,
+    /// What it holds.
     pub bytes: Vec<u8>,
 }
 
 impl Model for MemFile {
     ghost use Rattle.std.specs.Prelude.{string_bytes};
-    ghost use Rattle.tail_outside.specs.Seen.{FileSeen};
+    ghost use Rattle.tail_outside.specs.inside.Seen.{FileSeen};
 
     ghost Value = { FileSeen };
 
@@ -35,8 +38,8 @@ impl MemFile {
     }
 }
 
-/// Files in memory. The calls whose numbers are listed fail, and so does a read of a file that isn't there.
-/// A write makes the file where it isn't there. Of two files with one name the first counts.
+/// Files in memory. The calls whose numbers are listed fail, and so do reads under a name that no file has.
+/// A write under such a name makes the file. Where two files are handed in under one name, it is the first that is meant.
 #[derive(Drop)]
 pub struct MemFiles {
     alloc: Global,
@@ -47,7 +50,7 @@ pub struct MemFiles {
 }
 
 impl Model for MemFiles {
-    ghost use Rattle.tail_outside.specs.Seen.{MemFilesSeen};
+    ghost use Rattle.tail_outside.specs.inside.Seen.{MemFilesSeen};
 
     ghost Value = { MemFilesSeen };
 

@@ -1,7 +1,7 @@
-//! A sink in memory, which tells its bytes.
+//! A sink in memory, which tells its bytes. A piece is taken whole or not at all.
 
 ghost use Rattle.std.specs.Prelude.{◌≡◌, ◌≤◌, ◌↔◌, ◌++◌, IsTrue, IsOk, IfOk, OnOk, OnErr, IsErrOf};
-ghost use Rattle.tail_outside.specs.Held.{fails_next, one_more, sink_at_first};
+ghost use Rattle.tail_outside.specs.inside.Held.{fails_next, one_more, sink_at_first};
 ghost use Rattle.tail_outside.specs.Outside.{HasRisen};
 
 use crate::calls::Calls;
@@ -19,7 +19,7 @@ pub struct MemSink {
 }
 
 impl Model for MemSink {
-    ghost use Rattle.tail_outside.specs.Seen.{MemSinkSeen};
+    ghost use Rattle.tail_outside.specs.inside.Seen.{MemSinkSeen};
 
     ghost Value = { MemSinkSeen };
 

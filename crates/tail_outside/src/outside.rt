@@ -4,7 +4,8 @@
 //! So what a run promises of bytes and of failures can be said of any files and any sink.
 
 ghost use Rattle.std.specs.Prelude.{◌≡◌, ◌≤◌, ◌^◌, ℕ, Bool, true, false, List, [], Some, None, length, IsTrue, IfOk, IfSome, IsErr, OnOk, OnErr, IsErrOf};
-ghost use Rattle.tail_outside.specs.Outside.{HoldsFront, IsRead, OnlyRead, OnlyWritten, PieceHasFailed, ReadHasFailed, Takes, TakesFront, WriteHasFailed, with_piece};
+ghost use Rattle.tail_outside.specs.inside.Outside.{HoldsFront, IsRead, OnlyWritten, WriteHasFailed, with_piece};
+ghost use Rattle.tail_outside.specs.Outside.{OnlyRead, PieceHasFailed, ReadHasFailed, Takes, TakesFront};
 ghost use Rattle.tail_outside.specs.Shown.{FilesShown, SinkShown};
 
 /// A read that failed.
@@ -25,7 +26,8 @@ pub trait Files {
     /// What is told of the files, the names that may be used, and the counts of failures.
     ghost shows: { Self → FilesShown };
 
-    /// Fills a front of `into` with the bytes at a place of the file.
+    /// Reads bytes of the file from a place on into the front of `into`, and tells how many. None means the file's end, unless
+    /// `into` has no room.
     fn read_at(&mut self, name: &str, at: u64, into: &mut [u8]) -> Result<usize, Failed>
         requires named { IsTrue ((shows self.old).lets_read name.now) }
         requires near { at ≤ 2 ^ 40 }

@@ -1,7 +1,9 @@
-//! A file's bytes, up to a limit.
+//! A file's bytes, up to a limit: piece by piece through one buffer on the heap, and never a byte past the limit. Each turn
+//! takes at least one byte or ends, so a reading ends whatever the file is.
 
 ghost use Rattle.std.specs.Prelude.{◌≡◌, ◌<◌, ◌≤◌, ◌^◌, length, take, IfOk, IfSome, IsErr, IsErrOf, IsTrue};
-ghost use Rattle.tail_outside.specs.Outside.{IsRead, OnlyRead, ReadHasFailed};
+ghost use Rattle.tail_outside.specs.inside.Outside.{IsRead};
+ghost use Rattle.tail_outside.specs.Outside.{OnlyRead, ReadHasFailed};
 
 use crate::{Failed, Files};
 use std::alloc::Global;
@@ -51,7 +53,7 @@ pub fn read_all<F: Files>(
 }
 
 // The same, with a buffer for the pieces.
-#[tactic(auto, using(crate::specs::Outside::only_read_same, crate::specs::Outside::only_read_chains))]
+#[tactic(auto, using(crate::specs::inside::Outside::only_read_same, crate::specs::inside::Outside::only_read_chains))]
 fn read_pieces<F: Files>(
     alloc: Global,
     files: &mut F,

@@ -24,7 +24,7 @@ pub struct RealFiles<R: rt::Files + Drop> {
 }
 
 impl<R: rt::Files + Drop> Model for RealFiles<R> {
-    ghost use Rattle.tail_outside.specs.Seen.{RealFilesSeen};
+    ghost use Rattle.tail_outside.specs.inside.Seen.{RealFilesSeen};
 
     ghost Value = { RealFilesSeen };
 
@@ -215,7 +215,7 @@ pub struct RealOut<R: Print + Drop> {
 }
 
 impl<R: Print + Drop> Model for RealOut<R> {
-    ghost use Rattle.tail_outside.specs.Seen.{RealOutSeen};
+    ghost use Rattle.tail_outside.specs.inside.Seen.{RealOutSeen};
 
     ghost Value = { RealOutSeen };
 

@@ -4,8 +4,8 @@
 
 ghost use Rattle.std.specs.Prelude.{◌≡◌, ◌≢◌, ◌≤◌, ◌^◌, ℕ, List, length, map, option_map, position, IfOk, IsOk};
 ghost use Rattle.std.specs.Str.{bytes_eq};
-ghost use Rattle.tail_outside.specs.Outside.{IsRead};
-ghost use Rattle.tail_outside.specs.Sure.{file_with_room, after_piece, emptied, sink_under, held_under, read_under};
+ghost use Rattle.tail_outside.specs.inside.Outside.{IsRead};
+ghost use Rattle.tail_outside.specs.inside.Sure.{file_with_room, after_piece, emptied, sink_under, held_under, read_under};
 
 use crate::mem_files::copy;
 use crate::{Failed, Fault, Files, MemFile, SureSink};
@@ -22,7 +22,7 @@ struct SureFile {
 
 impl Model for SureFile {
     ghost use Rattle.std.specs.Prelude.{string_bytes};
-    ghost use Rattle.tail_outside.specs.Seen.{SureFileSeen};
+    ghost use Rattle.tail_outside.specs.inside.Seen.{SureFileSeen};
 
     ghost Value = { SureFileSeen };
 
@@ -53,7 +53,7 @@ pub struct SureFiles {
 
 impl Model for SureFiles {
     ghost use Rattle.std.specs.Prelude.{List};
-    ghost use Rattle.tail_outside.specs.Seen.{SureFileSeen};
+    ghost use Rattle.tail_outside.specs.inside.Seen.{SureFileSeen};
 
     ghost Value = { List SureFileSeen };
 
@@ -116,7 +116,7 @@ fn extend(files: &mut Vec<SureFile>, name: &str, piece: &[u8])
 
 impl Files for SureFiles {
     ghost use Rattle.std.specs.Prelude.{true};
-    ghost use Rattle.tail_outside.specs.Sure.{told_under, ceased_under, told_under-ceased};
+    ghost use Rattle.tail_outside.specs.inside.Sure.{told_under, ceased_under, told_under-ceased};
 
     ghost shows = { λ f. record {
       holds = told_under f;

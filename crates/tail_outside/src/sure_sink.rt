@@ -3,7 +3,7 @@
 
 ghost use Rattle.std.specs.Prelude.{◌≡◌, false, [], IfOk, IsOk};
 ghost use Rattle.tail_outside.specs.Outside.{Adds};
-ghost use Rattle.tail_outside.specs.Sure.{with_room, after_piece, emptied, told_of};
+ghost use Rattle.tail_outside.specs.inside.Sure.{with_room, after_piece, emptied, told_of};
 
 use crate::{Fault, Sink};
 use std::alloc::Global;
@@ -21,7 +21,7 @@ pub struct SureSink {
 impl Model for SureSink {
     ghost use Rattle.std.specs.Prelude.{◌≤◌, ◌+◌, vec_len};
     ghost use Rattle.std.specs.Vec.{vec_capacity};
-    ghost use Rattle.tail_outside.specs.Seen.{SureSinkSeen};
+    ghost use Rattle.tail_outside.specs.inside.Seen.{SureSinkSeen};
 
     ghost Value = { SureSinkSeen };
 
@@ -79,7 +79,7 @@ impl SureSink {
 
 impl Sink for SureSink {
     ghost use Rattle.std.specs.Prelude.{⊤};
-    ghost use Rattle.tail_outside.specs.Sure.{told_of, told_of-ceased};
+    ghost use Rattle.tail_outside.specs.inside.Sure.{told_of, told_of-ceased};
 
     ghost shows = { λ s. record { told = told_of s; ceased = s.ceased; faults = 0 } };
 

@@ -1,7 +1,8 @@
 //! Callers through the bounds, and tables of calls over each implementation.
 
 ghost use Rattle.std.specs.Prelude.{◌≡◌, ◌≤◌, ◌++◌, false, IsTrue, IfOk, OnOk, OnErr, IsErrOf};
-ghost use Rattle.tail_outside.specs.Outside.{IsRead, PieceHasFailed, SameOthers, StayCeased, Takes, TakesFront};
+ghost use Rattle.tail_outside.specs.inside.Outside.{IsRead, SameOthers, StayCeased};
+ghost use Rattle.tail_outside.specs.Outside.{PieceHasFailed, Takes, TakesFront};
 
 use crate::{
     Failed, Fault, FileSink, Files, MemFile, MemFiles, MemSink, ReadFail, RealFiles, RealOut, Sink,

@@ -4,5 +4,7 @@ pub mod Clock
 pub mod NameText
 pub mod Number
 pub mod Pair
+pub mod Parts
 pub mod Reading
 pub mod Stamp
+pub mod inside

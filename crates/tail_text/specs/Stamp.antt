@@ -1,5 +1,6 @@
 -- Moments as `YYYY-MM-DDTHH:MM`, in minutes since 1970-01-01T00:00 UTC.
 use Rattle.std.specs.Prelude.{ℕ, ◌+◌, ◌*◌, Bool, ◌&&◌, List, length, slice_index, ◌==◌, nat_le, if◌then◌else◌, ℤ, pos, ◌+ℤ◌, ◌*ℤ◌, Option, Some, None, Result, Ok, Err}
+use Rattle.tail_book.specs.declared.limits.TheConstants.{DAY}
 use Rattle.jiff_core.specs.Calendar.{days_in_month, days_from_civil}
 use Rattle.tail_text.specs.Bad.{bad}
 use Rattle.tail_text.specs.Clock.{minutes_at}
@@ -28,7 +29,7 @@ day_in s = if has_date_shape s
 
 -- the minutes from 1970-01-01T00:00 to a minute of a day
 abbrev pub moment_at : Option ℤ → Option ℕ → Result ℤ Bad
-moment_at (Some day) (Some minutes) = Ok (day *ℤ pos 1440 +ℤ pos minutes)
+moment_at (Some day) (Some minutes) = Ok (day *ℤ DAY +ℤ pos minutes)
 moment_at (Some day) None = Err bad
 moment_at None minutes = Err bad
 

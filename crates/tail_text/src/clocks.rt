@@ -1,4 +1,4 @@
-//! Times of day.
+//! Times of day, `HH:MM`, as minutes since midnight.
 
 ghost use Rattle.std.specs.Prelude.{◌≡◌, ◌+◌, ◌<◌, ◌≤◌, length, pos, IfOk, IfSome};
 ghost use Rattle.jiff_core.specs.Calendar.{IsBetween};

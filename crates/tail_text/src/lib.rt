@@ -1,12 +1,14 @@
-//! Texts: stamps, numbers, names and times of day read exactly, lines of text, and the refusals of tables.
+//! Texts: stamps, numbers, names and times of day read exactly, the parts of a text, lines of text, and the refusals of tables.
 #![tactic(auto)]
 
 mod bad;
 mod clocks;
+pub mod codes;
 mod line;
 mod names;
 mod numbers;
 mod pairs;
+mod parts;
 mod refusal;
 mod stamps;
 
@@ -15,7 +17,8 @@ pub use clocks::clock;
 pub use line::Line;
 pub use names::name;
 pub use numbers::number;
-pub use refusal::{Refusal, Stopped, Table};
+pub use parts::Parts;
+pub use refusal::{Refusal, SIZE_LIMIT, Stopped, Table};
 pub use stamps::stamp;
 
 #[cfg(test)]

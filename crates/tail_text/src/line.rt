@@ -1,4 +1,5 @@
-//! Lines of text that are put together piece by piece.
+//! Lines of text that are put together piece by piece. A piece is there as a whole or, for want of memory, not at all; the
+//! line's room is kept when it is cleared, so one line serves a whole report.
 
 ghost use Rattle.std.specs.Prelude.{◌≡◌, ◌++◌, [], decimal, IfOk, OnErr, OnOk};
 ghost use Rattle.std.specs.Fmt.{signed_decimal};

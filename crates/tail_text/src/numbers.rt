@@ -1,4 +1,5 @@
-//! Whole numbers in digits.
+//! Whole numbers in digits. A zero in front is refused, so each number has one spelling. Digits are taken one by one, and
+//! the first that would pass the greatest number ends the reading, so no sum wraps.
 
 ghost use Rattle.std.specs.Prelude.{◌≡◌, ◌≤◌, IfOk};
 ghost use Rattle.std.specs.Char.{is_ascii_digit};

@@ -1,4 +1,7 @@
-//! Moments as the tables write them.
+//! Moments as the tables write them, `YYYY-MM-DDTHH:MM`.
+//!
+//! The shape is tested first, place by place, and then the clock and the day; the day's number comes from the civil
+//! calendar. A text has one reading, since each part has a fixed place and width.
 
 ghost use Rattle.std.specs.Prelude.{◌≡◌, ◌<◌, ◌≤◌, length, pos, IfOk, IfSome};
 ghost use Rattle.jiff_core.specs.Calendar.{IsBetween};
@@ -8,6 +11,7 @@ use crate::bad::Bad;
 use crate::clocks::minutes_at;
 use crate::pairs::{are_digits_at, pair_at};
 use jiff::civil::Date;
+use tail_book::limits::DAY;
 
 /// A moment as `YYYY-MM-DDTHH:MM` of the years 1970 to 2199, in minutes since 1970-01-01T00:00 UTC. Any other text is
 /// `Bad`.
@@ -28,7 +32,7 @@ fn moment_at(day: Option<i32>, minutes: Option<u16>) -> Result<i64, Bad>
     ensures range { IfOk result (IsBetween (pos 0) (pos 120_968_639)) }
 {
     match (day, minutes) {
-        (Some(day), Some(minutes)) => Ok(day as i64 * 1440 + minutes as i64),
+        (Some(day), Some(minutes)) => Ok(day as i64 * DAY + minutes as i64),
         _ => Err(Bad),
     }
 }

@@ -5,6 +5,7 @@ use crate::clocks::clock;
 use crate::line::Line;
 use crate::names::name;
 use crate::numbers::number;
+use crate::parts::Parts;
 use crate::stamps::stamp;
 use std::test::Fail;
 
@@ -82,6 +83,30 @@ fn names_have_one_to_sixteen_bytes(rt: HostRuntime) -> Result<(), Fail> {
             }
             Err(Bad) => assert!(rt; !good, "at {text}"),
         }
+    }
+    Ok(())
+}
+
+// There is one part more than there are bytes between parts, and each of them may be empty.
+#[test]
+fn parts_stand_between_bytes(rt: HostRuntime) -> Result<(), Fail> {
+    for (text, parts) in [
+        ("", [""].as_slice()),
+        ("A320", &["A320"]),
+        ("A320 B738", &["A320", "B738"]),
+        (" A320  B738 ", &["", "A320", "", "B738", ""]),
+    ] {
+        let mut left = Parts::new(text.as_bytes(), b' ');
+        for part in parts {
+            assert!(rt; !left.is_done(), "in {text}");
+            let taken = left.take();
+            assert!(rt;
+                taken.is_some_and(|taken| taken == part.as_bytes()),
+                "in {text}"
+            );
+        }
+        assert!(rt; left.is_done(), "in {text}");
+        assert!(rt; left.take().is_none(), "in {text}");
     }
     Ok(())
 }

@@ -10,23 +10,26 @@ use Rattle.plan_audit.specs.Broken.{IsAuditOf, broken}
 use Rattle.plan_audit.specs.declared.broken.Audit.{Audit}
 use Rattle.plan_audit.specs.declared.broken.Audit.TheVariants.{Legal, Broken}
 use Rattle.plan_audit.specs.declared.broken.Broken.{Broken as BrokenRule}
-use Rattle.plan_report.specs.AuditText.{AreOfBook, audit_lines, audit_text, broken_lines, legal_line}
+use Rattle.plan_report.specs.inside.AuditText.{AreOfBook, audit_text}
+use Rattle.plan_report.specs.AuditText.{audit_lines, broken_lines, legal_line}
 use Rattle.plan_report.specs.Lines.{text_of}
 use Rattle.plan_report.specs.PlanText.{plan_in, refused as refused_plan}
 use Rattle.book_maker.specs.Made.{book_of}
 use Rattle.run_frame.proofs.Ending as ending
 use Rattle.run_frame.proofs.Fronts.{book_of-fronts, front-limited}
 use Rattle.run_frame.proofs.Held.{OfHeld-map}
-use Rattle.run_frame.specs.Answer.{IsAnswerTo, IsPrintable, IsPrinted, IsUnlessStopped, status_of}
-use Rattle.run_frame.specs.Reading.{front, fronts, tables_held}
+use Rattle.run_frame.specs.inside.Answer.{IsAnswerTo, IsPrintable, IsPrinted, status_of}
+use Rattle.run_frame.specs.Answer.{IsUnlessStopped}
+use Rattle.run_frame.specs.inside.TableFiles.{front, fronts}
+use Rattle.run_frame.specs.TableFiles.{tables_held}
 use Rattle.run_frame.specs.Tables.{TablesSeen}
 use Rattle.run_frame.specs.declared.answer.Answer.TheVariants.{ReadFailed}
 use Rattle.tailcheck.specs.Answers.{Answer, AreJudged, AreRefused, IsTrueAnswer, OfTexts, answer_text}
-use Rattle.tailcheck.specs.Audits.{audit_status}
+use Rattle.tailcheck.specs.inside.Audits.{audit_status}
 use Rattle.tailcheck.specs.Cases.{Case, case_of}
 use Rattle.tailcheck.specs.Promises.{IsVerdict, JudgesPlan, Promise, RefusesTexts}
-use Rattle.tailcheck.specs.Reading.{text_fronts, texts_held}
-use Rattle.tailcheck.specs.Texts.{CheckNamesSeen, TextsSeen}
+use Rattle.tailcheck.specs.inside.Texts.{text_fronts}
+use Rattle.tailcheck.specs.Texts.{texts_held, CheckNamesSeen, TextsSeen}
 use Rattle.tailcheck.specs.Usage.{usage_line}
 use Rattle.tailcheck.specs.Words.{check_of}
 

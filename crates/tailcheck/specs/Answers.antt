@@ -7,11 +7,10 @@ use Rattle.plan_audit.specs.Broken.{IsAuditOf}
 use Rattle.plan_report.specs.AuditText.{audit_lines}
 use Rattle.plan_report.specs.Lines.{text_of}
 use Rattle.run_frame.specs.Answer.{IsTrueAnswer as IsTrueOf, lines_of}
-use Rattle.run_frame.specs.Reading.{OfHeld}
+use Rattle.run_frame.specs.TableFiles.{OfHeld}
 use Rattle.run_frame.specs.declared.answer.Answer.{Answer as AnswerOf}
 use Rattle.tailcheck.specs.Cases.{case_of}
-use Rattle.tailcheck.specs.Reading.{MayReadTexts, texts_held}
-use Rattle.tailcheck.specs.Texts.{TextsSeen}
+use Rattle.tailcheck.specs.Texts.{MayReadTexts, texts_held, TextsSeen}
 use Rattle.tailcheck.specs.Usage.{usage_line}
 use Rattle.tailcheck.specs.Words.{check_of}
 use Rattle.tailcheck.specs.declared.answer.Judged.{Judged}

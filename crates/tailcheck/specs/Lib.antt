@@ -1,8 +1,7 @@
 pub mod Usage
 pub mod Texts
-pub mod Reading
 pub mod Words
 pub mod Cases
-pub mod Audits
 pub mod Answers
 pub mod Promises
+pub mod inside

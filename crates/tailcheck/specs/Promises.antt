@@ -10,8 +10,7 @@ use Rattle.plan_report.specs.Lines.{text_of}
 use Rattle.run_frame.specs.Promise.{ElsePromise, Judges, Refuses}
 use Rattle.tailcheck.specs.Answers.{AreRefused, IsTrueAnswer, OfTexts, answer_text}
 use Rattle.tailcheck.specs.Cases.{Case, case_of}
-use Rattle.tailcheck.specs.Reading.{texts_held}
-use Rattle.tailcheck.specs.Texts.{TextsSeen}
+use Rattle.tailcheck.specs.Texts.{texts_held, TextsSeen}
 use Rattle.tailcheck.specs.Usage.{usage_line}
 use Rattle.tailcheck.specs.Words.{check_of}
 

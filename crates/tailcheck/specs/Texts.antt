@@ -1,5 +1,7 @@
--- The files of a run, and their names.
-use Rattle.std.specs.Prelude.{ℕ, List}
+-- The files of a run, their names, and what is read of them.
+use Rattle.std.specs.Prelude.{ℕ, List, Option, IsTrue, option_and_then, option_map}
+use Rattle.tail_outside.specs.Shown.{FilesShown}
+use Rattle.run_frame.specs.TableFiles.{MayReadTables, tables_held}
 use Rattle.run_frame.specs.Tables.{NamesSeen, TablesSeen}
 
 -- the names of the three tables and of the plan's file
@@ -11,3 +13,13 @@ pub record CheckNamesSeen : Type 0 where
 pub record TextsSeen : Type 0 where
   pub tables : TablesSeen
   pub plan : List ℕ
+
+-- the four names may be read
+abbrev pub MayReadTexts : FilesShown → CheckNamesSeen → Type 0
+MayReadTexts files names = MayReadTables files names.tables × IsTrue (files.lets_read names.plan)
+
+-- the tables and the plan's file that files hold under these names, where each of them is told
+abbrev pub texts_held : FilesShown → CheckNamesSeen → Option TextsSeen
+texts_held files names =
+    option_and_then (λ tables. option_map (λ plan. record { tables = tables; plan = plan }) (files.holds names.plan))
+    (tables_held files names.tables)

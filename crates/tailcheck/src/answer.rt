@@ -1,8 +1,9 @@
-//! What a run finds.
+//! What a run finds: a book and the audit of a plan, which is printed as the cost or as the rules that are broken.
 
 ghost use Rattle.std.specs.Prelude.{◌≡◌, ◌≤◌, ℕ, false, List, OnErr, OnOk, IsErrOf};
-ghost use Rattle.plan_report.specs.AuditText.{AreOfBook, audit_lines};
-ghost use Rattle.tailcheck.specs.Audits.{audit_status};
+ghost use Rattle.plan_report.specs.inside.AuditText.{AreOfBook};
+ghost use Rattle.plan_report.specs.AuditText.{audit_lines};
+ghost use Rattle.tailcheck.specs.inside.Audits.{audit_status};
 
 use plan_audit::Audit;
 use plan_report::{ReportFail, write_audit};

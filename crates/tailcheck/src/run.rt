@@ -2,8 +2,9 @@
 
 ghost use Rattle.std.specs.Prelude.{◌≡◌, ◌≤◌, None, false};
 ghost use Rattle.tail_outside.specs.Outside.{OnlyRead, PieceHasFailed, ReadHasFailed};
-ghost use Rattle.plan_report.specs.AuditText.{AreOfBook};
-ghost use Rattle.run_frame.specs.Answer.{IsAnswerTo, IsPrintable, IsUnlessStopped};
+ghost use Rattle.plan_report.specs.inside.AuditText.{AreOfBook};
+ghost use Rattle.run_frame.specs.inside.Answer.{IsAnswerTo, IsPrintable};
+ghost use Rattle.run_frame.specs.Answer.{IsUnlessStopped};
 ghost use Rattle.run_frame.specs.Spelled.{spelled};
 ghost use Rattle.run_frame.specs.declared.answer.Answer.TheVariants.{ReadFailed};
 ghost use Rattle.tailcheck.specs.Answers.{AreJudged, AreRefused, IsTrueAnswer, MayRead};

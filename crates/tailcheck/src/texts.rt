@@ -1,8 +1,9 @@
-//! The files that the words name, read before one of them is judged.
+//! The files that the words name, read before one of them is judged: the tables first, and then the plan.
 
 ghost use Rattle.std.specs.Prelude.{◌≡◌, IfOk, IfSome, IsErrOf};
 ghost use Rattle.tail_outside.specs.Outside.{OnlyRead, ReadHasFailed};
-ghost use Rattle.tailcheck.specs.Reading.{MayReadTexts, check_names_seen, text_fronts, texts_held};
+ghost use Rattle.tailcheck.specs.Texts.{MayReadTexts, texts_held};
+ghost use Rattle.tailcheck.specs.inside.Texts.{check_names_seen, text_fronts};
 
 use crate::words::CheckNames;
 use run_frame::{READ_LIMIT, Tables, read_tables};
@@ -13,7 +14,9 @@ use tail_outside::{Files, ReadFail, read_all};
 /// The bytes of the three tables and of the plan's file.
 #[derive(Debug, Drop)]
 pub struct Texts {
+    /// The three tables.
     pub tables: Tables,
+    /// The file of the plan.
     pub plan: Vec<u8>,
 }
 

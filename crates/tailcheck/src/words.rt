@@ -3,7 +3,7 @@
 ghost use Rattle.std.specs.Prelude.{◌≡◌, IfOk, option_map};
 ghost use Rattle.clap.specs.Words.{app_of, found_of, rows_of};
 ghost use Rattle.run_frame.specs.Spelled.{spelled};
-ghost use Rattle.tailcheck.specs.Reading.{check_names_seen};
+ghost use Rattle.tailcheck.specs.inside.Texts.{check_names_seen};
 ghost use Rattle.tailcheck.specs.Words.{check_of, command, names_in};
 
 use clap::error::ErrorKind;

@@ -11,13 +11,15 @@ use Rattle.plan_report.specs.Report.{report, report_lines}
 use Rattle.run_frame.proofs.Ending as ending
 use Rattle.run_frame.proofs.Fronts.{tables-same}
 use Rattle.run_frame.proofs.Held.{OfHeld-map}
-use Rattle.run_frame.specs.Answer.{IsAnswerTo, IsPrintable as IsPrintableBy, IsPrinted, IsUnlessStopped, status_of}
-use Rattle.run_frame.specs.Reading.{front, fronts, tables_held}
+use Rattle.run_frame.specs.inside.Answer.{IsAnswerTo, IsPrintable as IsPrintableBy, IsPrinted, status_of}
+use Rattle.run_frame.specs.Answer.{IsUnlessStopped}
+use Rattle.run_frame.specs.inside.TableFiles.{front, fronts}
+use Rattle.run_frame.specs.TableFiles.{tables_held}
 use Rattle.run_frame.specs.Tables.{NamesSeen, TablesSeen}
 use Rattle.run_frame.specs.declared.answer.Answer.TheVariants.{ReadFailed}
 use Rattle.tailplan.proofs.SmallBook.{small_books_are_books}
 use Rattle.tailplan.specs.Answers.{Answer, AreRefused, AreSolved, IsTrueAnswer, OfTables, answer_text}
-use Rattle.tailplan.specs.Outcomes.{IsPrintable, outcome_status}
+use Rattle.tailplan.specs.inside.Outcomes.{IsPrintable, outcome_status}
 use Rattle.tailplan.specs.Promises.{IsVerdict, JudgesBook, Promise, RefusesTables}
 use Rattle.tailplan.specs.SmallBook.{small_book_of, small_made_of}
 use Rattle.tailplan.specs.Usage.{usage_line}

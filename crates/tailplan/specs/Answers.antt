@@ -6,7 +6,7 @@ use Rattle.tail_text.specs.declared.refusal.Refusal.{Refusal}
 use Rattle.plan_report.specs.Lines.{text_of}
 use Rattle.plan_report.specs.Report.{report_lines}
 use Rattle.run_frame.specs.Answer.{IsTrueAnswer as IsTrueOf, lines_of}
-use Rattle.run_frame.specs.Reading.{MayReadTables, OfHeld, tables_held}
+use Rattle.run_frame.specs.TableFiles.{MayReadTables, OfHeld, tables_held}
 use Rattle.run_frame.specs.Tables.{TablesSeen}
 use Rattle.run_frame.specs.declared.answer.Answer.{Answer as AnswerOf}
 use Rattle.tailplan.specs.SmallBook.{small_book_of}

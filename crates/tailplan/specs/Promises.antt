@@ -9,7 +9,7 @@ use Rattle.tail_outside.specs.Shown.{FilesShown, SinkShown}
 use Rattle.book_maker.specs.Made.{book_of}
 use Rattle.plan_report.specs.Report.{report}
 use Rattle.run_frame.specs.Promise.{ElsePromise, Judges, Refuses}
-use Rattle.run_frame.specs.Reading.{tables_held}
+use Rattle.run_frame.specs.TableFiles.{tables_held}
 use Rattle.run_frame.specs.Tables.{TablesSeen}
 use Rattle.tailplan.specs.Answers.{AreRefused, IsTrueAnswer, OfTables, answer_text}
 use Rattle.tailplan.specs.SmallBook.{small_book_of}

@@ -3,6 +3,7 @@ use Rattle.std.specs.Prelude.{ℕ, ◌+◌, List, length, nat_le, Result}
 use Rattle.tail_book.specs.Seen.{BookSeen}
 use Rattle.tail_text.specs.Checks.{look, must}
 use Rattle.tail_text.specs.Reading.{refusal_at}
+use Rattle.tail_text.specs.declared.codes.TheConstants.{TOO_MANY}
 use Rattle.tail_text.specs.declared.refusal.Refusal.{Refusal}
 use Rattle.tail_text.specs.declared.refusal.Table.TheVariants.{Fleet, Timetable}
 use Rattle.timetable_reader.specs.Activity.{RawActivitySeen}
@@ -16,11 +17,11 @@ use Rattle.tailplan.specs.declared.small_book.TheConstants.{MOST_ACTIVITIES, MOS
 
 -- the refusal of the first activity past the most, in a table whose header is record 1
 abbrev pub too_many_activities : Refusal
-too_many_activities = refusal_at 10 Timetable (MOST_ACTIVITIES + 2)
+too_many_activities = refusal_at TOO_MANY Timetable (MOST_ACTIVITIES + 2)
 
 -- the refusal of the first aircraft past the most, in a table whose header is record 1
 abbrev pub too_many_aircraft : Refusal
-too_many_aircraft = refusal_at 10 Fleet (MOST_AIRCRAFT + 2)
+too_many_aircraft = refusal_at TOO_MANY Fleet (MOST_AIRCRAFT + 2)
 
 -- the book of the records, or their first refusal: too many activities, too many aircraft, and then that of the names
 abbrev pub small_made_of : List RawActivitySeen → List RawTailSeen → RawRulesSeen → Result BookSeen Refusal

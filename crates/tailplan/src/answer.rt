@@ -1,8 +1,8 @@
-//! What a run finds.
+//! What a run finds: a book and what is true of it, which is printed as the report of an outcome.
 
 ghost use Rattle.std.specs.Prelude.{◌≡◌, ◌≤◌, ℕ, false, List, OnErr, OnOk, IsErrOf};
 ghost use Rattle.plan_report.specs.Report.{report_lines};
-ghost use Rattle.tailplan.specs.Outcomes.{IsPrintable, outcome_status};
+ghost use Rattle.tailplan.specs.inside.Outcomes.{IsPrintable, outcome_status};
 
 use plan_report::{ReportFail, write_report};
 use run_frame::{Finding, Status};
@@ -13,7 +13,9 @@ use tail_outside::Sink;
 /// What a run finds: the book of the tables, and what is true of it.
 #[derive(Debug, Drop)]
 pub struct Solved {
+    /// The book that was planned.
     pub book: Book,
+    /// The plan or bound that was found, or that no plan is legal.
     pub outcome: Outcome,
 }
 

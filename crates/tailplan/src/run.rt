@@ -2,11 +2,12 @@
 
 ghost use Rattle.std.specs.Prelude.{◌≡◌, ◌≤◌, None, false};
 ghost use Rattle.tail_outside.specs.Outside.{OnlyRead, PieceHasFailed, ReadHasFailed};
-ghost use Rattle.run_frame.specs.Answer.{IsAnswerTo, IsPrintable as IsPrintableBy, IsUnlessStopped};
+ghost use Rattle.run_frame.specs.inside.Answer.{IsAnswerTo, IsPrintable as IsPrintableBy};
+ghost use Rattle.run_frame.specs.Answer.{IsUnlessStopped};
 ghost use Rattle.run_frame.specs.Spelled.{spelled};
 ghost use Rattle.run_frame.specs.declared.answer.Answer.TheVariants.{ReadFailed};
 ghost use Rattle.tailplan.specs.Answers.{AreRefused, AreSolved, IsTrueAnswer, MayRead};
-ghost use Rattle.tailplan.specs.Outcomes.{IsPrintable};
+ghost use Rattle.tailplan.specs.inside.Outcomes.{IsPrintable};
 ghost use Rattle.tailplan.specs.Promises.{JudgesBook, Promise, RefusesTables};
 ghost use Rattle.tailplan.specs.Words.{run_of};
 

@@ -1,14 +1,16 @@
 //! The book that a run plans: each table is read by itself, then two looks at how long they are, then the names.
+//!
+//! The two looks are there for the enumeration, which tries every assignment of aircraft to activities.
 
 ghost use Rattle.std.specs.Prelude.{◌≡◌, length};
-ghost use Rattle.tail_text.specs.Reading.{Answers};
+ghost use Rattle.tail_text.specs.inside.Reading.{Answers};
 ghost use Rattle.tailplan.specs.SmallBook.{small_book_of, small_made_of, too_many_activities, too_many_aircraft};
 
 use book_maker::make_book;
 use fleet_rules::{RawRules, RawTail, read_fleet, read_rules};
 use std::alloc::Global;
 use tail_book::Book;
-use tail_text::{Refusal, Stopped, Table};
+use tail_text::{Refusal, Stopped, Table, codes};
 use timetable_reader::{RawActivity, read_timetable};
 
 /// The most activities that a plan is made for.
@@ -45,7 +47,7 @@ fn too_many_activities() -> Refusal
     ensures { result ≡ too_many_activities }
 {
     Refusal {
-        code: 10,
+        code: codes::TOO_MANY,
         table: Table::Timetable,
         place: MOST_ACTIVITIES as u64 + 2,
     }
@@ -56,7 +58,7 @@ fn too_many_aircraft() -> Refusal
     ensures { result ≡ too_many_aircraft }
 {
     Refusal {
-        code: 10,
+        code: codes::TOO_MANY,
         table: Table::Fleet,
         place: MOST_AIRCRAFT as u64 + 2,
     }

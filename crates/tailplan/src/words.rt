@@ -2,7 +2,7 @@
 
 ghost use Rattle.std.specs.Prelude.{◌≡◌, IfOk, option_map};
 ghost use Rattle.clap.specs.Words.{app_of};
-ghost use Rattle.run_frame.specs.Reading.{names_seen};
+ghost use Rattle.run_frame.specs.inside.TableFiles.{names_seen};
 ghost use Rattle.run_frame.specs.Spelled.{spelled};
 ghost use Rattle.tailplan.specs.Words.{command, run_of};
 

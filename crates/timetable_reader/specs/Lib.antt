@@ -1,3 +1,3 @@
 pub mod Activity
-pub mod ActivityParts
 pub mod Timetable
+pub mod inside

@@ -1,4 +1,6 @@
 //! An activity as its record in the timetable says it.
+//!
+//! It keeps what a record has to keep by itself, so whoever takes one need not look again.
 
 use std::marker::Model;
 use tail_book::Name;
@@ -20,11 +22,12 @@ pub struct RawActivity {
 }
 
 impl Model for RawActivity {
-    ghost use Rattle.timetable_reader.specs.Activity.{RawActivitySeen, IsRawActivity};
+    ghost use Rattle.timetable_reader.specs.Activity.{RawActivitySeen};
+    ghost use Rattle.timetable_reader.specs.inside.Activity.{IsRawActivity};
 
     ghost Value = { RawActivitySeen };
 
-    ghost use Rattle.timetable_reader.specs.ActivityParts.{seen_of};
+    ghost use Rattle.timetable_reader.specs.inside.ActivityParts.{seen_of};
 
     ghost view = { seen_of };
 

@@ -5,7 +5,7 @@ mod activity;
 mod timetable;
 
 pub use activity::RawActivity;
-pub use timetable::{ACTIVITY_LIMIT, read_timetable};
+pub use timetable::read_timetable;
 
 #[cfg(test)]
 mod tests;

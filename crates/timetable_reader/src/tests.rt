@@ -1,10 +1,10 @@
 //! Timetables as a planner types them: each refusal at its place, and what a table may look like.
 
-use crate::{ACTIVITY_LIMIT, read_timetable};
+use crate::read_timetable;
 use std::alloc::Global;
 use std::test::Fail;
-use table_records::SIZE_LIMIT;
-use tail_text::{Refusal, Stopped, Table};
+use tail_book::limits::ACTIVITY_LIMIT;
+use tail_text::{Refusal, SIZE_LIMIT, Stopped, Table};
 
 const HEADER: &str = "id,kind,from,to,start,end,types,tags,tail,resets\n";
 

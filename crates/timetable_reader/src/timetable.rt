@@ -1,20 +1,22 @@
 //! The timetable, record by record.
+//!
+//! What tables have in common is for `read_table`. Here stands what one record says: its fields from left to right,
+//! with the span right behind the end, and then the record as a whole. The first that is bad decides. Names are in
+//! their grammar from here on, and are looked up when all three tables are read.
 
 ghost use Rattle.std.specs.Prelude.{◌≡◌, ◌≤◌, length, ◌+ℤ◌, ◌≤ℤ◌, pos, IfOk};
-ghost use Rattle.tail_book.specs.Sound.{IsMoment};
-ghost use Rattle.tail_text.specs.Reading.{Answers};
-ghost use Rattle.table_records.specs.NoRow.{Judges};
-ghost use Rattle.timetable_reader.specs.Timetable.{activity_of, end_of, is_span, is_whole, kind_of, timetable, timetable_of};
-ghost use Rattle.timetable_reader.specs.declared.timetable.TheConstants.{ACTIVITY_LIMIT};
+ghost use Rattle.tail_book.specs.declared.limits.TheConstants.{ACTIVITY_LIMIT, SPAN_LIMIT};
+ghost use Rattle.tail_book.specs.inside.Sound.{IsMoment};
+ghost use Rattle.tail_text.specs.inside.Reading.{Answers};
+ghost use Rattle.table_records.specs.inside.NoRow.{Judges};
+ghost use Rattle.timetable_reader.specs.Timetable.{activity_of, end_of, is_span, is_whole, flight_in, timetable, timetable_of};
 
 use crate::RawActivity;
 use std::alloc::Global;
 use table_records::{Fields, NoRow, Row, name_in, names, optional_name_in, read_table, stamp_in};
 use tail_book::Name;
-use tail_text::{Stopped, Table};
-
-/// The most records under the header.
-pub const ACTIVITY_LIMIT: usize = 4000;
+use tail_book::limits::{ACTIVITY_LIMIT, SPAN_LIMIT};
+use tail_text::{Stopped, Table, codes};
 
 /// The records of a timetable in its order, or its first refusal.
 pub fn read_timetable(alloc: Global, bytes: &[u8]) -> Result<Vec<RawActivity>, Stopped>
@@ -54,7 +56,7 @@ fn activity_of(alloc: Global, fields: &Fields) -> Result<RawActivity, NoRow>
     ensures { Judges (λ a. a) (activity_of fields.now) result }
 {
     let id = name_in(fields.at(0))?;
-    let flight = kind_of(fields.at(1))?;
+    let flight = flight_in(fields.at(1))?;
     let from = name_in(fields.at(2))?;
     let to = name_in(fields.at(3))?;
     let start = stamp_in(fields.at(4))?;
@@ -64,7 +66,7 @@ fn activity_of(alloc: Global, fields: &Fields) -> Result<RawActivity, NoRow>
     let tail = optional_name_in(fields.at(8))?;
     let resets = names(alloc, fields.at(9))?;
     if !is_whole(flight, &from, &to, resets.as_slice()) {
-        return Err(NoRow::Code(16));
+        return Err(NoRow::Code(codes::GROUND));
     }
     Ok(RawActivity {
         id,
@@ -80,8 +82,8 @@ fn activity_of(alloc: Global, fields: &Fields) -> Result<RawActivity, NoRow>
     })
 }
 
-fn kind_of(field: &[u8]) -> Result<bool, u8>
-    ensures { result ≡ kind_of field.now }
+fn flight_in(field: &[u8]) -> Result<bool, u8>
+    ensures { result ≡ flight_in field.now }
 {
     if field == b"flight".as_slice() {
         return Ok(true);
@@ -89,7 +91,7 @@ fn kind_of(field: &[u8]) -> Result<bool, u8>
     if field == b"ground".as_slice() {
         return Ok(false);
     }
-    Err(8)
+    Err(codes::KIND)
 }
 
 fn end_of(start: i64, field: &[u8]) -> Result<i64, u8>
@@ -97,11 +99,11 @@ fn end_of(start: i64, field: &[u8]) -> Result<i64, u8>
     ensures value { result ≡ end_of start field.now }
     ensures range { IfOk result IsMoment }
     ensures least { IfOk result (λ end. (start +ℤ pos 1) ≤ℤ end) }
-    ensures most { IfOk result (λ end. end ≤ℤ (start +ℤ pos 2880)) }
+    ensures most { IfOk result (λ end. end ≤ℤ (start +ℤ SPAN_LIMIT)) }
 {
     let end = stamp_in(field)?;
     if !is_span(start, end) {
-        return Err(7);
+        return Err(codes::SPAN);
     }
     Ok(end)
 }
@@ -112,7 +114,7 @@ fn is_span(start: i64, end: i64) -> bool
     ensures { result ≡ is_span start end }
 {
     let span = end - start;
-    span >= 1 && span <= 2880
+    span >= 1 && span <= SPAN_LIMIT
 }
 
 fn is_whole(flight: bool, from: &Name, to: &Name, resets: &[Name]) -> bool

@@ -6,8 +6,8 @@ use Rattle.std.specs.Prelude.{false}
 use Rattle.std.specs.List.{flat_map, range_with_len}
 use Rattle.tail_book.specs.Seen.{BookSeen}
 use Rattle.tail_book.specs.Lookup.{activities, aircraft}
-use Rattle.tail_book.specs.Tests.{is_allowed}
-use Rattle.turn_rules.specs.PermissionTable.{allowed_to}
+use Rattle.tail_book.specs.inside.Tests.{is_allowed}
+use Rattle.turn_rules.specs.inside.PermissionTable.{allowed_to}
 
 -- one row more
 pub rows_more : {A : Type 0} (f : ℕ → List A) (s n j : ℕ) → s + n ≡ j → flat_map f (range_with_len s (suc n)) ≡ flat_map f (range_with_len s n) ++ f j

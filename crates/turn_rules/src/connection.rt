@@ -3,14 +3,15 @@
 //! Place and time are settled first, by a few reads. Only where both fit are the two activities' permissions
 //! tested, each at the cost of `allowed`.
 
-ghost use Rattle.std.specs.Prelude.{◌≡◌, ◌<◌, ◌↔◌, ◌+ℤ◌, ◌≤ℤ◌, IsTrue, nat_eq, pos, negsuc, length};
+ghost use Rattle.std.specs.Prelude.{◌≡◌, ◌<◌, ◌↔◌, ◌+ℤ◌, ◌-ℤ◌, ◌≤ℤ◌, IsTrue, nat_eq, pos, negsuc, length};
+ghost use Rattle.tail_book.specs.declared.limits.TheConstants.{DAY, LAST_MOMENT};
 ghost use Rattle.tail_book.specs.Lookup.{activities, aircraft, kind_of, from_port, to_port, start_of, type_turn, port_turn};
 ghost use Rattle.tail_book.specs.Numbers.{int_le};
-ghost use Rattle.tail_book.specs.Link.{IsLink, port, free_from, gap, turn_time};
-ghost use Rattle.tail_book.specs.Sound.{IsWithin, IsMoment};
-ghost use Rattle.tail_book.specs.Tests.{is_allowed_at, is_connected, is_link};
-ghost use Rattle.tail_book.specs.Place.{IsPlaceOf};
-ghost use Rattle.turn_rules.specs.FreeBefore.{IsFreeBefore};
+ghost use Rattle.tail_book.specs.Link.{IsLink, port, free_from, gap, turn_time, is_connected};
+ghost use Rattle.tail_book.specs.inside.Sound.{IsWithin, IsMoment};
+ghost use Rattle.tail_book.specs.inside.Tests.{is_allowed_at, is_link};
+ghost use Rattle.tail_book.specs.inside.Place.{IsPlaceOf};
+ghost use Rattle.turn_rules.specs.inside.FreeBefore.{IsFreeBefore};
 
 use crate::permission::allowed;
 use tail_book::laws::link_decides;
@@ -57,7 +58,7 @@ pub fn gap(book: &Book, k: u32, from: Place, b: u32) -> i64
     requires place { IsPlaceOf book.now from }
     requires activity { b < activities book.now }
     ensures value { result ≡ gap book.now k from b }
-    ensures range { IsWithin (negsuc 120_968_638) (pos 120_968_639) result }
+    ensures range { IsWithin (pos 0 -ℤ LAST_MOMENT) LAST_MOMENT result }
 {
     start_of(book, b) - free_from(book, k, from)
 }
@@ -66,7 +67,7 @@ pub fn gap(book: &Book, k: u32, from: Place, b: u32) -> i64
 fn type_turn(book: &Book, k: u32) -> i64
     requires { k < aircraft book.now }
     ensures value { result ≡ type_turn book.now (kind_of book.now k) }
-    ensures range { IsWithin (pos 0) (pos 1440) result }
+    ensures range { IsWithin (pos 0) DAY result }
 {
     book.rules.kinds[book.tails[k as usize].kind as usize].turn
 }
@@ -75,7 +76,7 @@ fn type_turn(book: &Book, k: u32) -> i64
 fn port_turn(book: &Book, x: u32) -> i64
     requires { x < activities book.now }
     ensures value { result ≡ port_turn book.now (to_port book.now x) }
-    ensures range { IsWithin (pos 0) (pos 1440) result }
+    ensures range { IsWithin (pos 0) DAY result }
 {
     book.rules.airports[book.activities[x as usize].to as usize].turn
 }
@@ -86,7 +87,7 @@ fn turn_between(book: &Book, k: u32, x: u32, b: u32) -> i64
     requires before { x < activities book.now }
     requires after { b < activities book.now }
     ensures value { result ≡ turn_time book.now k (Place.After x) b }
-    ensures range { IsWithin (pos 0) (pos 1440) result }
+    ensures range { IsWithin (pos 0) DAY result }
 {
     if book.activities[x as usize].flight && book.activities[b as usize].flight {
         type_turn(book, k).max(port_turn(book, x))
@@ -101,7 +102,7 @@ pub fn turn(book: &Book, k: u32, from: Place, b: u32) -> i64
     requires place { IsPlaceOf book.now from }
     requires activity { b < activities book.now }
     ensures value { result ≡ turn_time book.now k from b }
-    ensures range { IsWithin (pos 0) (pos 1440) result }
+    ensures range { IsWithin (pos 0) DAY result }
 {
     match from {
         Place::Carry => 0,
@@ -155,7 +156,7 @@ fn is_in_time(book: &Book, k: u32, from: Place, b: u32) -> bool
 }
 
 /// Whether an activity starts where an aircraft is, and no earlier than the turn after its place.
-#[tactic(auto, unfolding(tail_book::specs::Tests::is_connected))]
+#[tactic(auto, unfolding(tail_book::specs::Link::is_connected))]
 pub fn connected(book: &Book, k: u32, from: Place, b: u32) -> bool
     requires aircraft { k < aircraft book.now }
     requires place { IsPlaceOf book.now from }
@@ -167,7 +168,7 @@ pub fn connected(book: &Book, k: u32, from: Place, b: u32) -> bool
 }
 
 /// Whether an activity may come directly after a place of an aircraft.
-#[tactic(auto, unfolding(tail_book::specs::Tests::is_link))]
+#[tactic(auto, unfolding(tail_book::specs::inside::Tests::is_link))]
 pub fn link(book: &Book, k: u32, from: Place, b: u32) -> bool
     requires aircraft { k < aircraft book.now }
     requires place { IsPlaceOf book.now from }

@@ -6,9 +6,10 @@
 ghost use Rattle.std.specs.Prelude.{◌≡◌, ◌<◌, length};
 ghost use Rattle.std.specs.List.{list_any};
 ghost use Rattle.tail_book.specs.Lookup.{activities, aircraft, kind_of, from_port, to_port, start_of, end_of};
-ghost use Rattle.tail_book.specs.Sound.{IsMoment};
+ghost use Rattle.tail_book.specs.inside.Sound.{IsMoment};
 ghost use Rattle.tail_book.specs.Curfew.{local_minute, in_window, covers_type, forbids, stops, is_curfewed};
 
+use tail_book::limits::DAY;
 use tail_book::{Book, Curfew};
 
 /// The minute of the airport's local day.
@@ -17,7 +18,7 @@ pub fn local_minute(book: &Book, port: u32, moment: i64) -> i64
     requires moment { IsMoment moment }
     ensures { result ≡ local_minute book.now port moment }
 {
-    (moment + book.rules.airports[port as usize].offset).rem_euclid(1440)
+    (moment + book.rules.airports[port as usize].offset).rem_euclid(DAY)
 }
 
 /// Whether a local minute lies in the daily window.

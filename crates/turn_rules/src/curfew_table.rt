@@ -8,9 +8,9 @@ ghost use Rattle.std.specs.Prelude.{◌≡◌, ◌<◌, ◌&&◌, ◌↔◌, ℕ
 ghost use Rattle.std.specs.List.{list_any};
 ghost use Rattle.tail_book.specs.Lookup.{activities, aircraft, kind_of, from_port, to_port, start_of, end_of};
 ghost use Rattle.tail_book.specs.Curfew.{covers_type, is_curfewed};
-ghost use Rattle.tail_book.specs.Sound.{IsMoment};
-ghost use Rattle.turn_rules.specs.NumberSet.{has};
-ghost use Rattle.turn_rules.specs.CurfewTable.{AreCurfewsOf, is_shut, is_type_curfewed, meets, stops_type};
+ghost use Rattle.tail_book.specs.inside.Sound.{IsMoment};
+ghost use Rattle.turn_rules.specs.inside.NumberSet.{has};
+ghost use Rattle.turn_rules.specs.inside.CurfewTable.{AreCurfewsOf, is_shut, is_type_curfewed, meets, stops_type};
 
 use crate::curfew::{in_window, local_minute};
 use crate::number_set::NumberSet;

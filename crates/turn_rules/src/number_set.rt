@@ -4,7 +4,7 @@
 
 ghost use Rattle.std.specs.Prelude.{◌≡◌, ◌<◌, ◌||◌, ℕ, true, false, All, nat_eq};
 ghost use Rattle.tail_book.specs.Numbers.{contains};
-ghost use Rattle.turn_rules.specs.NumberSet.{has};
+ghost use Rattle.turn_rules.specs.inside.NumberSet.{has};
 
 /// A set of numbers below 32.
 #[derive(Clone, Copy, Debug)]

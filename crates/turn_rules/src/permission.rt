@@ -9,9 +9,9 @@ ghost use Rattle.std.specs.List.{list_all};
 ghost use Rattle.tail_book.specs.Numbers.{contains, is_none_or};
 ghost use Rattle.tail_book.specs.Lookup.{activities, aircraft, types_of, kind_of, tags_had, tags_needed, avoided, from_port, to_port, preassigned};
 ghost use Rattle.tail_book.specs.Curfew.{covers_type};
-ghost use Rattle.tail_book.specs.Allowed.{IsAllowed};
-ghost use Rattle.tail_book.specs.Tests.{is_allowed, is_permitted};
-ghost use Rattle.turn_rules.specs.CurfewTable.{AreCurfewsOf};
+ghost use Rattle.tail_book.specs.Allowed.{IsAllowed, is_permitted};
+ghost use Rattle.tail_book.specs.inside.Tests.{is_allowed};
+ghost use Rattle.turn_rules.specs.inside.CurfewTable.{AreCurfewsOf};
 
 use crate::curfew::{covers_type, curfewed};
 use crate::curfew_table::{CurfewTable, curfewed_by};
@@ -84,7 +84,7 @@ fn is_free_for(book: &Book, k: u32, a: u32) -> bool
 }
 
 /// Whether an aircraft may fly an activity, curfews aside.
-#[tactic(auto, unfolding(tail_book::specs::Tests::is_permitted))]
+#[tactic(auto, unfolding(tail_book::specs::Allowed::is_permitted))]
 pub fn permitted(book: &Book, k: u32, a: u32) -> bool
     requires aircraft { k < aircraft book.now }
     requires activity { a < activities book.now }
@@ -98,7 +98,7 @@ pub fn permitted(book: &Book, k: u32, a: u32) -> bool
 }
 
 /// Whether an aircraft may fly an activity.
-#[tactic(auto, unfolding(tail_book::specs::Tests::is_allowed))]
+#[tactic(auto, unfolding(tail_book::specs::inside::Tests::is_allowed))]
 pub fn allowed(book: &Book, k: u32, a: u32) -> bool
     requires aircraft { k < aircraft book.now }
     requires activity { a < activities book.now }

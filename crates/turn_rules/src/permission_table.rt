@@ -7,11 +7,11 @@ ghost use Rattle.std.specs.Prelude.{◌≡◌, ◌<◌, ◌++◌, ◌↔◌, IfO
 ghost use Rattle.std.specs.List.{flat_map, range_with_len};
 ghost use Rattle.tail_book.specs.Lookup.{activities, aircraft};
 ghost use Rattle.tail_book.specs.Link.{IsLink};
-ghost use Rattle.tail_book.specs.Tests.{is_allowed, is_allowed_at, is_link};
-ghost use Rattle.tail_book.specs.Place.{IsPlaceOf};
-ghost use Rattle.turn_rules.specs.FreeBefore.{IsFreeBefore};
-ghost use Rattle.turn_rules.specs.CurfewTable.{AreCurfewsOf};
-ghost use Rattle.turn_rules.specs.PermissionTable.{ArePermissionsOf, allowed_to};
+ghost use Rattle.tail_book.specs.inside.Tests.{is_allowed, is_allowed_at, is_link};
+ghost use Rattle.tail_book.specs.inside.Place.{IsPlaceOf};
+ghost use Rattle.turn_rules.specs.inside.FreeBefore.{IsFreeBefore};
+ghost use Rattle.turn_rules.specs.inside.CurfewTable.{AreCurfewsOf};
+ghost use Rattle.turn_rules.specs.inside.PermissionTable.{ArePermissionsOf, allowed_to};
 
 use crate::connection::connected;
 use crate::curfew_table::CurfewTable;
@@ -20,10 +20,12 @@ use std::alloc::Global;
 use tail_book::laws::link_decides;
 use tail_book::{Book, Memory, Place};
 
-/// Whether each aircraft may fly each of `n` activities, with aircraft `k` and activity `a` at `allowed[k * n + a]`.
+/// Whether each aircraft may fly each activity.
 #[derive(Debug, Drop)]
 pub struct PermissionTable {
+    /// How many activities there are.
     pub n: usize,
+    /// Whether aircraft `k` may fly activity `a`, at `k * n + a`.
     pub allowed: Vec<bool>,
 }
 
@@ -86,7 +88,7 @@ fn permits_at(book: &Book, permissions: &PermissionTable, k: u32, from: Place) -
 }
 
 /// Whether an activity may come directly after a place of an aircraft, by the book's table of who may fly what.
-#[tactic(auto, unfolding(tail_book::specs::Tests::is_link))]
+#[tactic(auto, unfolding(tail_book::specs::inside::Tests::is_link))]
 pub fn link_by(book: &Book, permissions: &PermissionTable, k: u32, from: Place, b: u32) -> bool
     requires permissions { ArePermissionsOf book.now permissions.now }
     requires aircraft { k < aircraft book.now }

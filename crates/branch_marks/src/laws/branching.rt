@@ -2,7 +2,7 @@
 
 ghost use Rattle.branch_marks.specs.DeadEnds.{HolesLeaveNoPlan, StuckLeavesNoPlan};
 ghost use Rattle.branch_marks.specs.Branches.{UndecidedPairsAreOfBook, OneBranchHolds, FactsDecide, BranchesDecide};
-ghost use Rattle.branch_marks.specs.BranchTests.{UndecidedDecides, FactsLeaveNoMore, BranchesLeaveFewer};
+ghost use Rattle.branch_marks.specs.inside.BranchTests.{UndecidedDecides, FactsLeaveNoMore, BranchesLeaveFewer};
 
 use crate::laws::{alive_decides, has_fact_decides, marked_routes_fit, usable_decides};
 use tail_book::laws::each_is_flown_once;
@@ -27,7 +27,7 @@ pub fn undecided_pairs_are_of_book()
     ensures { UndecidedPairsAreOfBook }
 {}
 
-/// Of the two branches of a split exactly one holds in each plan.
+/// Every plan is in one branch of a split, and in one alone.
 pub fn one_branch_holds()
     ensures { OneBranchHolds }
 {}

@@ -2,7 +2,7 @@
 
 ghost use Rattle.branch_marks.specs.Labels.{LabelsCoverThemselves, CoversChain, CoveredStepsAreCovered};
 ghost use Rattle.branch_marks.specs.Families.{ClosedFamiliesBound, EndlessFamiliesStick};
-ghost use Rattle.branch_marks.specs.FamilyTests.{CoversDecides, ClosedFamilyDecides, EndsDecide, NoEndDecides};
+ghost use Rattle.branch_marks.specs.inside.FamilyTests.{CoversDecides, ClosedFamilyDecides, EndsDecide, NoEndDecides};
 
 use crate::laws::{alive_decides, may_end_decides, usable_decides, weight_is_along};
 use tail_book::laws::{

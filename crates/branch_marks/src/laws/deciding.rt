@@ -1,8 +1,8 @@
 //! Laws of tests and their words.
 
-ghost use Rattle.branch_marks.specs.MarkTests.{FactOfDecides, AliveDecides, UsableDecides, MayEndDecides, FitsDecides};
-ghost use Rattle.branch_marks.specs.FactTests.{HasFactDecides};
-ghost use Rattle.branch_marks.specs.FollowingTests.{FollowsDecides, ShutDecides};
+ghost use Rattle.branch_marks.specs.inside.MarkTests.{FactOfDecides, AliveDecides, UsableDecides, MayEndDecides, FitsDecides};
+ghost use Rattle.branch_marks.specs.inside.FactTests.{HasFactDecides};
+ghost use Rattle.branch_marks.specs.inside.FollowingTests.{FollowsDecides, ShutDecides};
 
 use tail_book::laws::{allowed_decides, limits_decide, link_decides};
 

@@ -1,6 +1,6 @@
 //! Laws of routes that fit the marks.
 
-ghost use Rattle.branch_marks.specs.Fitting.{MarkedRoutesFit, FitsIsUsableToItsEnd, UsableWithOneMore};
+ghost use Rattle.branch_marks.specs.inside.Fitting.{MarkedRoutesFit, FitsIsUsableToItsEnd, UsableWithOneMore};
 
 use tail_book::laws::{each_is_flown_once, legal_routes_rise};
 

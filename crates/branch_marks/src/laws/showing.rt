@@ -1,7 +1,7 @@
 //! Laws of shown proof trees.
 
 ghost use Rattle.branch_marks.specs.ProofTree.{ShownTreesBound, ShownRootsBound, ShownTreesRefute};
-ghost use Rattle.branch_marks.specs.TreeTests.{ShownDecides, BoundsDecide};
+ghost use Rattle.branch_marks.specs.inside.TreeTests.{ShownDecides, BoundsDecide};
 
 use crate::laws::{
     alive_decides, closed_families_bound, closed_family_decides, endless_families_stick,

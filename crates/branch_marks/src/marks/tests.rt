@@ -1,9 +1,9 @@
 //! Two aircraft, and what each kind of fact leaves open to them; and marks by chance, beside a walk over their facts.
 
 ghost use Rattle.std.specs.Prelude.{IfOk, IsTrue};
-ghost use Rattle.tail_book.specs.Place.{IsPlaceOf};
+ghost use Rattle.tail_book.specs.inside.Place.{IsPlaceOf};
 ghost use Rattle.branch_marks.specs.Facts.{IsFactOf};
-ghost use Rattle.branch_marks.specs.MarkTables.{AreMarksOf};
+ghost use Rattle.branch_marks.specs.inside.MarkTables.{AreMarksOf};
 
 use crate::{Added, Fact, Marks, Named};
 use std::alloc::Global;

@@ -2,8 +2,8 @@
 
 ghost use Rattle.std.specs.Prelude.{◌≡◌, ◌<◌, length};
 ghost use Rattle.tail_book.specs.Lookup.{activities, aircraft};
-ghost use Rattle.tail_book.specs.Place.{IsPlaceOf};
-ghost use Rattle.maint_counters.specs.StepTable.{IsStepTableOf};
+ghost use Rattle.tail_book.specs.inside.Place.{IsPlaceOf};
+ghost use Rattle.maint_counters.specs.inside.StepTable.{IsStepTableOf};
 
 use super::{activity, counter, rules, tail};
 use crate::*;

@@ -1,6 +1,6 @@
 //! Laws of legality by the counters after the first activities of a route.
 
-ghost use Rattle.tail_book.specs.Along.{CountersAlongStep, LegalIsLegalAlong};
+ghost use Rattle.tail_book.specs.inside.Along.{CountersAlongStep, LegalIsLegalAlong};
 
 /// The counters after the first activities of a route take its steps one by one.
 pub fn counters_along_step()

@@ -1,6 +1,6 @@
 //! Laws of what routes cost at most.
 
-ghost use Rattle.tail_book.specs.RouteBounds.{RisingRoutesAreShort, RisingRoutesAreBelow, RoutesCostAtMost, RisingRoutesCostAtMost, RoutesCostAtMostIn, RisingRoutesCostAtMostIn, ReducedCostsAreSmall};
+ghost use Rattle.tail_book.specs.inside.RouteBounds.{RisingRoutesAreShort, RisingRoutesAreBelow, RoutesCostAtMost, RisingRoutesCostAtMost, RoutesCostAtMostIn, RisingRoutesCostAtMostIn, ReducedCostsAreSmall};
 
 /// Numbers that rise below n are at most n.
 pub fn rising_routes_are_short()

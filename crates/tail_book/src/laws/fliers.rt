@@ -1,6 +1,6 @@
 //! Laws of a plan as an assignment of aircraft to activities.
 
-ghost use Rattle.tail_book.specs.Fliers.{RoutesByFliersRise, PlansByFliersPartition, FliersOfTheirPlan, PlansByFliersAreLegal, FliersFly, PlansOfTheirFliers};
+ghost use Rattle.tail_book.specs.inside.Fliers.{RoutesByFliersRise, PlansByFliersPartition, FliersOfTheirPlan, PlansByFliersAreLegal, FliersFly, PlansOfTheirFliers};
 
 /// A route by fliers rises.
 pub fn routes_by_fliers_rise()

@@ -1,6 +1,6 @@
 //! Laws of how often routes fly an activity.
 
-ghost use Rattle.tail_book.specs.Flown.{FlownIsCount, FlownWithOneMore, TimesWithOneMoreRoute, FlownOnceDecides, NeverFlownIsNowhere, FlownOnceIsInOneRoute, LeastNotOnceIsLeast};
+ghost use Rattle.tail_book.specs.inside.Flown.{FlownIsCount, FlownWithOneMore, TimesWithOneMoreRoute, FlownOnceDecides, NeverFlownIsNowhere, FlownOnceIsInOneRoute, LeastNotOnceIsLeast};
 
 /// Never, once and more are the counts 0, 1 and above.
 pub fn flown_is_count()

@@ -1,6 +1,6 @@
 //! Laws of a route with one activity more at its end.
 
-ghost use Rattle.tail_book.specs.OneMore.{LegalWithOneMore, CountersWithOneMore, PlaceWithOneMore, CostWithOneMore, CostWithOneMoreIn, RisingWithOneMore};
+ghost use Rattle.tail_book.specs.inside.OneMore.{LegalWithOneMore, CountersWithOneMore, PlaceWithOneMore, CostWithOneMore, CostWithOneMoreIn, RisingWithOneMore};
 
 /// Legality asks of a route with one activity more that it goes on with it.
 pub fn legal_with_one_more()

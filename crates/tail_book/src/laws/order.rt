@@ -1,6 +1,6 @@
 //! Laws of the order of counter values.
 
-ghost use Rattle.tail_book.specs.Order.{EachAtMostDecides, EachAtMostItself, EachAtMostChains, StepsKeepOrder, RoutesKeepOrder, LowerStaysWithin, LowerStaysLegal, StepsKeepCount, RoutesKeepCount};
+ghost use Rattle.tail_book.specs.inside.Order.{EachAtMostDecides, EachAtMostItself, EachAtMostChains, StepsKeepOrder, RoutesKeepOrder, LowerStaysWithin, LowerStaysLegal, StepsKeepCount, RoutesKeepCount};
 
 /// Whether each value is at most the one at its place is decided by a test.
 pub fn each_at_most_decides()

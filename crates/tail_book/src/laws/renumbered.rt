@@ -1,6 +1,6 @@
 //! Laws of the same activities under other numbers.
 
-ghost use Rattle.tail_book.specs.Renumbered.{RenumberedRoutesAreLegal, RenumberedRoutesCount, RenumberedRoutesCost};
+ghost use Rattle.tail_book.specs.inside.Renumbered.{RenumberedRoutesAreLegal, RenumberedRoutesCount, RenumberedRoutesCost};
 
 /// Where two books have the same aircraft and rules, a route of the same activities is legal in both or in neither.
 pub fn renumbered_routes_are_legal()

@@ -1,7 +1,7 @@
 //! Laws of sums: over lists, over partitions, and over the routes of a legal plan.
 
-ghost use Rattle.tail_book.specs.Sums.{TotalOfTwoLists, TotalByNumber, TotalOfPartition, LengthOfPartition};
-ghost use Rattle.tail_book.specs.Partition.{LegalPlansPartition, LegalPlansFlyTheBook, LegalPlansFlyAll, TotalOfRoutes, TotalOfLegalPlan};
+ghost use Rattle.tail_book.specs.inside.Sums.{TotalOfTwoLists, TotalByNumber, TotalOfPartition, LengthOfPartition};
+ghost use Rattle.tail_book.specs.inside.Partition.{LegalPlansPartition, LegalPlansFlyTheBook, LegalPlansFlyAll, TotalOfRoutes, TotalOfLegalPlan};
 
 /// The sum of two lists together is that of both.
 pub fn total_of_two_lists()

@@ -1,10 +1,11 @@
-use Rattle.std.proofs.Common.{◌≡◌, ◌+◌, ◌*◌, ◌≤◌, ◌++◌, length, map, take}
-use Rattle.book_maker.specs.Made.{joined}
+use Rattle.std.proofs.Common.{◌≡◌, ◌+◌, ◌*◌, ◌≤◌, ◌++◌, length, take}
+use Rattle.std.specs.List.{flat_map}
+use Rattle.tail_book.specs.declared.limits.TheConstants.{ITEM_LIMIT}
 use Rattle.book_maker.proofs.tags.add_activity_tags.Given as goal
 
 -- the tags of the rows so far stand behind those that were there
 abbrev pub invariant-loop-i : goal.invariant-loop-i
 invariant-loop-i l = record {
-  tags : l.names.items ≡ l.fn.names.items ++ joined (map (λ row. row.tags) (take l.i l.activities));
-  few : length l.names.items ≤ length l.fn.names.items + 20 * l.i;
+  tags : l.names.items ≡ l.fn.names.items ++ flat_map (λ row. row.tags) (take l.i l.activities);
+  few : length l.names.items ≤ length l.fn.names.items + ITEM_LIMIT * l.i;
 }

@@ -2,7 +2,7 @@ use Rattle.std.proofs.Common.{◌≡◌, ◌∙◌, rules}
 use Rattle.std.proofs.lemmas.Bool.{lt-ltb}
 use Rattle.std.specs.Prelude.{nat_lt}
 use Rattle.tail_book.specs.Lookup.{activities, aircraft}
-use Rattle.branch_marks.specs.BitRows.{has_pair}
+use Rattle.branch_marks.specs.inside.BitRows.{has_pair}
 use Rattle.branch_marks.proofs.FactTables.{alive_none}
 use Rattle.branch_marks.proofs.alive_rows.alive_at_first.Goals as goal
 

@@ -1,6 +1,6 @@
 use Rattle.std.specs.Prelude.{◌&&◌, ◌||◌, nat_eq, nat_lt}
-use Rattle.tail_book.specs.Tests.{is_allowed}
-use Rattle.branch_marks.specs.BitRows.{AreChanged}
+use Rattle.tail_book.specs.inside.Tests.{is_allowed}
+use Rattle.branch_marks.specs.inside.BitRows.{AreChanged}
 use Rattle.branch_marks.proofs.alive_rows.put_row.Given as goal
 
 -- the aircraft so far are there where they may fly the activity

@@ -1,6 +1,6 @@
 use Rattle.std.proofs.Common.{◌≡◌, ℕ}
 use Rattle.std.specs.Prelude.{◌&&◌, nat_le, nat_lt, not}
-use Rattle.branch_marks.specs.BitRows.{bit}
+use Rattle.branch_marks.specs.inside.BitRows.{bit}
 use Rattle.branch_marks.proofs.bit_rows.clear_range.Given as goal
 
 -- the numbers so far are cleared

@@ -1,7 +1,7 @@
 use Rattle.std.proofs.Common.{ap, get_or, ◌/◌, ◌%◌}
 use Rattle.std.specs.Prelude.{nat_eq}
 use Rattle.std.proofs.lemmas.Nat.Bits.{shr_and_one}
-use Rattle.branch_marks.specs.BitRows.{bit}
+use Rattle.branch_marks.specs.inside.BitRows.{bit}
 use Rattle.branch_marks.proofs.bit_rows.get.Goals as goal
 
 -- the bit that is shifted to the end

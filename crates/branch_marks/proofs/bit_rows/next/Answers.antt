@@ -1,5 +1,5 @@
 use Rattle.std.proofs.Common.{◌≡◌, arith, ap, ◌∙◌, ◌+◌, ◌*◌}
-use Rattle.branch_marks.specs.BitRows.{bit}
+use Rattle.branch_marks.specs.inside.BitRows.{bit}
 use Rattle.branch_marks.proofs.Bits.{none_further, found_here}
 use Rattle.branch_marks.proofs.bit_rows.next.Goals as goal
 

@@ -1,5 +1,5 @@
 use Rattle.std.proofs.Common.{◌≡◌, ◌+◌, ◌*◌, ◌<◌, ◌≤◌, ℕ, false}
-use Rattle.branch_marks.specs.BitRows.{bit}
+use Rattle.branch_marks.specs.inside.BitRows.{bit}
 use Rattle.branch_marks.proofs.bit_rows.next.Given as goal
 
 -- nothing is set up to the place that the next word is looked at from

@@ -1,6 +1,6 @@
 use Rattle.std.proofs.Common.{◌≡◌, take, false}
 use Rattle.std.specs.List.{list_any}
-use Rattle.branch_marks.specs.MarkTables.{is_tie}
+use Rattle.branch_marks.specs.inside.MarkTables.{is_tie}
 use Rattle.branch_marks.proofs.marks.ties.Given as goal
 
 -- none of the facts so far does

@@ -1,7 +1,7 @@
 //! Marks by chance: the tables say what a walk over the facts says.
 
 ghost use Rattle.std.specs.Prelude.{◌<◌};
-ghost use Rattle.branch_marks.specs.MarkTables.{AreMarksOf};
+ghost use Rattle.branch_marks.specs.inside.MarkTables.{AreMarksOf};
 
 use super::{book, is_place_of, marks};
 use crate::{Fact, Marks};

@@ -1,7 +1,6 @@
-use Rattle.std.proofs.Common.{◌∙◌, ◌≡◌, ◌<◌, ap, arith, length}
-use Rattle.std.specs.Prelude.{All, [], slice_index_or}
-use Rattle.tail_book.specs.Lookup.{activities}
-use Rattle.connection_net.specs.LinkTable.{arrivals_of}
+use Rattle.std.proofs.Common.{◌∙◌, ◌≡◌, ap, arith, length}
+use Rattle.std.specs.Prelude.{[], slice_index_or}
+use Rattle.connection_net.specs.inside.LinkTable.{arrivals_of}
 use Rattle.connection_net.proofs.Among.{arrivals_length, arrivals_at, arrivals_below}
 use Rattle.connection_net.proofs.airports.arriving.Goals as goal
 

@@ -1,7 +1,6 @@
-use Rattle.std.proofs.Common.{◌∙◌, ◌≡◌, ◌<◌, ap, arith, length}
-use Rattle.std.specs.Prelude.{All, [], slice_index_or}
-use Rattle.tail_book.specs.Lookup.{activities}
-use Rattle.connection_net.specs.LinkTable.{departures_of}
+use Rattle.std.proofs.Common.{◌∙◌, ◌≡◌, ap, arith, length}
+use Rattle.std.specs.Prelude.{[], slice_index_or}
+use Rattle.connection_net.specs.inside.LinkTable.{departures_of}
 use Rattle.connection_net.proofs.Among.{departures_length, departures_at, departures_below}
 use Rattle.connection_net.proofs.airports.departing.Goals as goal
 

@@ -1,7 +1,7 @@
 use Rattle.std.proofs.Common.{◌∙◌, ◌≡◌, arith, ap, map, length, rules, sym}
 use Rattle.std.specs.List.{range_with_len}
 use Rattle.std.proofs.lemmas.List.FromFn.{map-range_with_len_more}
-use Rattle.connection_net.specs.LinkTable.{departures_of, all_departures_of}
+use Rattle.connection_net.specs.inside.LinkTable.{departures_of, all_departures_of}
 use Rattle.connection_net.proofs.airports.departures.Goals as goal
 
 -- the next airport's row stands last

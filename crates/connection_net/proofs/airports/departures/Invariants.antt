@@ -1,6 +1,6 @@
 use Rattle.std.proofs.Common.{◌≡◌, map}
 use Rattle.std.specs.List.{range_with_len}
-use Rattle.connection_net.specs.LinkTable.{departures_of}
+use Rattle.connection_net.specs.inside.LinkTable.{departures_of}
 use Rattle.connection_net.proofs.airports.departures.Given as goal
 
 -- the rows of the airports so far

@@ -1,8 +1,8 @@
-use Rattle.std.proofs.Common.{◌∙◌, ◌≡◌, arith, ap, sym, length}
+use Rattle.std.proofs.Common.{◌∙◌, ◌≡◌, arith, ap, sym}
 use Rattle.std.specs.Prelude.{nat_eq}
 use Rattle.std.specs.List.{filter, range_with_len}
 use Rattle.tail_book.specs.Lookup.{from_port, activities}
-use Rattle.connection_net.specs.LinkTable.{departures_of}
+use Rattle.connection_net.specs.inside.LinkTable.{departures_of}
 use Rattle.connection_net.proofs.Filters.{filter_range_more}
 use Rattle.connection_net.proofs.airports.put_departures.Goals as goal
 

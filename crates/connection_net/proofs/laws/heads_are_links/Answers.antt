@@ -1,4 +1,4 @@
-use Rattle.connection_net.proofs.RowsSaid.{heads_said}
+use Rattle.connection_net.proofs.RowLaws.{heads_said}
 use Rattle.connection_net.proofs.laws.heads_are_links.Goals as goal
 
 pub returns : goal.returns

@@ -1,4 +1,4 @@
-use Rattle.connection_net.proofs.RowsSaid.{predecessors_said}
+use Rattle.connection_net.proofs.RowLaws.{predecessors_said}
 use Rattle.connection_net.proofs.laws.predecessors_are_links.Goals as goal
 
 pub returns : goal.returns

@@ -1,4 +1,4 @@
-use Rattle.connection_net.proofs.RowsSaid.{rows_rise}
+use Rattle.connection_net.proofs.RowLaws.{rows_rise}
 use Rattle.connection_net.proofs.laws.rows_rise.Goals as goal
 
 pub returns : goal.returns

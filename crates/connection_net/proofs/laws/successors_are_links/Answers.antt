@@ -1,4 +1,4 @@
-use Rattle.connection_net.proofs.RowsSaid.{successors_said}
+use Rattle.connection_net.proofs.RowLaws.{successors_said}
 use Rattle.connection_net.proofs.laws.successors_are_links.Goals as goal
 
 pub returns : goal.returns

@@ -1,4 +1,4 @@
-use Rattle.connection_net.proofs.RowsSaid.{both_directions}
+use Rattle.connection_net.proofs.RowLaws.{both_directions}
 use Rattle.connection_net.proofs.laws.successors_face_predecessors.Goals as goal
 
 pub returns : goal.returns

@@ -1,4 +1,4 @@
-use Rattle.connection_net.proofs.RowsSaid.{successor_follows}
+use Rattle.connection_net.proofs.RowLaws.{successor_follows}
 use Rattle.connection_net.proofs.laws.successors_follow.Goals as goal
 
 pub returns : goal.returns

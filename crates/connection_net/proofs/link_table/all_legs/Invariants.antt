@@ -1,5 +1,5 @@
 use Rattle.std.proofs.Common.{◌≡◌, ◌<◌, ℕ, length, get_or}
-use Rattle.connection_net.specs.LinkTable.{IsLegOf, no_leg}
+use Rattle.connection_net.specs.inside.LinkTable.{IsLegOf, no_leg}
 use Rattle.connection_net.proofs.link_table.all_legs.Given as goal
 
 -- the activities so far have their rows

@@ -1,5 +1,5 @@
 use Rattle.std.proofs.Common.{◌≡◌, ◌<◌, ℕ, length, get_or}
-use Rattle.connection_net.specs.LinkTable.{AreTurnedIn, no_set}
+use Rattle.connection_net.specs.inside.LinkTable.{AreTurnedIn, no_set}
 use Rattle.connection_net.proofs.link_table.all_turned.Given as goal
 
 -- the stops so far have their sets

@@ -1,7 +1,7 @@
 use Rattle.std.proofs.Common.{◌≡◌, ℕ}
 use Rattle.std.specs.Prelude.{◌&&◌, nat_lt}
-use Rattle.tail_book.specs.Tests.{is_allowed}
-use Rattle.connection_net.specs.AircraftSet.{has}
+use Rattle.tail_book.specs.inside.Tests.{is_allowed}
+use Rattle.connection_net.specs.inside.AircraftSet.{has}
 use Rattle.connection_net.proofs.link_table.fliers.Given as goal
 
 -- the set has those of the aircraft so far

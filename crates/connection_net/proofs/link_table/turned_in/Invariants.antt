@@ -2,7 +2,7 @@ use Rattle.std.proofs.Common.{◌≡◌, ℕ, pos}
 use Rattle.std.specs.Prelude.{◌&&◌, nat_lt}
 use Rattle.tail_book.specs.Lookup.{kind_of, type_turn}
 use Rattle.tail_book.specs.Numbers.{int_le}
-use Rattle.connection_net.specs.AircraftSet.{has}
+use Rattle.connection_net.specs.inside.AircraftSet.{has}
 use Rattle.connection_net.proofs.link_table.turned_in.Given as goal
 
 -- the set has those of the aircraft so far

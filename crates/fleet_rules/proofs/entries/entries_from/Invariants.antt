@@ -1,8 +1,8 @@
 use Rattle.std.proofs.Common.{◌≡◌, ◌≤◌, ◌+◌, ◌-◌, length, map, drop}
 use Rattle.std.specs.Prelude.{All}
 use Rattle.toml.specs.View.{table_view}
+use Rattle.tail_text.specs.inside.Joined.{joined}
 use Rattle.fleet_rules.specs.Entries.{entries_from}
-use Rattle.fleet_rules.proofs.TomlLemmas.{joined}
 use Rattle.fleet_rules.proofs.entries.entries_from.Given as goal
 
 -- the entries so far are good, and stand before what the tables give that are left

@@ -1,8 +1,8 @@
 use Rattle.std.proofs.Common.{◌≡◌, map, drop}
 use Rattle.toml.specs.View.{table_view, view}
 use Rattle.tail_text.specs.Checks.{look_each}
+use Rattle.tail_text.specs.inside.Joined.{joined}
 use Rattle.fleet_rules.specs.Entries.{entry_table}
-use Rattle.fleet_rules.proofs.TomlLemmas.{joined}
 use Rattle.fleet_rules.proofs.entries.tables_among.Given as goal
 
 -- the tables so far stand before those that are left

@@ -2,7 +2,7 @@ use Rattle.std.proofs.Common.{◌≡◌, false, true, nat_le, length, rules, ref
 use Rattle.std.specs.Str.{is_utf8}
 use Rattle.std.proofs.lemmas.Bool.{false_from_ne_true}
 use Rattle.std.proofs.lemmas.Str.{IsUtf8-from_is_utf8, is_utf8-from_IsUtf8}
-use Rattle.table_records.specs.declared.table.TheConstants.{SIZE_LIMIT}
+use Rattle.tail_text.specs.declared.refusal.TheConstants.{SIZE_LIMIT}
 use Rattle.fleet_rules.proofs.rules_table.read_rules.Goals as goal
 
 -- bytes that std refuses are no text

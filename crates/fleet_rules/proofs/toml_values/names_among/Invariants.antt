@@ -3,8 +3,8 @@ use Rattle.std.specs.List.{AllPass}
 use Rattle.toml.specs.View.{view}
 use Rattle.tail_book.specs.Name.{is_name}
 use Rattle.tail_text.specs.Checks.{look_each}
+use Rattle.tail_text.specs.inside.Joined.{joined}
 use Rattle.fleet_rules.specs.TomlValues.{name_of_value}
-use Rattle.fleet_rules.proofs.TomlLemmas.{joined}
 use Rattle.fleet_rules.proofs.toml_values.names_among.Given as goal
 
 -- the names so far stand before what the values give that are left

@@ -1,5 +1,5 @@
 use Rattle.std.proofs.Common.{rules}
-use Rattle.maint_counters.specs.StepTable.{IsActivityRow, no_activity_row}
+use Rattle.maint_counters.specs.inside.StepTable.{IsActivityRow, no_activity_row}
 use Rattle.maint_counters.proofs.Listed.{each_more}
 use Rattle.maint_counters.proofs.step_table.activity_rows.Goals as goal
 

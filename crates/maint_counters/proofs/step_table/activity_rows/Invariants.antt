@@ -1,5 +1,5 @@
 use Rattle.std.proofs.Common.{◌≡◌, ◌<◌, ℕ, length, get_or}
-use Rattle.maint_counters.specs.StepTable.{IsActivityRow, no_activity_row}
+use Rattle.maint_counters.specs.inside.StepTable.{IsActivityRow, no_activity_row}
 use Rattle.maint_counters.proofs.step_table.activity_rows.Given as goal
 
 -- the activities so far have their rows

@@ -1,8 +1,8 @@
 use Rattle.std.proofs.Common.{◌≡◌, ◌<◌, ◌≤◌, ℕ, get_or}
 use Rattle.std.specs.Prelude.{false}
 use Rattle.tail_book.specs.Numbers.{contains}
-use Rattle.turn_rules.specs.NumberSet.{has}
-use Rattle.maint_counters.specs.StepTable.{no_counter}
+use Rattle.turn_rules.specs.inside.NumberSet.{has}
+use Rattle.maint_counters.specs.inside.StepTable.{no_counter}
 use Rattle.maint_counters.proofs.step_table.based_at.Given as goal
 
 -- the set has the counters so far that are based there, and none of the others

@@ -1,5 +1,5 @@
 use Rattle.std.proofs.Common.{◌≡◌, ◌<◌, ℕ, length, get_or}
-use Rattle.maint_counters.specs.StepTable.{IsCounterRow, counter_of, no_counter_row}
+use Rattle.maint_counters.specs.inside.StepTable.{IsCounterRow, counter_of, no_counter_row}
 use Rattle.maint_counters.proofs.step_table.counter_rows.Given as goal
 
 -- the counters so far have their rows

@@ -1,7 +1,7 @@
 use Rattle.std.proofs.Common.{◌≡◌, ◌∙◌, sym, subst, rules, ◌+ℤ◌, to_z, of_z, w64, Bool, false, ℤ}
 use Rattle.std.specs.Prelude.{FitsSigned}
 use Rattle.std.proofs.lemmas.Int.{to_z-of_z}
-use Rattle.maint_counters.specs.StepTable.{added_in, clears_in}
+use Rattle.maint_counters.specs.inside.StepTable.{added_in, clears_in}
 use Rattle.maint_counters.proofs.StepRows.{goes_on}
 use Rattle.maint_counters.proofs.step_table.stepped.Goals as goal
 

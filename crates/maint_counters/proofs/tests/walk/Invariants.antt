@@ -1,5 +1,5 @@
-use Rattle.tail_book.specs.Place.{IsPlaceOf}
-use Rattle.maint_counters.specs.Counts.{AreCounts}
+use Rattle.tail_book.specs.inside.Place.{IsPlaceOf}
+use Rattle.maint_counters.specs.inside.Counts.{AreCounts}
 use Rattle.maint_counters.proofs.tests.walk.Given as goal
 
 -- the place is of the book, and the values are counts

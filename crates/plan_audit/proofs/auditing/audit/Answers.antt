@@ -2,7 +2,7 @@ use Rattle.std.proofs.Common.{◌≡◌, ◌∙◌, sym, ap, arith, rules, []}
 use Rattle.std.proofs.lemmas.Grind.{common_steps}
 use Rattle.plan_audit.specs.Met.{names_met}
 use Rattle.plan_audit.specs.Kept.{legs_met}
-use Rattle.plan_audit.specs.LegCost.{legs_cost}
+use Rattle.plan_audit.specs.inside.LegCost.{legs_cost}
 use Rattle.plan_audit.specs.Broken.{broken, broken_by}
 use Rattle.plan_audit.proofs.auditing.audit.Goals as goal
 
@@ -11,7 +11,7 @@ pub returns-then-is_empty : goal.returns-then-is_empty
 returns-then-is_empty c =
     let book = c.args.book.now in
     let raw = c.args.raw.now in
-    let met : c.in_ok-reading.reading.met.items ≡ names_met book raw = c.in_ok-reading.ensures.reads in
+    let met : c.in_ok-met_names.met_names.met.items ≡ names_met book raw = c.in_ok-met_names.ensures.reads in
     let none : c.in_ok-list.list.items ≡ [] = grind (arith, common_steps) in
     let unbroken : broken book raw ≡ [] = ap (broken_by book) (sym met) ∙ sym c.in_ok-list.ensures ∙ none in
     let plan = c.unbroken_plans_are_legal.ensures book c.every_book_is_sound.ensures raw unbroken in

@@ -1,7 +1,8 @@
 use Rattle.std.proofs.Common.{◌≡◌, ◌∙◌, map, rules}
 use Rattle.std.specs.List.{range_with_len}
 use Rattle.tail_book.specs.Lookup.{aircraft}
-use Rattle.plan_audit.specs.Kept.{legs_met, route_in}
+use Rattle.plan_audit.specs.Kept.{legs_met}
+use Rattle.plan_audit.specs.inside.Kept.{route_in}
 use Rattle.plan_audit.specs.Met.{names_met}
 use Rattle.plan_audit.proofs.KeptRoutes.{routes_are_kept}
 use Rattle.plan_audit.proofs.kept_plan.kept.Goals as goal

@@ -2,7 +2,7 @@ use Rattle.std.proofs.Common.{rules, take}
 use Rattle.tail_book.specs.Lookup.{aircraft}
 use Rattle.tail_book.specs.declared.place.Place.TheVariants.{Carry}
 use Rattle.plan_audit.specs.declared.leg.Leg.{Leg}
-use Rattle.plan_audit.specs.Kept.{route_in}
+use Rattle.plan_audit.specs.inside.Kept.{route_in}
 use Rattle.plan_audit.proofs.KeptRoutes.{leg-next, leg-fits, legs-begin, legs-end}
 use Rattle.plan_audit.proofs.kept_plan.routes_in.Goals as goal
 

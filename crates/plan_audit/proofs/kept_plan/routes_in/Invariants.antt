@@ -1,7 +1,7 @@
 use Rattle.std.proofs.Common.{◌≡◌, map, take}
 use Rattle.std.specs.List.{range_with_len}
 use Rattle.tail_book.specs.Lookup.{aircraft}
-use Rattle.plan_audit.specs.Kept.{route_in}
+use Rattle.plan_audit.specs.inside.Kept.{route_in}
 use Rattle.plan_audit.proofs.kept_plan.routes_in.Given as goal
 
 -- the routes of the legs so far

@@ -1,5 +1,5 @@
 use Rattle.std.proofs.Common.{◌≡◌, ◌++◌, ℕ, List, take, length}
-use Rattle.plan_audit.specs.Times.{AreTimes}
+use Rattle.plan_audit.specs.inside.Times.{AreTimes}
 use Rattle.plan_audit.proofs.legal_plan.count_route.Given as goal
 
 -- the activities so far are counted

@@ -1,6 +1,6 @@
 use Rattle.std.proofs.Common.{◌≡◌, ◌++◌, ℕ, List, take, length}
 use Rattle.std.specs.List.{flat_map}
-use Rattle.plan_audit.specs.Times.{AreTimes}
+use Rattle.plan_audit.specs.inside.Times.{AreTimes}
 use Rattle.plan_audit.proofs.legal_plan.count_routes.Given as goal
 
 -- the activities of the routes so far are counted

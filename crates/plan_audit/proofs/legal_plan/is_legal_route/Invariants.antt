@@ -1,7 +1,7 @@
 use Rattle.std.proofs.Common.{◌≡◌, drop, length}
-use Rattle.tail_book.specs.Tests.{is_legal_route, is_legal_from}
-use Rattle.tail_book.specs.Place.{IsPlaceOf}
-use Rattle.maint_counters.specs.Counts.{AreCounts}
+use Rattle.tail_book.specs.inside.Tests.{is_legal_route, is_legal_from}
+use Rattle.tail_book.specs.inside.Place.{IsPlaceOf}
+use Rattle.maint_counters.specs.inside.Counts.{AreCounts}
 use Rattle.plan_audit.proofs.legal_plan.is_legal_route.Given as goal
 
 -- what is left decides, from a place of the book and with counters within their limits

@@ -1,6 +1,6 @@
 use Rattle.std.proofs.Common.{◌≡◌, ◌++◌, drop, length, All}
 use Rattle.plan_audit.specs.Rules.{past_limits}
-use Rattle.plan_audit.specs.Counted.{IsWithinLegs}
+use Rattle.plan_audit.specs.inside.PastLimits.{IsWithinLegs}
 use Rattle.plan_audit.proofs.past_limits.add_past_limits_from.Given as goal
 
 -- what is left is added to what was, from the values as they are, which the legs so far have not brought far

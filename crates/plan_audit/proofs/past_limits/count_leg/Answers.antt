@@ -5,7 +5,7 @@ use Rattle.std.proofs.lemmas.List.Elements.{All-same, All-push}
 use mir.Syntax.{w128}
 use Rattle.tail_book.specs.Lookup.{carry_of}
 use Rattle.tail_book.specs.Counters.{step_one}
-use Rattle.plan_audit.specs.Counted.{value_before, IsWithinLegs}
+use Rattle.plan_audit.specs.inside.PastLimits.{value_before, IsWithinLegs}
 use Rattle.plan_audit.specs.Rules.{values_before}
 use Rattle.plan_audit.proofs.CountLemmas.{step_from-more, read_before, length_before, carry_width, fits}
 use Rattle.plan_audit.proofs.past_limits.count_leg.Goals as goal

@@ -1,6 +1,6 @@
 use Rattle.std.proofs.Common.{◌≡◌, ◌≤◌, ◌+◌, ℕ, pos, ◌++◌, take, drop, length, get_or, All}
 use Rattle.tail_book.specs.Counters.{step_from}
-use Rattle.plan_audit.specs.Counted.{IsWithinLegs}
+use Rattle.plan_audit.specs.inside.PastLimits.{IsWithinLegs}
 use Rattle.plan_audit.specs.Rules.{values_before}
 use Rattle.plan_audit.proofs.past_limits.count_leg.Given as goal
 

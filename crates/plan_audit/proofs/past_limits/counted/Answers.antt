@@ -1,7 +1,7 @@
 use Rattle.std.proofs.Common.{◌^◌, subst, sym, arith}
 use Rattle.std.proofs.lemmas.Int.{to_z-of_z}
 use mir.Syntax.{w128}
-use Rattle.plan_audit.specs.Counted.{IsWithinLegs}
+use Rattle.plan_audit.specs.inside.PastLimits.{IsWithinLegs}
 use Rattle.plan_audit.proofs.CountLemmas.{fits}
 use Rattle.plan_audit.proofs.past_limits.counted.Goals as goal
 

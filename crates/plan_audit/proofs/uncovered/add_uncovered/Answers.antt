@@ -8,5 +8,5 @@ use Rattle.plan_audit.proofs.uncovered.add_uncovered.Goals as goal
 -- the next activity is added, unless a route has it
 pub loop-a-preserved : goal.loop-a-preserved
 loop-a-preserved c =
-    uncovered-next (λ b. not (contains (activities_met c.args.reading.now.met.items) b)) c.args.list.now.items c.loop-a.list.items c.add_unless_flown.new.list.items c.loop-a.a
+    uncovered-next (λ b. not (contains (activities_met c.args.met_names.now.met.items) b)) c.args.list.now.items c.loop-a.list.items c.add_unless_flown.new.list.items c.loop-a.a
     c.is_flown.result (ap not (sym c.is_flown.ensures)) c.loop-a.invariant c.in_ok-add_unless_flown.ensures

@@ -8,4 +8,4 @@ use Rattle.plan_audit.proofs.uncovered.add_uncovered.Given as goal
 
 -- of the activities before a, those that no route has
 abbrev pub invariant-loop-a : goal.invariant-loop-a
-invariant-loop-a l = l.list.items ≡ l.fn.list.items ++ map rule.Uncovered (filter (λ a. not (contains (activities_met l.reading.met.items) a)) (range_with_len 0 l.a))
+invariant-loop-a l = l.list.items ≡ l.fn.list.items ++ map rule.Uncovered (filter (λ a. not (contains (activities_met l.met_names.met.items) a)) (range_with_len 0 l.a))

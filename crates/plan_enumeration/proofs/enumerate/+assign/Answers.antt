@@ -1,7 +1,7 @@
 use Rattle.std.proofs.Common.{◌≡◌, ◌∙◌, ◌++◌, ◌∷◌, [], ℕ, List, ap, arith, below_more, refl, subst, take}
 use Rattle.std.specs.Prelude.{slice_set}
 use Rattle.tail_book.specs.declared.place.Place.{Place}
-use Rattle.plan_enumeration.specs.Enumeration.{HasTried}
+use Rattle.plan_enumeration.specs.inside.Enumeration.{HasTried}
 use Rattle.plan_enumeration.proofs.Trials.{back_from, going_costs, returned, tried_dear, tried_from, tried_nothing}
 use Rattle.plan_enumeration.proofs.enumerate.+assign.Goals as goal
 

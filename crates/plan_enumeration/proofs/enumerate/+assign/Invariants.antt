@@ -1,6 +1,6 @@
 use Rattle.std.proofs.Common.{◌+◌, ◌*◌, ◌-◌, ◌≡◌, ◌<◌, ◌++◌, ◌∷◌, [], ℕ, take}
 use Rattle.tail_book.specs.Lookup.{activities, aircraft}
-use Rattle.plan_enumeration.specs.Enumeration.{AgreesBelow, HasTried, IsBest, IsTrial, KeepsBest}
+use Rattle.plan_enumeration.specs.inside.Enumeration.{AgreesBelow, HasTried, IsBest, IsTrial, KeepsBest}
 use Rattle.plan_enumeration.proofs.enumerate.+assign.Given as goal
 
 -- the activities that are left

@@ -1,6 +1,6 @@
 use Rattle.std.proofs.Common.{arith, refl, subst}
 use Rattle.tail_book.specs.declared.place.Place.{Place}
-use Rattle.plan_enumeration.specs.Enumeration.{HasRow}
+use Rattle.plan_enumeration.specs.inside.Enumeration.{HasRow}
 use Rattle.plan_enumeration.proofs.Trials.{agrees_before, goes_on_back, goes_on_from, place_is_before, place_of_book, values_are_small}
 use Rattle.plan_enumeration.proofs.enumerate.can_go_on.Goals as goal
 

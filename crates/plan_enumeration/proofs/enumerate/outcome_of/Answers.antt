@@ -2,7 +2,7 @@ use Rattle.std.proofs.Common.{◌≡◌, ◌∙◌, List, ℕ, ap, rules, subst,
 use Rattle.tail_book.specs.Lookup.{aircraft}
 use Rattle.tail_book.specs.Truth.{IsTrueOutcome}
 use Rattle.tail_book.specs.declared.outcome.Outcome.TheVariants as outcome
-use Rattle.plan_enumeration.specs.Assignment.{plan_of, routes_from}
+use Rattle.plan_enumeration.specs.inside.Assignment.{plan_of, routes_from}
 use Rattle.plan_enumeration.proofs.Truth.{best_is_least, none_is_legal}
 use Rattle.plan_enumeration.proofs.enumerate.outcome_of.Goals as goal
 

@@ -1,5 +1,5 @@
 use Rattle.std.proofs.Common.{◌≡◌, ◌++◌, ◌-◌}
-use Rattle.plan_enumeration.specs.Assignment.{routes_from}
+use Rattle.plan_enumeration.specs.inside.Assignment.{routes_from}
 use Rattle.plan_enumeration.proofs.enumerate.plan_of.Given as goal
 
 -- the routes so far, and those that are left

@@ -1,7 +1,7 @@
 use Rattle.std.proofs.Common.{◌≡◌, ◌≤◌, ◌*◌, ◌∙◌, arith, length, take, drop, rules, ap}
 use Rattle.tail_book.specs.Counters.{step}
 use Rattle.tail_book.specs.Lookup.{activities}
-use Rattle.plan_enumeration.specs.Enumeration.{values_at, width_of, with_row}
+use Rattle.plan_enumeration.specs.inside.Enumeration.{values_at, width_of, with_row}
 use Rattle.plan_enumeration.proofs.Rows.{put_together, row_below, row_is_before, values_in_front}
 use Rattle.plan_enumeration.proofs.enumerate.step_row.Goals as goal
 

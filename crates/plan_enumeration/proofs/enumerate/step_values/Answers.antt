@@ -1,6 +1,6 @@
 use Rattle.std.proofs.Common.{◌≡◌, ◌∙◌, ap, length, rules, List, ℤ}
 use Rattle.std.proofs.lemmas.List.{with_items_is}
-use Rattle.plan_enumeration.specs.Enumeration.{values_after, width_of, with_row}
+use Rattle.plan_enumeration.specs.inside.Enumeration.{values_after, width_of, with_row}
 use Rattle.plan_enumeration.proofs.enumerate.step_values.Goals as goal
 
 pub returns-clause-row : goal.returns-clause-row

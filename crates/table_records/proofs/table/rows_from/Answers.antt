@@ -1,5 +1,5 @@
 use Rattle.std.proofs.Common.{◌≡◌, ◌-◌, ◌<◌, ap, length, rules, arith, Ok, Err}
-use Rattle.table_records.specs.Layout.{record_of}
+use Rattle.table_records.specs.Table.{record_of}
 use Rattle.table_records.proofs.RowLemmas.{record_of-room, turn-bad, turn-end, turn-good}
 use Rattle.table_records.proofs.table.rows_from.Goals as goal
 

@@ -1,6 +1,6 @@
 use Rattle.std.proofs.Common.{◌≡◌, ◌+◌, ◌-◌, ◌≤◌, length}
-use Rattle.table_records.specs.Layout.{rows_from}
-use Rattle.table_records.proofs.RowLemmas.{joined}
+use Rattle.tail_text.specs.inside.Joined.{joined}
+use Rattle.table_records.specs.Table.{rows_from}
 use Rattle.table_records.proofs.table.rows_from.Given as goal
 
 -- the rows so far stand before what the records give that are left

@@ -2,7 +2,7 @@ use Rattle.std.proofs.Common.{◌≡◌, ◌∙◌, ◌++◌, ap, refl, sym, Non
 use Rattle.tail_outside.proofs.HeldLemmas.{first_under-place, first_under-set, others-set, first_under-none, first_under-append, others-append}
 use Rattle.tail_outside.proofs.mem_files.extend.Goals as goal
 use Rattle.std.specs.Str.{bytes_eq}
-use Rattle.tail_outside.specs.Held.{bytes_under}
+use Rattle.tail_outside.specs.inside.Held.{bytes_under}
 
 -- the file stands at its place, with the piece behind its bytes
 pub returns-in_ok-extend_from_slice-in-Some-clause-added : goal.returns-in_ok-extend_from_slice-in-Some-clause-added

@@ -1,6 +1,6 @@
 use Rattle.std.proofs.Common.{◌≡◌, ◌<◌, ◌≤◌, ◌∙◌, ◌+◌, ◌-◌, ◌++◌, IfSome, arith, rules, length, take, true, length-append, length-take-le}
 use Rattle.std.specs.Result.{is_ok}
-use Rattle.tail_outside.specs.Outside.{IsRead, only_read_chains}
+use Rattle.tail_outside.specs.inside.Outside.{IsRead, only_read_chains}
 use Rattle.tail_outside.proofs.ReadLemmas.{read-piece, read-within}
 use Rattle.tail_outside.proofs.reading.read_pieces.Goals as goal
 

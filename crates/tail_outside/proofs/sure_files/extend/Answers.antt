@@ -2,7 +2,7 @@ use Rattle.std.proofs.Common.{◌≡◌, ◌∙◌, ap, refl, sym, None, Some, p
 use Rattle.std.specs.Str.{bytes_eq}
 use Rattle.tail_outside.proofs.HeldLemmas.{first_under-place, first_under-set, others-set, first_under-none}
 use Rattle.tail_outside.proofs.sure_files.extend.Goals as goal
-use Rattle.tail_outside.specs.Sure.{after_piece, sink_under}
+use Rattle.tail_outside.specs.inside.Sure.{after_piece, sink_under}
 
 -- the file stands at its place, with its sink changed
 pub returns-in-Some-clause-after : goal.returns-in-Some-clause-after

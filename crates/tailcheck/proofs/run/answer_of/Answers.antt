@@ -1,7 +1,7 @@
 use Rattle.std.proofs.Common.{rules, ◌≡◌, Some}
 use Rattle.run_frame.specs.Spelled.{spelled}
 use Rattle.tailcheck.proofs.Promised.{true_answer}
-use Rattle.tailcheck.specs.Reading.{check_names_seen}
+use Rattle.tailcheck.specs.inside.Texts.{check_names_seen}
 use Rattle.tailcheck.specs.Words.{check_of}
 use Rattle.tailcheck.proofs.run.answer_of.Goals as goal
 

@@ -1,8 +1,8 @@
 use Rattle.tail_outside.specs.Outside.{ReadHasFailed}
-use Rattle.run_frame.specs.Answer.{IsPrinted, status_of}
+use Rattle.run_frame.specs.inside.Answer.{IsPrinted, status_of}
 use Rattle.run_frame.specs.Spelled.{spelled}
 use Rattle.tailcheck.specs.Answers.{answer_text}
-use Rattle.tailcheck.specs.Audits.{audit_status}
+use Rattle.tailcheck.specs.inside.Audits.{audit_status}
 use Rattle.tailcheck.proofs.Promised.{judged, piece_failed, promise, read_failed, texts_refused, words_refused}
 use Rattle.tailcheck.proofs.run.check_run.Goals as goal
 

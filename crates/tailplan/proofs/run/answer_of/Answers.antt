@@ -1,5 +1,5 @@
 use Rattle.std.proofs.Common.{rules, ◌≡◌, Some}
-use Rattle.run_frame.specs.Reading.{names_seen}
+use Rattle.run_frame.specs.inside.TableFiles.{names_seen}
 use Rattle.run_frame.specs.Spelled.{spelled}
 use Rattle.tailplan.proofs.Promised.{true_answer}
 use Rattle.tailplan.specs.Words.{run_of}

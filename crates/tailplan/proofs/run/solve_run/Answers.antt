@@ -1,8 +1,8 @@
 use Rattle.tail_outside.specs.Outside.{ReadHasFailed}
-use Rattle.run_frame.specs.Answer.{IsPrinted, status_of}
+use Rattle.run_frame.specs.inside.Answer.{IsPrinted, status_of}
 use Rattle.run_frame.specs.Spelled.{spelled}
 use Rattle.tailplan.specs.Answers.{answer_text}
-use Rattle.tailplan.specs.Outcomes.{outcome_status}
+use Rattle.tailplan.specs.inside.Outcomes.{outcome_status}
 use Rattle.tailplan.proofs.Promised.{judged, piece_failed, promise, read_failed, tables_refused, words_refused}
 use Rattle.tailplan.proofs.run.solve_run.Goals as goal
 

@@ -3,7 +3,7 @@ use Rattle.std.proofs.lemmas.Int.{to_z-of_z}
 use Rattle.table_records.specs.Fields.{field_at}
 use Rattle.table_records.specs.NameLists.{names_of}
 use Rattle.table_records.specs.Values.{name_in, optional_name_in, stamp_in}
-use Rattle.timetable_reader.specs.Timetable.{end_of, is_whole, kind_of}
+use Rattle.timetable_reader.specs.Timetable.{end_of, is_whole, flight_in}
 use Rattle.timetable_reader.proofs.ActivityLemmas.{is_whole-ground, is_whole-in_flight}
 use Rattle.timetable_reader.proofs.timetable.activity_of.Goals as goal
 
@@ -11,7 +11,7 @@ pub returns-then-not-is_whole : goal.returns-then-not-is_whole
 returns-then-not-is_whole c =
     let f = c.args.fields.now in
     let id : name_in (field_at f 0) ≡ Ok c.in_ok-id.id = search rules in
-    let flight : kind_of (field_at f 1) ≡ Ok c.in_ok-flight.flight = search rules in
+    let flight : flight_in (field_at f 1) ≡ Ok c.in_ok-flight.flight = search rules in
     let from : name_in (field_at f 2) ≡ Ok c.in_ok-from.from = search rules in
     let to : name_in (field_at f 3) ≡ Ok c.in_ok-to.to = search rules in
     let start : stamp_in (field_at f 4) ≡ Ok c.in_ok-start.start = search rules in

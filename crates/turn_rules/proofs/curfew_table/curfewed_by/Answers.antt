@@ -1,5 +1,5 @@
 use Rattle.std.proofs.Common.{◌∙◌, ap}
-use Rattle.turn_rules.specs.CurfewTable.{is_type_curfewed}
+use Rattle.turn_rules.specs.inside.CurfewTable.{is_type_curfewed}
 use Rattle.turn_rules.proofs.curfew_table.curfewed_by.Goals as goal
 
 -- an aircraft is kept from an activity where its type is

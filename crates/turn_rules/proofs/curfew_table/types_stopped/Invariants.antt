@@ -1,7 +1,7 @@
 use Rattle.std.proofs.Common.{◌≡◌, ◌<◌, ℕ, take}
 use Rattle.std.specs.List.{list_any}
-use Rattle.turn_rules.specs.NumberSet.{has}
-use Rattle.turn_rules.specs.CurfewTable.{stops_type}
+use Rattle.turn_rules.specs.inside.NumberSet.{has}
+use Rattle.turn_rules.specs.inside.CurfewTable.{stops_type}
 use Rattle.turn_rules.proofs.curfew_table.types_stopped.Given as goal
 
 -- the set has the types that the curfews so far keep from the flight

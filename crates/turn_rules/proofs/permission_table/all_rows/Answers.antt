@@ -1,6 +1,6 @@
 use Rattle.std.proofs.Common.{arith, sym}
 use Rattle.std.proofs.Math.Numerals.{add-one}
-use Rattle.turn_rules.specs.PermissionTable.{allowed_to}
+use Rattle.turn_rules.specs.inside.PermissionTable.{allowed_to}
 use Rattle.turn_rules.proofs.Permissions.{rows_more}
 use Rattle.turn_rules.proofs.permission_table.all_rows.Goals as goal
 

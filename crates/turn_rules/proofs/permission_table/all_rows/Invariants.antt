@@ -1,6 +1,6 @@
 use Rattle.std.proofs.Common.{◌≡◌}
 use Rattle.std.specs.List.{flat_map, range_with_len}
-use Rattle.turn_rules.specs.PermissionTable.{allowed_to}
+use Rattle.turn_rules.specs.inside.PermissionTable.{allowed_to}
 use Rattle.turn_rules.proofs.permission_table.all_rows.Given as goal
 
 -- the answers for the aircraft so far

@@ -1,5 +1,5 @@
 use Rattle.std.proofs.lemmas.List.Elements.{All-push}
-use Rattle.branch_marks.specs.MarkTables.{IsFactWithin, is_bar, is_must, is_cut, tied_after, tied_before, given_to}
+use Rattle.branch_marks.specs.inside.MarkTables.{IsFactWithin, is_bar, is_must, is_cut, tied_after, tied_before, given_to}
 use Rattle.branch_marks.proofs.FactTables.{alive_more, facts_more, named_more, within_marks}
 use Rattle.branch_marks.proofs.marks.Marks.add.Goals as goal
 

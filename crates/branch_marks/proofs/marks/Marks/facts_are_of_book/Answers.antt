@@ -1,6 +1,6 @@
 use Rattle.std.proofs.lemmas.List.Elements.{All-weaker}
 use Rattle.branch_marks.specs.Facts.{IsFactOf}
-use Rattle.branch_marks.specs.MarkTables.{IsFactWithin}
+use Rattle.branch_marks.specs.inside.MarkTables.{IsFactWithin}
 use Rattle.branch_marks.proofs.FactTables.{of_book, within_marks}
 use Rattle.branch_marks.proofs.marks.Marks.facts_are_of_book.Goals as goal
 

@@ -1,6 +1,6 @@
 use Rattle.std.proofs.lemmas.List.Elements.{All-nil}
 use Rattle.std.proofs.Common.{◌≤◌, rules}
-use Rattle.branch_marks.specs.MarkTables.{is_bar, is_must, is_cut, tied_after, tied_before, given_to, IsFactWithin}
+use Rattle.branch_marks.specs.inside.MarkTables.{is_bar, is_must, is_cut, tied_after, tied_before, given_to, IsFactWithin}
 use Rattle.branch_marks.proofs.FactTables.{facts_none, named_none}
 use Rattle.branch_marks.proofs.marks.Marks.new.Goals as goal
 

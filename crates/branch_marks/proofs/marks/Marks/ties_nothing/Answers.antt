@@ -1,5 +1,5 @@
 use Rattle.std.proofs.Common.{◌∙◌, ap}
-use Rattle.branch_marks.specs.Named.{is_nothing}
+use Rattle.branch_marks.specs.inside.Named.{is_nothing}
 use Rattle.branch_marks.proofs.Parts.{carry_last, last_end}
 use Rattle.branch_marks.proofs.marks.Marks.ties_nothing.Goals as goal
 

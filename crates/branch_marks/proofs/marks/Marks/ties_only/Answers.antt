@@ -1,9 +1,9 @@
 use Rattle.std.proofs.Common.{◌∙◌, ap, sym}
 use Rattle.std.specs.List.{list_all}
 use Rattle.tail_book.specs.declared.place.Place.TheVariants.{After}
-use Rattle.branch_marks.specs.Named.{is_nothing, lets_number, named_by}
-use Rattle.branch_marks.specs.MarkTables.{tied_after, tied_before}
-use Rattle.branch_marks.specs.MarkParts.{ties_only}
+use Rattle.branch_marks.specs.inside.Named.{is_nothing, lets_number, named_by}
+use Rattle.branch_marks.specs.inside.MarkTables.{tied_after, tied_before}
+use Rattle.branch_marks.specs.inside.MarkParts.{ties_only}
 use Rattle.branch_marks.proofs.Parts.{both_ends, carry_end, first_fails, second_decides}
 use Rattle.branch_marks.proofs.marks.Marks.ties_only.Goals as goal
 

@@ -1,4 +1,4 @@
-use Rattle.branch_marks.specs.MarkTables.{AreMarksOf}
+use Rattle.branch_marks.specs.inside.MarkTables.{AreMarksOf}
 use Rattle.branch_marks.proofs.marks.tests.marks.Given as goal
 
 abbrev pub invariant-loop-fact : goal.invariant-loop-fact

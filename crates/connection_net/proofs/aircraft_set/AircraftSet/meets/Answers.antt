@@ -1,6 +1,4 @@
 use Rattle.std.proofs.Common.{arith}
-use Rattle.std.proofs.lemmas.Bool.{eq-eqb, ne_eqb, both_ways}
-use Rattle.std.proofs.lemmas.Bool.Decides.{nat_tests}
 use Rattle.connection_net.proofs.AircraftSets.{low_meets, high_meets, none_meet, differs, differs_from}
 use Rattle.connection_net.proofs.aircraft_set.AircraftSet.meets.Goals as goal
 

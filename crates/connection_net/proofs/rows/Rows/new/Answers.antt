@@ -1,5 +1,3 @@
-use Rattle.std.proofs.Common.{◌∙◌, ap}
-use Rattle.connection_net.specs.Rows.{rows_of}
 use Rattle.connection_net.proofs.RowLists.{no_rows}
 use Rattle.connection_net.proofs.rows.Rows.new.Goals as goal
 

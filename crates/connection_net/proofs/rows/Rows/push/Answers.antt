@@ -1,7 +1,7 @@
 use Rattle.std.proofs.Common.{◌∙◌, ◌≡◌, ◌-◌, arith, ap, length, rules}
 use Rattle.std.specs.Prelude.{slice_index}
 use Rattle.std.proofs.lemmas.Grind.{get_or_default_zero}
-use Rattle.connection_net.specs.Rows.{last_end}
+use Rattle.connection_net.specs.inside.Rows.{last_end}
 use Rattle.connection_net.proofs.RowLists.{rows_more}
 use Rattle.connection_net.proofs.rows.Rows.push.Goals as goal
 

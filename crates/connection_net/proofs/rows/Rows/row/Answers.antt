@@ -1,6 +1,6 @@
 use Rattle.std.proofs.Common.{◌∙◌, ◌≡◌, ◌<◌, arith, ap, length, sym, refl}
 use Rattle.std.specs.Prelude.{[], slice_index_or}
-use Rattle.connection_net.specs.Rows.{row_at, rows_of}
+use Rattle.connection_net.specs.inside.Rows.{row_at, rows_of}
 use Rattle.connection_net.proofs.RowLists.{rows_length, row_there}
 use Rattle.connection_net.proofs.rows.Rows.row.Goals as goal
 

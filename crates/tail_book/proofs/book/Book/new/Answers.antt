@@ -1,6 +1,6 @@
 use Rattle.std.proofs.Common.{◌≡◌, true, false, refl, rules}
 use Rattle.std.proofs.lemmas.Bool.Decides.{Decides-at}
-use Rattle.tail_book.specs.SoundTests.{is_book}
+use Rattle.tail_book.specs.inside.SoundTests.{is_book}
 use Rattle.tail_book.proofs.SoundTested.{book_tested}
 use Rattle.tail_book.proofs.book.Book.new.Goals as goal
 

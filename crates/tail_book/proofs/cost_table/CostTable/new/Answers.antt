@@ -1,6 +1,6 @@
 use Rattle.std.proofs.Common.{◌≡◌, false, rules}
 use Rattle.std.proofs.lemmas.Bool.Decides.{Decides-at}
-use Rattle.tail_book.specs.SoundTests.{keeps_maxima}
+use Rattle.tail_book.specs.inside.SoundTests.{keeps_maxima}
 use Rattle.tail_book.proofs.SoundTested.{cost_table_tested}
 use Rattle.tail_book.proofs.cost_table.CostTable.new.Goals as goal
 

@@ -1,5 +1,5 @@
 use Rattle.std.proofs.Common.{◌≡◌, map}
-use Rattle.tail_outside.specs.Sure.{file_with_room}
+use Rattle.tail_outside.specs.inside.Sure.{file_with_room}
 use Rattle.tail_outside.proofs.sure_files.SureFiles.new.Given as goal
 
 -- the files so far have their room

@@ -1,6 +1,6 @@
 use Rattle.std.proofs.Common.{◌≡◌, ◌<◌, ℕ, length, get_or}
-use Rattle.turn_rules.specs.NumberSet.{has}
-use Rattle.turn_rules.specs.CurfewTable.{is_type_curfewed, no_types}
+use Rattle.turn_rules.specs.inside.NumberSet.{has}
+use Rattle.turn_rules.specs.inside.CurfewTable.{is_type_curfewed, no_types}
 use Rattle.turn_rules.proofs.curfew_table.CurfewTable.of.Given as goal
 
 -- the activities so far have their sets

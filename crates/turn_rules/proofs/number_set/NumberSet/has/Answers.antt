@@ -1,7 +1,7 @@
 use Rattle.std.proofs.Common.{ap}
 use Rattle.std.specs.Prelude.{nat_eq}
 use Rattle.std.proofs.lemmas.Nat.Bits.{shr_and_one}
-use Rattle.turn_rules.specs.NumberSet.{has}
+use Rattle.turn_rules.specs.inside.NumberSet.{has}
 use Rattle.turn_rules.proofs.number_set.NumberSet.has.Goals as goal
 
 -- the bit that is shifted to the end

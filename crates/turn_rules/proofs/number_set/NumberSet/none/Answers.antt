@@ -1,4 +1,4 @@
-use Rattle.turn_rules.specs.NumberSet.{has}
+use Rattle.turn_rules.specs.inside.NumberSet.{has}
 use Rattle.turn_rules.proofs.NumberSets.{no_bit}
 use Rattle.turn_rules.proofs.number_set.NumberSet.none.Goals as goal
 

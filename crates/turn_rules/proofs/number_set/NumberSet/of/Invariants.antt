@@ -1,6 +1,6 @@
 use Rattle.std.proofs.Common.{◌≡◌, ℕ, take}
 use Rattle.tail_book.specs.Numbers.{contains}
-use Rattle.turn_rules.specs.NumberSet.{has}
+use Rattle.turn_rules.specs.inside.NumberSet.{has}
 use Rattle.turn_rules.proofs.number_set.NumberSet.of.Given as goal
 
 -- the set has the numbers so far

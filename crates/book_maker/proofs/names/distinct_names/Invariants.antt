@@ -1,7 +1,0 @@
-use Rattle.std.proofs.Common.{◌≡◌, drop}
-use Rattle.book_maker.specs.Names.{distinct_names, distinct_from}
-use Rattle.book_maker.proofs.names.distinct_names.Given as goal
-
--- what is left decides
-abbrev pub invariant-loop-name : goal.invariant-loop-name
-invariant-loop-name l = distinct_names l.names ≡ distinct_from l.set.keys (drop l.name-index l.names)

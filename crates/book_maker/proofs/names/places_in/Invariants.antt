@@ -1,6 +1,0 @@
-use Rattle.std.proofs.Common.{◌≡◌, map, take}
-use Rattle.book_maker.specs.Names.{place_in}
-use Rattle.book_maker.proofs.names.places_in.Given as goal
-
-abbrev pub invariant-loop-name : goal.invariant-loop-name
-invariant-loop-name l = l.places.items ≡ map (place_in l.names.keys) (take l.name-index l.list)

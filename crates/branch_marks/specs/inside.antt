@@ -1,0 +1,13 @@
+-- What only proofs, and calls further in, cite.
+pub mod MarkTests
+pub mod Fitting
+pub mod Below
+pub mod FactTests
+pub mod FollowingTests
+pub mod FamilyTests
+pub mod BranchTests
+pub mod TreeTests
+pub mod BitRows
+pub mod Named
+pub mod MarkTables
+pub mod MarkParts

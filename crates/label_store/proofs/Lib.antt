@@ -1,0 +1,6 @@
+mod RowsLemmas
+mod Compaction
+mod Buckets
+mod Entering
+mod Offers
+mod OneBucket

@@ -1,0 +1,5 @@
+pub mod Seen
+pub mod Buckets
+pub mod Store
+pub mod Offers
+pub mod inside

@@ -1,0 +1,23 @@
+-- How rows of one width are kept: one after the other in one list of values.
+use Rattle.std.specs.Prelude.{ℕ, zero, suc, ℤ, ◌*◌, ◌≡◌, ◌≤◌, List, [], ◌∷◌, ◌++◌, Option, take, drop, length}
+use Rattle.label_store.specs.Seen.{RowsSeen}
+
+-- so many rows, cut from the front of the values
+unfoldable pub rows_in : ℕ → ℕ → List ℤ → List (List ℤ)
+rows_in width zero values = []
+rows_in width (suc count) values = take width values ∷ rows_in width count (drop width values)
+
+-- the values fill so many rows, each of at least one, and each row has its parent
+pub record AreRows (width count : ℕ) (values : List ℤ) (parents : List (Option ℕ)) : Type 0 where
+  pub some : 1 ≤ width
+  pub fill : length values ≡ count * width
+  pub each : length parents ≡ count
+
+-- the rows with one more behind them
+abbrev pub rows_with : RowsSeen → ℕ → Option ℕ → List ℤ → RowsSeen
+rows_with old node parent row = record {
+  width = old.width;
+  rows = old.rows ++ row ∷ [];
+  parents = old.parents ++ parent ∷ [];
+  nodes = old.nodes ++ node ∷ [];
+}

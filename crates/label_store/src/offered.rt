@@ -1,0 +1,10 @@
+//! What becomes of a row that is offered.
+
+/// The answer to an offer. Rows are numbered from 0 in the order in which they were kept.
+#[derive(Clone, Copy, PartialEq, Eq, Debug)]
+pub enum Offered {
+    /// The row is kept, under this number.
+    Kept(usize),
+    /// The row of this number, which is in the bucket, covers it.
+    Covered(usize),
+}

@@ -1,0 +1,22 @@
+-- What only proofs, and calls further in, cite.
+pub mod NameParts
+pub mod Seen
+pub mod Sound
+pub mod Place
+pub mod Route
+pub mod CostTable
+pub mod Truth
+pub mod Rising
+pub mod Bounds
+pub mod Tests
+pub mod TableLaws
+pub mod SoundTests
+pub mod Order
+pub mod OneMore
+pub mod Along
+pub mod Sums
+pub mod Partition
+pub mod Flown
+pub mod Fliers
+pub mod Renumbered
+pub mod RouteBounds
