@@ -8,16 +8,16 @@ use Rattle.tail_book.specs.Lookup.{activities, aircraft}
 use Rattle.branch_marks.specs.declared.fact.Fact.{Fact}
 use Rattle.branch_marks.specs.declared.fact.Fact.TheVariants.{Bar}
 use Rattle.branch_marks.specs.Marks.{IsAlive}
-use Rattle.branch_marks.specs.MarkTests.{is_alive, lets_fly}
+use Rattle.branch_marks.specs.inside.MarkTests.{is_alive, lets_fly}
 use Rattle.branch_marks.specs.Floors.{floors, FloorsCount}
 use Rattle.branch_marks.specs.MarksSeen.{MarksSeen}
-use Rattle.branch_marks.specs.MarkTables.{AreMarksOf}
+use Rattle.branch_marks.specs.inside.MarkTables.{AreMarksOf}
 use Rattle.propagator.specs.InTurn.{GrowInTurn}
 use Rattle.branch_marks.specs.Following.{IsDeadBy, IsDead}
-use Rattle.propagator.specs.LeastOver.{floor_of}
-use Rattle.propagator.specs.OneMore.{BarsTakeOneFloor}
-use Rattle.propagator.specs.SameFor.{SameFor, BarsLeaveOthers}
-use Rattle.propagator.specs.Settling.{ActsOn, ComesBelow}
+use Rattle.propagator.specs.inside.LeastOver.{floor_of}
+use Rattle.propagator.specs.inside.OneMore.{BarsTakeOneFloor}
+use Rattle.propagator.specs.inside.SameFor.{SameFor, BarsLeaveOthers}
+use Rattle.propagator.specs.inside.Settling.{ActsOn, ComesBelow}
 use Rattle.propagator.proofs.ComeOn.{same_list}
 use Rattle.propagator.proofs.InTurn.{grow_both}
 use Rattle.propagator.proofs.MoreMarks.{alive_more}

@@ -8,8 +8,8 @@ use Rattle.tail_book.specs.Seen.{BookSeen}
 use Rattle.tail_book.specs.declared.place.Place.TheVariants.{After}
 use Rattle.branch_marks.specs.declared.fact.Fact.{Fact}
 use Rattle.branch_marks.specs.Floors.{lesser, lesser_floor, stepped_floor}
-use Rattle.propagator.specs.FloorRow.{FloorRowSeen, floor_in, IsSetAt}
-use Rattle.propagator.specs.LeastOver.{floor_of, least_over, brought}
+use Rattle.propagator.specs.inside.FloorRow.{FloorRowSeen, floor_in, IsSetAt}
+use Rattle.propagator.specs.inside.LeastOver.{floor_of, least_over, brought}
 
 -- what is there at b, lowered to what is left to take in, is the floor; the rest is as it was
 pub record IsOnTheWay (book : BookSeen) (marks : List Fact) (k b : ℕ) (first row : FloorRowSeen) (left : List ℕ) : Type 0 where

@@ -10,16 +10,16 @@ use Rattle.tail_book.specs.Seen.{BookSeen}
 use Rattle.tail_book.specs.declared.place.Place.TheVariants.{Carry, After}
 use Rattle.tail_book.specs.Lookup.{activities, carry_of}
 use Rattle.tail_book.specs.Counters.{step}
-use Rattle.tail_book.specs.Rising.{LinksRise}
-use Rattle.tail_book.specs.Sound.{IsBook}
-use Rattle.tail_book.specs.Tests.{within_limits, LimitsDecide}
+use Rattle.tail_book.specs.inside.Rising.{LinksRise}
+use Rattle.tail_book.specs.inside.Sound.{IsBook}
+use Rattle.tail_book.specs.inside.Tests.{within_limits, LimitsDecide}
 use Rattle.branch_marks.specs.declared.fact.Fact.{Fact}
 use Rattle.branch_marks.specs.declared.fact.Fact.TheVariants.{Bar}
-use Rattle.branch_marks.specs.MarkTests.{is_usable, AliveDecides, UsableDecides, MayEndDecides}
+use Rattle.branch_marks.specs.inside.MarkTests.{is_usable, AliveDecides, UsableDecides, MayEndDecides}
 use Rattle.branch_marks.specs.Floors.{lesser_floor, stepped_floor}
 use Rattle.branch_marks.specs.Following.{IsDeadBy, IsDead}
-use Rattle.propagator.specs.LeastOver.{floor_of, least_over, brought_first, brought, least_at, FloorsAreLeast, LeastAreFloors}
-use Rattle.propagator.specs.OneMore.{BarsTakeOneFloor}
+use Rattle.propagator.specs.inside.LeastOver.{floor_of, least_over, brought_first, brought, least_at, FloorsAreLeast, LeastAreFloors}
+use Rattle.propagator.specs.inside.OneMore.{BarsTakeOneFloor}
 use Rattle.propagator.proofs.LeastOver.{least_same, least_none}
 use Rattle.propagator.proofs.MoreMarks.{end_kept, unusable_without, unusable_brings, same_brings, barred, elsewhere_alive, elsewhere_usable, first_usable}
 

@@ -10,15 +10,15 @@ use Rattle.tail_book.specs.Seen.{BookSeen}
 use Rattle.tail_book.specs.declared.place.Place.TheVariants.{Carry, After}
 use Rattle.tail_book.specs.Lookup.{activities, carry_of}
 use Rattle.tail_book.specs.Counters.{step}
-use Rattle.tail_book.specs.Tests.{within_limits, LimitsDecide}
+use Rattle.tail_book.specs.inside.Tests.{within_limits, LimitsDecide}
 use Rattle.branch_marks.specs.declared.fact.Fact.{Fact}
 use Rattle.branch_marks.specs.declared.fact.Fact.TheVariants.{Bar, Must, Cut, Tie}
 use Rattle.branch_marks.specs.Marks.{IsAlive, IsUsable}
-use Rattle.branch_marks.specs.MarkTests.{is_alive, is_usable, lets_go, AliveDecides, UsableDecides, MayEndDecides}
+use Rattle.branch_marks.specs.inside.MarkTests.{is_alive, is_usable, lets_go, AliveDecides, UsableDecides, MayEndDecides}
 use Rattle.branch_marks.specs.Floors.{lesser_floor, stepped_floor}
 use Rattle.branch_marks.specs.Following.{IsDeadBy, IsDead, IsOnlyCarrier, CannotGoBy, IsDeadConnection, Follows}
-use Rattle.propagator.specs.LeastOver.{floor_of, least_over, brought_first, brought, least_at, FloorsAreLeast, LeastAreFloors}
-use Rattle.propagator.specs.OneMore.{CutsTakeNoFloor}
+use Rattle.propagator.specs.inside.LeastOver.{floor_of, least_over, brought_first, brought, least_at, FloorsAreLeast, LeastAreFloors}
+use Rattle.propagator.specs.inside.OneMore.{CutsTakeNoFloor}
 use Rattle.propagator.proofs.LeastOver.{least_same}
 use Rattle.propagator.proofs.MoreMarks.{alive_kept, usable_more, usable_kept, end_kept, unusable_brings, same_brings}
 

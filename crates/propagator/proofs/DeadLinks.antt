@@ -2,7 +2,7 @@
 use Rattle.std.specs.Prelude.{nat_eq}
 use Rattle.std.proofs.lemmas.List.Elements.{Contains-push}
 use Rattle.tail_book.specs.Numbers.{contains}
-use Rattle.connection_net.specs.Laws.{SuccessorsAreLinks}
+use Rattle.connection_net.specs.inside.Laws.{SuccessorsAreLinks}
 use Rattle.connection_net.specs.Net.{net_of, successors_in}
 use Rattle.std.proofs.Common.{◌≡◌, ◌∙◌, ℕ, ℤ, ◌<◌, ◌+◌, suc, inl, inr, Bool, true, false, List, [], ◌∷◌, ◌++◌, length, get_or, refl, sym, ap, subst, arith, below_more, Option, None, Some}
 use Rattle.std.proofs.lemmas.List.{get_or_default}
@@ -11,21 +11,21 @@ use Rattle.tail_book.specs.Seen.{BookSeen}
 use Rattle.tail_book.specs.declared.place.Place.TheVariants.{After}
 use Rattle.tail_book.specs.Lookup.{aircraft}
 use Rattle.tail_book.specs.Counters.{step}
-use Rattle.tail_book.specs.Tests.{within_limits, LimitsDecide}
+use Rattle.tail_book.specs.inside.Tests.{within_limits, LimitsDecide}
 use Rattle.branch_marks.specs.declared.fact.Fact.{Fact}
 use Rattle.branch_marks.specs.declared.fact.Fact.TheVariants.{Bar, Must, Cut, Tie}
 use Rattle.branch_marks.specs.Marks.{IsUsable}
-use Rattle.branch_marks.specs.MarkTests.{is_usable, UsableDecides}
+use Rattle.branch_marks.specs.inside.MarkTests.{is_usable, UsableDecides}
 use Rattle.branch_marks.specs.MarksSeen.{MarksSeen}
-use Rattle.branch_marks.specs.MarkTables.{AreMarksOf}
+use Rattle.branch_marks.specs.inside.MarkTables.{AreMarksOf}
 use Rattle.branch_marks.specs.Floors.{floors, FloorsCount}
 use Rattle.branch_marks.specs.Following.{CannotGoBy, IsDeadConnection, IsShutForFloors}
-use Rattle.propagator.specs.FloorRow.{FloorRowSeen, floor_in, no_row}
+use Rattle.propagator.specs.inside.FloorRow.{FloorRowSeen, floor_in, no_row}
 use Rattle.propagator.specs.InTurn.{GrowInTurn}
-use Rattle.propagator.specs.LeastOver.{floor_of}
-use Rattle.propagator.specs.Neighbours.{goes_on_to}
-use Rattle.propagator.specs.OneMore.{CutsTakeNoFloor}
-use Rattle.propagator.specs.Cutting.{AreFloorsOf, NothingNewFollows}
+use Rattle.propagator.specs.inside.LeastOver.{floor_of}
+use Rattle.propagator.specs.inside.Neighbours.{goes_on_to}
+use Rattle.propagator.specs.inside.OneMore.{CutsTakeNoFloor}
+use Rattle.propagator.specs.inside.Cutting.{AreFloorsOf, NothingNewFollows}
 use Rattle.propagator.proofs.ComeOn.{same_list}
 use Rattle.propagator.proofs.InTurn.{grow_both}
 

@@ -11,9 +11,9 @@ use Rattle.std.proofs.lemmas.List.Elements.{All-set, All-get_or, All-nil, All-co
 use Rattle.std.proofs.lemmas.Int.{ints, clamps}
 use Rattle.std.proofs.lemmas.Bool.{cond-true, cond-false}
 use Rattle.branch_marks.specs.Floors.{lesser, lesser_floor}
-use Rattle.tail_book.specs.Sound.{IsWithin}
-use Rattle.maint_counters.specs.Counts.{AreCounts}
-use Rattle.propagator.specs.FloorRow.{kept_floors, IsKept, IsFloorRow}
+use Rattle.tail_book.specs.inside.Sound.{IsWithin}
+use Rattle.maint_counters.specs.inside.Counts.{AreCounts}
+use Rattle.propagator.specs.inside.FloorRow.{kept_floors, IsKept, IsFloorRow}
 
 pub kept_length : (w : ℕ) (flags : List Bool) (values : List ℤ) → length (kept_floors w flags values) ≡ length flags
 kept_length w [] values = refl

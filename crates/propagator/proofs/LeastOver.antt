@@ -9,7 +9,7 @@ use Rattle.tail_book.specs.declared.place.Place.TheVariants.{After}
 use Rattle.tail_book.specs.Lookup.{activities}
 use Rattle.branch_marks.specs.declared.fact.Fact.{Fact}
 use Rattle.branch_marks.specs.Floors.{lesser_floor, stepped_floor, least_from, floor_by, floors_below, floors}
-use Rattle.propagator.specs.LeastOver.{floor_of, least_over, brought_first, brought, least_at}
+use Rattle.propagator.specs.inside.LeastOver.{floor_of, least_over, brought_first, brought, least_at}
 
 -- the least depends on what is brought alone
 pub least_same : (h g : ℕ → Option (List ℤ)) (x n : ℕ) → ((y : ℕ) → x ≤ y → y < x + n → h y ≡ g y)

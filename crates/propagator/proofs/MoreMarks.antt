@@ -10,10 +10,10 @@ use Rattle.tail_book.specs.Seen.{BookSeen}
 use Rattle.tail_book.specs.declared.place.Place.{Place}
 use Rattle.tail_book.specs.declared.place.Place.TheVariants.{Carry, After}
 use Rattle.tail_book.specs.Counters.{step}
-use Rattle.tail_book.specs.Tests.{is_allowed, is_link, within_limits}
+use Rattle.tail_book.specs.inside.Tests.{is_allowed, is_link, within_limits}
 use Rattle.branch_marks.specs.declared.fact.Fact.{Fact}
 use Rattle.branch_marks.specs.declared.fact.Fact.TheVariants.{Bar, Must}
-use Rattle.branch_marks.specs.MarkTests.{is_alive, is_alive_at, is_usable, may_end, lets_fly, lets_go, lets_end}
+use Rattle.branch_marks.specs.inside.MarkTests.{is_alive, is_alive_at, is_usable, may_end, lets_fly, lets_go, lets_end}
 use Rattle.branch_marks.specs.Floors.{stepped_floor}
 
 -- three equations of tests

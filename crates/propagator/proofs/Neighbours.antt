@@ -13,18 +13,18 @@ use Rattle.tail_book.specs.declared.place.Place.TheVariants.{Carry, After}
 use Rattle.tail_book.specs.Lookup.{activities, aircraft, no_tail, no_type, kind_of}
 use Rattle.tail_book.specs.Numbers.{contains}
 use Rattle.tail_book.specs.Link.{IsLink, turn_time}
-use Rattle.tail_book.specs.Rising.{IsRisingFrom, LinksRise}
+use Rattle.tail_book.specs.inside.Rising.{IsRisingFrom, LinksRise}
 use Rattle.tail_book.specs.Counters.{step}
-use Rattle.tail_book.specs.Sound.{IsBook, IsKind}
-use Rattle.tail_book.specs.Tests.{within_limits, LimitsDecide}
-use Rattle.turn_rules.specs.FreeBefore.{IsFreeBefore}
-use Rattle.connection_net.specs.Laws.{PredecessorsAreLinks, SuccessorsAreLinks, RowsRise}
+use Rattle.tail_book.specs.inside.Sound.{IsBook, IsKind}
+use Rattle.tail_book.specs.inside.Tests.{within_limits, LimitsDecide}
+use Rattle.turn_rules.specs.inside.FreeBefore.{IsFreeBefore}
+use Rattle.connection_net.specs.inside.Laws.{PredecessorsAreLinks, SuccessorsAreLinks, RowsRise}
 use Rattle.connection_net.specs.Net.{net_of, predecessors_in, successors_in}
 use Rattle.branch_marks.specs.declared.fact.Fact.{Fact}
-use Rattle.branch_marks.specs.MarkTests.{is_usable, UsableDecides}
+use Rattle.branch_marks.specs.inside.MarkTests.{is_usable, UsableDecides}
 use Rattle.branch_marks.specs.Floors.{lesser_floor}
-use Rattle.propagator.specs.LeastOver.{least_over, brought}
-use Rattle.propagator.specs.Neighbours.{goes_on_to, goes_on_from, SuccessorsTell}
+use Rattle.propagator.specs.inside.LeastOver.{least_over, brought}
+use Rattle.propagator.specs.inside.Neighbours.{goes_on_to, goes_on_from, SuccessorsTell}
 use Rattle.propagator.proofs.LeastOver.{least_none}
 use Rattle.propagator.proofs.MoreMarks.{unusable_brings}
 

@@ -5,9 +5,9 @@ use Rattle.tail_book.specs.Seen.{BookSeen}
 use Rattle.tail_book.specs.declared.place.Place.TheVariants.{Carry, After}
 use Rattle.tail_book.specs.Lookup.{activities, carry_of}
 use Rattle.branch_marks.specs.declared.fact.Fact.{Fact}
-use Rattle.branch_marks.specs.MarkTests.{is_alive}
+use Rattle.branch_marks.specs.inside.MarkTests.{is_alive}
 use Rattle.branch_marks.specs.Floors.{lesser_floor}
-use Rattle.propagator.specs.LeastOver.{floor_of, least_over, brought, FloorsAreLeast}
+use Rattle.propagator.specs.inside.LeastOver.{floor_of, least_over, brought, FloorsAreLeast}
 use Rattle.propagator.proofs.LeastOver.{least_none}
 use Rattle.propagator.proofs.MoreMarks.{unusable_without, unusable_brings}
 

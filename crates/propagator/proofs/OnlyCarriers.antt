@@ -9,18 +9,18 @@ use Rattle.tail_book.specs.Seen.{BookSeen}
 use Rattle.tail_book.specs.Lookup.{activities, aircraft}
 use Rattle.branch_marks.specs.declared.fact.Fact.{Fact}
 use Rattle.branch_marks.specs.declared.fact.Fact.TheVariants.{Must}
-use Rattle.branch_marks.specs.Below.{some_below, count_below}
-use Rattle.branch_marks.specs.FactTests.{same_fact, has_fact, HasFactDecides}
+use Rattle.branch_marks.specs.inside.Below.{some_below, count_below}
+use Rattle.branch_marks.specs.inside.FactTests.{same_fact, has_fact, HasFactDecides}
 use Rattle.branch_marks.specs.Marks.{LetsFly}
-use Rattle.branch_marks.specs.MarkTests.{is_alive, AliveDecides}
+use Rattle.branch_marks.specs.inside.MarkTests.{is_alive, AliveDecides}
 use Rattle.branch_marks.specs.Following.{IsOnlyCarrier}
 use Rattle.std.proofs.lemmas.Bool.Decides.{eqb_tells}
-use Rattle.propagator.specs.FloorRow.{FloorRowSeen, ChangesOnly}
-use Rattle.propagator.specs.SameFor.{SameFor, SameFloors, SameDead, MustsLeaveOthers}
-use Rattle.propagator.specs.Settling.{ActsOn, StandsFor, StandBelow}
+use Rattle.propagator.specs.inside.FloorRow.{FloorRowSeen, ChangesOnly}
+use Rattle.propagator.specs.inside.SameFor.{SameFor, SameFloors, SameDead, MustsLeaveOthers}
+use Rattle.propagator.specs.inside.Settling.{ActsOn, StandsFor, StandBelow}
 use Rattle.propagator.proofs.Arriving.{same_on}
 use Rattle.propagator.proofs.Settled.{stands_on}
-use Rattle.propagator.specs.Unnamed.{is_named, unnamed}
+use Rattle.propagator.specs.inside.Unnamed.{is_named, unnamed}
 
 module _ (alive : AliveDecides) (book : BookSeen) (marks : List Fact) (a : ℕ) where
   -- where nobody is alive, there is no carrier

@@ -9,10 +9,10 @@ use Rattle.tail_book.specs.declared.place.Place.TheVariants.{Carry, After}
 use Rattle.tail_book.specs.Lookup.{activities, carry_of}
 use Rattle.branch_marks.specs.declared.fact.Fact.{Fact}
 use Rattle.branch_marks.specs.declared.fact.Fact.TheVariants.{Bar, Must}
-use Rattle.branch_marks.specs.MarkTests.{is_alive, is_before, lets_go, lets_end, AliveDecides, UsableDecides, MayEndDecides}
+use Rattle.branch_marks.specs.inside.MarkTests.{is_alive, is_before, lets_go, lets_end, AliveDecides, UsableDecides, MayEndDecides}
 use Rattle.branch_marks.specs.Floors.{lesser_floor, stepped_floor, least_from, floor_by, floors_below, floors, floor_at}
 use Rattle.branch_marks.specs.Following.{IsDeadBy, IsDead}
-use Rattle.propagator.specs.SameFor.{SameFor}
+use Rattle.propagator.specs.inside.SameFor.{SameFor}
 use Rattle.propagator.proofs.MoreMarks.{alive_at_kept, usable_kept, end_kept, same_brings, others_alive, must_alive}
 
 module _ (book : BookSeen) (k : ℕ) (old new : List Fact) (same : SameFor book k old new) where

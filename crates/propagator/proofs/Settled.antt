@@ -4,11 +4,11 @@ use Rattle.std.proofs.Common.{◌≡◌, ◌∙◌, ℕ, ◌+◌, List, sym, ari
 use Rattle.tail_book.specs.Seen.{BookSeen}
 use Rattle.branch_marks.specs.declared.fact.Fact.{Fact}
 use Rattle.branch_marks.specs.MarksSeen.{MarksSeen}
-use Rattle.branch_marks.specs.MarkTables.{AreMarksOf}
-use Rattle.propagator.specs.FloorRow.{FloorRowSeen, floors_in, AreRowsOf, ChangesOnly}
+use Rattle.branch_marks.specs.inside.MarkTables.{AreMarksOf}
+use Rattle.propagator.specs.inside.FloorRow.{FloorRowSeen, floors_in, AreRowsOf, ChangesOnly}
 use Rattle.propagator.specs.InTurn.{GrowInTurn}
-use Rattle.propagator.specs.SameFor.{SameFor, SameFloors, SameDead}
-use Rattle.propagator.specs.Settling.{ActsOn, StandsFor, StandBelow}
+use Rattle.propagator.specs.inside.SameFor.{SameFor, SameFloors, SameDead}
+use Rattle.propagator.specs.inside.Settling.{ActsOn, StandsFor, StandBelow}
 use Rattle.propagator.proofs.InTurn.{grow_both}
 
 -- the aircraft below n have been settled

@@ -5,9 +5,9 @@ use Rattle.tail_book.specs.Lookup.{aircraft}
 use Rattle.branch_marks.specs.declared.fact.Fact.{Fact}
 use Rattle.branch_marks.specs.declared.fact.Fact.TheVariants.{Bar, Must, Cut, Tie}
 use Rattle.branch_marks.specs.Following.{IsOnlyCarrier, IsDeadConnection, IsShut, IsShutForFloors}
-use Rattle.propagator.specs.FloorRow.{FloorRowSeen}
-use Rattle.propagator.specs.Settling.{StandBelow}
-use Rattle.propagator.specs.Cutting.{NothingNewFollows}
+use Rattle.propagator.specs.inside.FloorRow.{FloorRowSeen}
+use Rattle.propagator.specs.inside.Settling.{StandBelow}
+use Rattle.propagator.specs.inside.Cutting.{NothingNewFollows}
 
 pub shut_for_floors : (book : BookSeen) (marks : List Fact) (rows : List FloorRowSeen) → StandBelow book marks rows (aircraft book) → IsShutForFloors book marks
 shut_for_floors book marks rows stand (Bar k a) of f = (stand k of.0).settled a of.1 f

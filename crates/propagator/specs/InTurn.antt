@@ -1,14 +1,9 @@
 -- Facts that are added to marks one after the other, each because it follows.
-use Rattle.std.specs.Prelude.{◌≡◌, ⊤, List, [], ◌∷◌, ◌++◌, Contains}
+use Rattle.std.specs.Prelude.{◌≡◌, ⊤, List, [], ◌∷◌, ◌++◌}
 use Rattle.tail_book.specs.Seen.{BookSeen}
 use Rattle.branch_marks.specs.declared.fact.Fact.{Fact}
 use Rattle.branch_marks.specs.declared.fact.Fact.TheVariants.{Bar, Must, Cut, Tie}
-use Rattle.branch_marks.specs.Following.{Follows, IsShutForFloors}
-
--- each of the facts follows from the marks and the facts before it, and is not among these
-abbrev pub FollowInTurn : BookSeen → List Fact → List Fact → Type 0
-FollowInTurn book marks [] = ⊤
-FollowInTurn book marks (fact ∷ facts) = (¬ Contains marks fact) × Follows book marks fact × FollowInTurn book (marks ++ fact ∷ []) facts
+use Rattle.branch_marks.specs.Following.{FollowInTurn, IsShutForFloors}
 
 -- what asks about all aircraft together, a Must or a Cut, is added only where nothing follows by a floor
 abbrev pub WaitsForFloors : BookSeen → List Fact → Fact → Type 0
@@ -28,7 +23,3 @@ pub record GrowInTurn (book : BookSeen) (old new listed listing : List Fact) : T
   pub list : listing ≡ listed ++ added
   pub follow : FollowInTurn book old added
   pub wait : WaitInTurn book old added
-
--- what follows is not yet there
-abbrev pub WhatFollowsIsNew : Type 0
-WhatFollowsIsNew = (book : BookSeen) (marks : List Fact) (fact : Fact) → Follows book marks fact → ¬ Contains marks fact

@@ -4,13 +4,13 @@
 
 ghost use Rattle.std.specs.Prelude.{◌≡◌, ◌++◌, ◌∷◌, [], IfOk, OnErr, OnOk};
 ghost use Rattle.branch_marks.specs.Following.{Follows, IsDead};
-ghost use Rattle.branch_marks.specs.MarkTables.{AreMarksOf};
+ghost use Rattle.branch_marks.specs.inside.MarkTables.{AreMarksOf};
 ghost use Rattle.propagator.specs.InTurn.{WaitsForFloors, GrowInTurn};
-ghost use Rattle.propagator.specs.Settling.{ActsOn};
+ghost use Rattle.propagator.specs.inside.Settling.{ActsOn};
 ghost use Rattle.branch_marks.specs.declared.fact.Fact.TheVariants.{Bar as FactBar};
 
-use crate::laws::{bars_leave_others, what_follows_is_new};
-use branch_marks::laws::following_facts_are_of_book;
+use crate::laws::bars_leave_others;
+use branch_marks::laws::{following_facts_are_new, following_facts_are_of_book};
 use branch_marks::{Fact, Marks};
 use tail_book::{Book, Memory};
 
@@ -29,7 +29,7 @@ pub fn add_next(
     ensures memory { OnErr result (marks.new.facts ≡ marks.old.facts) }
     ensures grows { GrowInTurn book.now marks.old.facts marks.new.facts facts.old.items facts.new.items }
 {
-    what_follows_is_new();
+    following_facts_are_new();
     following_facts_are_of_book();
     facts.push(fact)?;
     if let Err(memory) = marks.add(book, fact) {

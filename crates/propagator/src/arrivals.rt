@@ -5,12 +5,12 @@
 
 ghost use Rattle.std.specs.Prelude.{◌≡◌, ◌<◌, true, IfOk, OnOk, is_some};
 ghost use Rattle.tail_book.specs.Lookup.{activities, aircraft};
-ghost use Rattle.branch_marks.specs.MarkTests.{is_alive};
-ghost use Rattle.branch_marks.specs.MarkTables.{AreMarksOf};
+ghost use Rattle.branch_marks.specs.inside.MarkTests.{is_alive};
+ghost use Rattle.branch_marks.specs.inside.MarkTables.{AreMarksOf};
 ghost use Rattle.branch_marks.specs.Floors.{floors};
 ghost use Rattle.propagator.specs.InTurn.{GrowInTurn};
-ghost use Rattle.propagator.specs.LeastOver.{floor_of};
-ghost use Rattle.propagator.specs.Settling.{ActsOn, ComesBelow};
+ghost use Rattle.propagator.specs.inside.LeastOver.{floor_of};
+ghost use Rattle.propagator.specs.inside.Settling.{ActsOn, ComesBelow};
 
 use crate::adding::add_bar;
 use crate::floor_row::FloorRow;

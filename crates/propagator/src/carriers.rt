@@ -6,14 +6,14 @@
 
 ghost use Rattle.std.specs.Prelude.{◌≡◌, ◌<◌, ℕ, IfSome, IfNone, OnOk, length};
 ghost use Rattle.tail_book.specs.Lookup.{activities, aircraft};
-ghost use Rattle.maint_counters.specs.StepTable.{IsStepTableOf};
+ghost use Rattle.maint_counters.specs.inside.StepTable.{IsStepTableOf};
 ghost use Rattle.connection_net.specs.Net.{net_of};
-ghost use Rattle.branch_marks.specs.MarkTables.{AreMarksOf};
+ghost use Rattle.branch_marks.specs.inside.MarkTables.{AreMarksOf};
 ghost use Rattle.branch_marks.specs.Following.{IsOnlyCarrier};
-ghost use Rattle.propagator.specs.FloorRow.{AreRowsOf};
+ghost use Rattle.propagator.specs.inside.FloorRow.{AreRowsOf};
 ghost use Rattle.propagator.specs.InTurn.{GrowInTurn};
-ghost use Rattle.propagator.specs.Settling.{StandBelow};
-ghost use Rattle.propagator.specs.Unnamed.{unnamed};
+ghost use Rattle.propagator.specs.inside.Settling.{StandBelow};
+ghost use Rattle.propagator.specs.inside.Unnamed.{unnamed};
 
 use crate::adding::add_next;
 use crate::floor_row::FloorRow;

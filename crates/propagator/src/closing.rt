@@ -6,12 +6,12 @@
 //! A pass over an aircraft takes a step for each of its usable links at most, and the last pass one or a few for each link.
 
 ghost use Rattle.std.specs.Prelude.{◌≡◌, IfOk, OnOk, length};
-ghost use Rattle.maint_counters.specs.StepTable.{IsStepTableOf};
+ghost use Rattle.maint_counters.specs.inside.StepTable.{IsStepTableOf};
 ghost use Rattle.connection_net.specs.Net.{net_of};
-ghost use Rattle.branch_marks.specs.MarkTables.{AreMarksOf};
+ghost use Rattle.branch_marks.specs.inside.MarkTables.{AreMarksOf};
 ghost use Rattle.branch_marks.specs.Following.{IsShut};
 ghost use Rattle.propagator.specs.Closed.{IsClosedAt};
-ghost use Rattle.propagator.specs.FloorRow.{AreRowsOf};
+ghost use Rattle.propagator.specs.inside.FloorRow.{AreRowsOf};
 ghost use Rattle.propagator.specs.InTurn.{GrowInTurn};
 
 use crate::carriers::carry_all;

@@ -6,17 +6,17 @@
 
 ghost use Rattle.std.specs.Prelude.{◌≡◌, ◌<◌, ◌≤◌, ◌↔◌, ℕ, ℤ, List, Some, IsTrue, true, OnOk, is_some, length};
 ghost use Rattle.tail_book.specs.Lookup.{activities, aircraft};
-ghost use Rattle.maint_counters.specs.StepTable.{IsStepTableOf};
+ghost use Rattle.maint_counters.specs.inside.StepTable.{IsStepTableOf};
 ghost use Rattle.connection_net.specs.Net.{net_of};
-ghost use Rattle.branch_marks.specs.MarkTests.{is_alive};
-ghost use Rattle.branch_marks.specs.MarkTables.{AreMarksOf};
+ghost use Rattle.branch_marks.specs.inside.MarkTests.{is_alive};
+ghost use Rattle.branch_marks.specs.inside.MarkTables.{AreMarksOf};
 ghost use Rattle.branch_marks.specs.Floors.{floors};
 ghost use Rattle.branch_marks.specs.Following.{IsDead};
-ghost use Rattle.propagator.specs.FloorRow.{floor_in, IsRowOf};
+ghost use Rattle.propagator.specs.inside.FloorRow.{floor_in, IsRowOf};
 ghost use Rattle.propagator.specs.InTurn.{GrowInTurn};
-ghost use Rattle.propagator.specs.LeastOver.{floor_of};
-ghost use Rattle.propagator.specs.Neighbours.{goes_on_from, goes_on_to};
-ghost use Rattle.propagator.specs.Settling.{ActsOn, ComesBelow, IsSettledFor};
+ghost use Rattle.propagator.specs.inside.LeastOver.{floor_of};
+ghost use Rattle.propagator.specs.inside.Neighbours.{goes_on_from, goes_on_to};
+ghost use Rattle.propagator.specs.inside.Settling.{ActsOn, ComesBelow, IsSettledFor};
 
 use crate::adding::add_bar;
 use crate::floor_row::FloorRow;

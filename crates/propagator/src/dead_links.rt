@@ -6,13 +6,13 @@
 
 ghost use Rattle.std.specs.Prelude.{◌≡◌, ◌<◌, ◌↔◌, ℕ, IsTrue, OnOk, length};
 ghost use Rattle.tail_book.specs.Lookup.{activities, aircraft};
-ghost use Rattle.maint_counters.specs.StepTable.{IsStepTableOf};
+ghost use Rattle.maint_counters.specs.inside.StepTable.{IsStepTableOf};
 ghost use Rattle.connection_net.specs.Net.{net_of};
-ghost use Rattle.branch_marks.specs.MarkTables.{AreMarksOf};
+ghost use Rattle.branch_marks.specs.inside.MarkTables.{AreMarksOf};
 ghost use Rattle.branch_marks.specs.Following.{IsDeadConnection, IsShutForFloors};
-ghost use Rattle.propagator.specs.FloorRow.{AreRowsOf};
+ghost use Rattle.propagator.specs.inside.FloorRow.{AreRowsOf};
 ghost use Rattle.propagator.specs.InTurn.{GrowInTurn};
-ghost use Rattle.propagator.specs.Cutting.{AreFloorsOf, NothingNewFollows};
+ghost use Rattle.propagator.specs.inside.Cutting.{AreFloorsOf, NothingNewFollows};
 
 use crate::adding::add_next;
 use crate::floor_row::FloorRow;

@@ -5,8 +5,8 @@
 
 ghost use Rattle.std.specs.Prelude.{◌≡◌, ◌<◌, ◌≤◌, ◌+◌, ◌*◌, ◌++◌, IsTrue, IfOk, Option, None, Some, is_some, false, if◌then◌else◌, length, replicate, slice_index_or, slice_set, take, drop, slice_range};
 ghost use Rattle.branch_marks.specs.Floors.{lesser, lesser_floor};
-ghost use Rattle.maint_counters.specs.Counts.{AreCounts};
-ghost use Rattle.propagator.specs.FloorRow.{kept_floors, IsFloorRow};
+ghost use Rattle.maint_counters.specs.inside.Counts.{AreCounts};
+ghost use Rattle.propagator.specs.inside.FloorRow.{kept_floors, IsFloorRow};
 
 use std::alloc::Global;
 use std::marker::Model;
@@ -21,7 +21,7 @@ pub struct FloorRow {
 }
 
 impl Model for FloorRow {
-    ghost use Rattle.propagator.specs.FloorRow.{FloorRowSeen, kept_floors, IsFloorRow};
+    ghost use Rattle.propagator.specs.inside.FloorRow.{FloorRowSeen, kept_floors, IsFloorRow};
 
     ghost Value = { FloorRowSeen };
 

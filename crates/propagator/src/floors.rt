@@ -6,18 +6,18 @@
 
 ghost use Rattle.std.specs.Prelude.{◌≡◌, ◌<◌, ◌&&◌, ℕ, ℤ, List, false, IsTrue, None, Some, if◌then◌else◌, length};
 ghost use Rattle.tail_book.specs.Lookup.{activities, aircraft};
-ghost use Rattle.tail_book.specs.Place.{IsPlaceOf};
+ghost use Rattle.tail_book.specs.inside.Place.{IsPlaceOf};
 ghost use Rattle.tail_book.specs.Counters.{step};
-ghost use Rattle.tail_book.specs.Tests.{within_limits};
-ghost use Rattle.branch_marks.specs.MarkTests.{is_usable};
-ghost use Rattle.maint_counters.specs.Counts.{AreCounts};
-ghost use Rattle.maint_counters.specs.StepTable.{IsStepTableOf};
+ghost use Rattle.tail_book.specs.inside.Tests.{within_limits};
+ghost use Rattle.branch_marks.specs.inside.MarkTests.{is_usable};
+ghost use Rattle.maint_counters.specs.inside.Counts.{AreCounts};
+ghost use Rattle.maint_counters.specs.inside.StepTable.{IsStepTableOf};
 ghost use Rattle.connection_net.specs.Net.{net_of};
-ghost use Rattle.branch_marks.specs.MarkTables.{AreMarksOf};
+ghost use Rattle.branch_marks.specs.inside.MarkTables.{AreMarksOf};
 ghost use Rattle.branch_marks.specs.Floors.{floors, lesser_floor, stepped_floor};
-ghost use Rattle.propagator.specs.FloorRow.{floor_in, IsSetAt, IsRowOf};
-ghost use Rattle.propagator.specs.LeastOver.{floor_of, brought_first, brought};
-ghost use Rattle.propagator.specs.Neighbours.{goes_on_to};
+ghost use Rattle.propagator.specs.inside.FloorRow.{floor_in, IsSetAt, IsRowOf};
+ghost use Rattle.propagator.specs.inside.LeastOver.{floor_of, brought_first, brought};
+ghost use Rattle.propagator.specs.inside.Neighbours.{goes_on_to};
 
 use crate::floor_row::FloorRow;
 use crate::laws::{

@@ -1,13 +1,12 @@
 //! Laws over the definitions alone: the contract of each function is the law.
 
-ghost use Rattle.propagator.specs.LeastOver.{FloorsAreLeast, LeastAreFloors, NoFloorWithout};
-ghost use Rattle.propagator.specs.SameFor.{SameFloors, SameDead, BarsLeaveOthers, MustsLeaveOthers};
-ghost use Rattle.propagator.specs.OneMore.{BarsTakeOneFloor, BarsKillNothingLater, CutsTakeNoFloor, CutsMakeNothingFollow};
-ghost use Rattle.propagator.specs.Neighbours.{LinksLeaveTime, PredecessorsComeBefore, PredecessorsBringAll, SuccessorsAreOfBook, SuccessorsTell};
+ghost use Rattle.propagator.specs.inside.LeastOver.{FloorsAreLeast, LeastAreFloors, NoFloorWithout};
+ghost use Rattle.propagator.specs.inside.SameFor.{SameFloors, SameDead, BarsLeaveOthers, MustsLeaveOthers};
+ghost use Rattle.propagator.specs.inside.OneMore.{BarsTakeOneFloor, BarsKillNothingLater, CutsTakeNoFloor, CutsMakeNothingFollow};
+ghost use Rattle.propagator.specs.inside.Neighbours.{LinksLeaveTime, PredecessorsComeBefore, PredecessorsBringAll, SuccessorsAreOfBook, SuccessorsTell};
 ghost use Rattle.tail_book.specs.Seen.{BookSeen};
 ghost use Rattle.std.specs.Prelude.{ℕ, ℤ, List};
 ghost use Rattle.branch_marks.specs.declared.fact.Fact.{Fact as MarkFact};
-ghost use Rattle.propagator.specs.InTurn.{WhatFollowsIsNew};
 
 use branch_marks::laws::{alive_decides, may_end_decides, usable_decides};
 use connection_net::laws::{predecessors_are_links, rows_rise, successors_are_links};
@@ -137,8 +136,3 @@ pub fn no_floor_without()
 {
     floors_are_least();
 }
-
-/// What follows is not yet there.
-pub fn what_follows_is_new()
-    ensures { WhatFollowsIsNew }
-{}

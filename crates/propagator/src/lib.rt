@@ -15,3 +15,6 @@ mod settling;
 
 pub use closing::close;
 pub use hole_at::Closed;
+
+#[cfg(test)]
+mod tests;

@@ -6,13 +6,13 @@
 
 ghost use Rattle.std.specs.Prelude.{◌≡◌, ◌<◌, OnOk, length};
 ghost use Rattle.tail_book.specs.Lookup.{activities, aircraft};
-ghost use Rattle.maint_counters.specs.StepTable.{IsStepTableOf};
+ghost use Rattle.maint_counters.specs.inside.StepTable.{IsStepTableOf};
 ghost use Rattle.connection_net.specs.Net.{net_of};
-ghost use Rattle.branch_marks.specs.MarkTables.{AreMarksOf};
+ghost use Rattle.branch_marks.specs.inside.MarkTables.{AreMarksOf};
 ghost use Rattle.branch_marks.specs.Floors.{floors};
-ghost use Rattle.propagator.specs.FloorRow.{IsRowOf, AreRowsOf, ChangesOnly};
+ghost use Rattle.propagator.specs.inside.FloorRow.{IsRowOf, AreRowsOf, ChangesOnly};
 ghost use Rattle.propagator.specs.InTurn.{GrowInTurn};
-ghost use Rattle.propagator.specs.Settling.{ActsOn, IsSettledFor, StandsFor, StandBelow};
+ghost use Rattle.propagator.specs.inside.Settling.{ActsOn, IsSettledFor, StandsFor, StandBelow};
 
 use crate::arrivals::bar_arrivals;
 use crate::dead_ends::bar_ends;

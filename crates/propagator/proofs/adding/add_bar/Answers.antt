@@ -1,7 +1,7 @@
 use Rattle.std.proofs.Common.{◌++◌, ◌∷◌, [], List}
 use Rattle.branch_marks.specs.declared.fact.Fact.{Fact}
 use Rattle.branch_marks.specs.declared.fact.Fact.TheVariants.{Bar}
-use Rattle.propagator.specs.Settling.{ActsOn}
+use Rattle.propagator.specs.inside.Settling.{ActsOn}
 use Rattle.propagator.proofs.Arriving.{at_either, acts_not, bar_acts}
 use Rattle.propagator.proofs.adding.add_bar.Goals as goal
 

@@ -3,9 +3,9 @@ use Rattle.std.specs.Prelude.{is_some}
 use Rattle.std.proofs.lemmas.Bool.{both_ways}
 use Rattle.branch_marks.specs.declared.fact.Fact.{Fact}
 use Rattle.branch_marks.specs.declared.fact.Fact.TheVariants.{Bar}
-use Rattle.branch_marks.specs.MarkTests.{is_alive}
+use Rattle.branch_marks.specs.inside.MarkTests.{is_alive}
 use Rattle.branch_marks.specs.Floors.{floors}
-use Rattle.propagator.specs.LeastOver.{floor_of}
+use Rattle.propagator.specs.inside.LeastOver.{floor_of}
 use Rattle.propagator.proofs.MoreMarks.{barred}
 use Rattle.propagator.proofs.Arriving.{arrival_floors, dead_arrival}
 use Rattle.propagator.proofs.arrivals.bar_arrival.Goals as goal

@@ -1,6 +1,6 @@
 use Rattle.std.proofs.Common.{◌<◌, ◌∙◌, ◌++◌, List, ap, sym, subst}
 use Rattle.branch_marks.specs.declared.fact.Fact.{Fact}
-use Rattle.propagator.specs.Unnamed.{unnamed}
+use Rattle.propagator.specs.inside.Unnamed.{unnamed}
 use Rattle.propagator.proofs.InTurn.{grow_both}
 use Rattle.propagator.proofs.OnlyCarriers.{on_ok, carried, fewer_unnamed}
 use Rattle.propagator.proofs.carriers.carry.Goals as goal

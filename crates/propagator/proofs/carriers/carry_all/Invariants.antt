@@ -1,5 +1,5 @@
 use Rattle.tail_book.specs.Lookup.{aircraft}
-use Rattle.propagator.specs.Unnamed.{unnamed}
+use Rattle.propagator.specs.inside.Unnamed.{unnamed}
 use Rattle.propagator.proofs.Settled.{AreSettling}
 use Rattle.propagator.proofs.carriers.carry_all.Given as goal
 

@@ -3,8 +3,8 @@ use Rattle.tail_book.specs.Lookup.{activities}
 use Rattle.branch_marks.specs.declared.fact.Fact.{Fact}
 use Rattle.branch_marks.specs.Floors.{floors}
 use Rattle.branch_marks.specs.Following.{IsDead}
-use Rattle.propagator.specs.FloorRow.{FloorRowSeen}
-use Rattle.propagator.specs.Settling.{ComesBelow}
+use Rattle.propagator.specs.inside.FloorRow.{FloorRowSeen}
+use Rattle.propagator.specs.inside.Settling.{ComesBelow}
 use Rattle.propagator.proofs.DeadEnds.{end_floors, end_comes, end_ended}
 use Rattle.propagator.proofs.dead_ends.bar_end.Goals as goal
 

@@ -1,7 +1,7 @@
 use Rattle.std.proofs.Common.{◌≡◌, ℤ, List, drop, Some}
 use Rattle.std.specs.List.{list_any}
-use Rattle.propagator.specs.FloorRow.{floor_in}
-use Rattle.propagator.specs.Neighbours.{goes_on_from, goes_on_to}
+use Rattle.propagator.specs.inside.FloorRow.{floor_in}
+use Rattle.propagator.specs.inside.Neighbours.{goes_on_from, goes_on_to}
 use Rattle.propagator.proofs.dead_ends.goes_on.Given as goal
 
 -- the successors that are left decide

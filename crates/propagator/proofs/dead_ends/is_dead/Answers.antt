@@ -1,6 +1,6 @@
 use Rattle.std.proofs.Common.{false, sym, ◌∙◌, ℤ, List, Option, None, ap, get_or, refl}
 use Rattle.std.proofs.lemmas.Bool.{both_ways}
-use Rattle.propagator.specs.LeastOver.{floor_of}
+use Rattle.propagator.specs.inside.LeastOver.{floor_of}
 use Rattle.propagator.proofs.DeadEnds.{end_tells}
 use Rattle.propagator.proofs.dead_ends.is_dead.Goals as goal
 

@@ -2,7 +2,7 @@ use Rattle.std.proofs.Common.{◌≡◌, ◌++◌, ◌∷◌, [], List, refl, su
 use Rattle.branch_marks.specs.declared.fact.Fact.{Fact}
 use Rattle.branch_marks.specs.declared.fact.Fact.TheVariants.{Cut}
 use Rattle.branch_marks.specs.Following.{IsDeadConnection}
-use Rattle.propagator.specs.Cutting.{AreFloorsOf, NothingNewFollows}
+use Rattle.propagator.specs.inside.Cutting.{AreFloorsOf, NothingNewFollows}
 use Rattle.propagator.proofs.Arriving.{at_either}
 use Rattle.propagator.proofs.OnlyCarriers.{on_ok}
 use Rattle.propagator.proofs.DeadLinks.{cut_floors, cut_once, nothing_itself}

@@ -2,7 +2,7 @@ use Rattle.std.proofs.Common.{◌<◌, ap, arith, length, refl, false}
 use Rattle.std.proofs.lemmas.Bool.{both_ways}
 use Rattle.tail_book.specs.Seen.{BookSeen}
 use Rattle.tail_book.specs.Lookup.{aircraft}
-use Rattle.propagator.specs.FloorRow.{floor_in}
+use Rattle.propagator.specs.inside.FloorRow.{floor_in}
 use Rattle.propagator.proofs.DeadLinks.{goes_on_over, cannot_over, row_floor, asked_used, asked_unused}
 use Rattle.propagator.proofs.dead_links.is_dead_link.Goals as goal
 use Rattle.propagator.proofs.dead_links.is_dead_link.Goals.{then-usable+else-goes_on_to, else-usable}

@@ -1,6 +1,6 @@
 use Rattle.std.proofs.Common.{◌≡◌, ◌∙◌, ℕ, ℤ, ◌*◌, ◌+◌, List, take, drop, ap, arith, sym, subst, Some}
 use Rattle.std.specs.Prelude.{slice_range}
-use Rattle.maint_counters.specs.Counts.{AreCounts}
+use Rattle.maint_counters.specs.inside.Counts.{AreCounts}
 use Rattle.propagator.proofs.KeptFloors.{row_known, row_unknown, row_counts}
 use Rattle.propagator.proofs.floor_row.read_row.Goals as goal
 

@@ -1,6 +1,6 @@
 use Rattle.std.proofs.Common.{◌≡◌, ◌<◌, ℕ, length}
-use Rattle.propagator.specs.FloorRow.{floor_in}
-use Rattle.propagator.specs.LeastOver.{floor_of}
+use Rattle.propagator.specs.inside.FloorRow.{floor_in}
+use Rattle.propagator.specs.inside.LeastOver.{floor_of}
 use Rattle.propagator.proofs.floors.put_floors.Given as goal
 
 -- the floors below b are written

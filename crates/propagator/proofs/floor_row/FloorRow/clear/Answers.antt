@@ -1,5 +1,5 @@
 use Rattle.std.proofs.Common.{ap, arith, length}
-use Rattle.propagator.specs.FloorRow.{FloorRowSeen}
+use Rattle.propagator.specs.inside.FloorRow.{FloorRowSeen}
 use Rattle.propagator.proofs.KeptFloors.{kept_length}
 use Rattle.propagator.proofs.floor_row.FloorRow.clear.Goals as goal
 

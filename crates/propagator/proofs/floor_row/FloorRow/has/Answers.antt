@@ -1,7 +1,7 @@
 use Rattle.std.proofs.Common.{◌≡◌, ◌∙◌, ℤ, ◌*◌, ◌<◌, Bool, true, false, ap, arith, length, List, get_or, drop, take, refl, sym, Option, None, Some}
 use Rattle.std.specs.Prelude.{is_some, if◌then◌else◌}
 use Rattle.std.proofs.lemmas.List.{get_or_default}
-use Rattle.propagator.specs.FloorRow.{FloorRowSeen}
+use Rattle.propagator.specs.inside.FloorRow.{FloorRowSeen}
 use Rattle.propagator.proofs.KeptFloors.{kept_length, kept_get}
 use Rattle.propagator.proofs.floor_row.FloorRow.has.Goals as goal
 

@@ -3,12 +3,12 @@ use Rattle.std.specs.Prelude.{ℕ, ◌≡◌, ◌≢◌, ◌<◌, true, List, is
 use Rattle.tail_book.specs.Seen.{BookSeen}
 use Rattle.tail_book.specs.Lookup.{activities}
 use Rattle.branch_marks.specs.declared.fact.Fact.{Fact}
-use Rattle.branch_marks.specs.MarkTests.{is_alive}
+use Rattle.branch_marks.specs.inside.MarkTests.{is_alive}
 use Rattle.branch_marks.specs.Following.{IsDead}
 use Rattle.branch_marks.specs.Floors.{floors}
-use Rattle.propagator.specs.FloorRow.{FloorRowSeen, floors_in}
-use Rattle.propagator.specs.LeastOver.{floor_of}
-use Rattle.propagator.specs.SameFor.{SameFor}
+use Rattle.propagator.specs.inside.FloorRow.{FloorRowSeen, floors_in}
+use Rattle.propagator.specs.inside.LeastOver.{floor_of}
+use Rattle.propagator.specs.inside.SameFor.{SameFor}
 
 -- new marks that leave all but aircraft k the same, and make nothing alive for k
 pub record ActsOn (book : BookSeen) (k : ℕ) (old new : List Fact) : Type 0 where

@@ -2,7 +2,7 @@
 use Rattle.std.specs.Prelude.{ℕ, ℤ, ◌≡◌, ◌≢◌, ◌*◌, ◌≤◌, ⊤, List, [], ◌∷◌, Bool, Option, None, Some, All, if◌then◌else◌, length, take, drop, slice_index_or}
 use Rattle.tail_book.specs.Seen.{BookSeen}
 use Rattle.tail_book.specs.Lookup.{activities, aircraft}
-use Rattle.maint_counters.specs.Counts.{AreCounts}
+use Rattle.maint_counters.specs.inside.Counts.{AreCounts}
 
 -- what contracts see of the floors: how many values each has, and for each activity its floor or none
 pub record FloorRowSeen : Type 0 where

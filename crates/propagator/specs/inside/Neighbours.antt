@@ -8,14 +8,14 @@ use Rattle.tail_book.specs.declared.place.Place.TheVariants.{After}
 use Rattle.tail_book.specs.Lookup.{activities}
 use Rattle.tail_book.specs.Counters.{step}
 use Rattle.tail_book.specs.Link.{IsLink}
-use Rattle.tail_book.specs.Sound.{IsBook}
-use Rattle.tail_book.specs.Tests.{within_limits}
-use Rattle.turn_rules.specs.FreeBefore.{IsFreeBefore}
+use Rattle.tail_book.specs.inside.Sound.{IsBook}
+use Rattle.tail_book.specs.inside.Tests.{within_limits}
+use Rattle.turn_rules.specs.inside.FreeBefore.{IsFreeBefore}
 use Rattle.connection_net.specs.Net.{net_of, predecessors_in, successors_in}
 use Rattle.branch_marks.specs.declared.fact.Fact.{Fact}
-use Rattle.branch_marks.specs.MarkTests.{is_usable}
+use Rattle.branch_marks.specs.inside.MarkTests.{is_usable}
 use Rattle.branch_marks.specs.Following.{NoneGoesOn}
-use Rattle.propagator.specs.LeastOver.{least_over, brought}
+use Rattle.propagator.specs.inside.LeastOver.{least_over, brought}
 
 -- where there is a link, the aircraft is free in time
 abbrev pub LinksLeaveTime : Type 0
