@@ -1,0 +1,117 @@
+-- Going over the dead ends of one aircraft from the last activity to the first.
+use Rattle.std.specs.Prelude.{IsTrue, not, is_some, nat_eq}
+use Rattle.std.proofs.Common.{◌≡◌, ◌∙◌, ℕ, ℤ, ◌<◌, ◌≤◌, ◌+◌, Bool, true, false, inl, inr, List, [], ◌∷◌, ◌++◌, refl, sym, ap, subst, arith, get_or, length, Option, None, Some}
+use Rattle.std.proofs.lemmas.Bool.{both_ways, cond-true, cond-false, false_from_ne_true, cases_order}
+use Rattle.std.proofs.Math.ListN.{set}
+use Rattle.std.proofs.lemmas.List.{length-set, get_or-set_other}
+use Rattle.std.proofs.lemmas.Grind.{get_or-set_at}
+use Rattle.std.proofs.lemmas.Bool.Decides.{eqb_tells}
+use Rattle.tail_book.specs.Seen.{BookSeen}
+use Rattle.tail_book.specs.declared.place.Place.TheVariants.{After}
+use Rattle.tail_book.specs.Lookup.{activities, aircraft}
+use Rattle.branch_marks.specs.declared.fact.Fact.{Fact}
+use Rattle.branch_marks.specs.declared.fact.Fact.TheVariants.{Bar}
+use Rattle.branch_marks.specs.Marks.{IsAlive, MayEnd}
+use Rattle.branch_marks.specs.inside.MarkTests.{is_alive, AliveDecides}
+use Rattle.branch_marks.specs.MarksSeen.{MarksSeen}
+use Rattle.branch_marks.specs.inside.MarkTables.{AreMarksOf}
+use Rattle.branch_marks.specs.Floors.{floors, FloorsCount}
+use Rattle.branch_marks.specs.Following.{IsDeadBy, IsDead}
+use Rattle.propagator.specs.inside.FloorRow.{FloorRowSeen}
+use Rattle.propagator.specs.InTurn.{GrowInTurn}
+use Rattle.propagator.specs.inside.LeastOver.{floor_of}
+use Rattle.propagator.specs.inside.Neighbours.{goes_on_from, SuccessorsTell}
+use Rattle.propagator.specs.inside.OneMore.{BarsTakeOneFloor}
+use Rattle.propagator.specs.inside.Settling.{ActsOn, ComesBelow}
+use Rattle.propagator.proofs.ComeOn.{same_list}
+use Rattle.propagator.proofs.InTurn.{grow_both}
+use Rattle.propagator.proofs.MoreMarks.{barred, elsewhere_alive}
+use Rattle.propagator.proofs.Arriving.{acts_on}
+
+not_true : (g : Bool) → IsTrue (not g) → g ≡ false
+not_true true h = sym h
+not_true false h = refl
+
+true_not : (g : Bool) → g ≡ false → IsTrue (not g)
+true_not g e = ap not e
+
+-- what is alive, has a floor and may not end is dead exactly where nothing goes on
+pub end_tells : (book : BookSeen) (marks : List Fact) (k a : ℕ) → k < aircraft book → a < activities book → IsAlive book marks k a → ¬ MayEnd marks k (After a)
+    → (floor : Option (List ℤ)) → floor_of book marks k a ≡ floor → is_some floor ≡ true → ((low : List ℤ) → SuccessorsTell book marks k a low)
+    → (g : Bool) → ((low : List ℤ) → floor_of book marks k a ≡ Some low → g ≡ goes_on_from book marks k a low)
+    → (IsTrue (not g) → IsDead book marks k a) × (IsDead book marks k a → IsTrue (not g))
+end_tells book marks k a hk ha alive stays None e some tell g goes = absurd (both_ways false refl some)
+end_tells book marks k a hk ha alive stays (Some low) e some tell g goes = (
+  (λ h. record {
+    of_book = (hk, ha);
+    alive = alive;
+    dead = subst (λ (floor : Option (List ℤ)). IsDeadBy book marks k a floor) (sym e) (stays, (tell low).none (sym (goes low e) ∙ not_true g h));
+  }),
+  (λ d. true_not g (goes low e ∙ false_from_ne_true (goes_on_from book marks k a low)
+      (λ t. (tell low).goes t (subst (λ (floor : Option (List ℤ)). IsDeadBy book marks k a floor) e d.dead).1))),
+)
+
+-- once the floor is taken away, the row has the floors that are left
+pub end_floors : BarsTakeOneFloor → FloorsCount → (book : BookSeen) (marks : List Fact) (k c : ℕ) → c < activities book → IsDead book marks k c
+    → (listed : List (Option (List ℤ))) → listed ≡ floors book marks k → set listed c None ≡ floors book (marks ++ Bar k c ∷ []) k
+end_floors one count book marks k c lt dead listed are =
+    let more = count book (marks ++ Bar k c ∷ []) k in
+    let same = count book marks k in
+    let kept = length-set listed c None in
+    let all = ap (λ (z : List (Option (List ℤ))). length z) are in
+    same_list (set listed c None) (floors book (marks ++ Bar k c ∷ []) k) None (omega (arith, more, same, kept, all))
+    (λ i less. elim (eqb_tells i c) [
+      | inl here ↦ (
+          get_or-set_at listed c i None None here.1 (omega (arith, lt, same, all))
+          ∙ sym (one book marks k c dead i (omega (arith, less, kept, all, same)) ∙ cond-true (nat_eq i c) None (floor_of book marks k i) here.0))
+      | inr other ↦ (
+          get_or-set_other listed c i None None other.1
+          ∙ ap (λ (z : List (Option (List ℤ))). get_or z i None) are
+          ∙ sym (one book marks k c dead i (omega (arith, less, kept, all, same)) ∙ cond-false (nat_eq i c) None (floor_of book marks k i) other.0))
+    ])
+
+-- what stays alive keeps its floor
+pub end_comes : BarsTakeOneFloor → (book : BookSeen) (marks : List Fact) (k c : ℕ) → IsDead book marks k c
+    → ComesBelow book marks k (activities book) → ComesBelow book (marks ++ Bar k c ∷ []) k (activities book)
+end_comes one book marks k c dead comes a lt alive = elim (eqb_tells a c) [
+  | inl here ↦ absurd (both_ways (is_alive book (marks ++ Bar k c ∷ []) k a)
+      (ap (λ (z : ℕ). is_alive book (marks ++ Bar k c ∷ []) k z) here.1 ∙ barred book marks k c) alive)
+  | inr other ↦ (
+      ap is_some (one book marks k c dead a lt ∙ cond-false (nat_eq a c) None (floor_of book marks k a) other.0)
+      ∙ comes a lt (sym (elsewhere_alive book marks k c a other.1) ∙ alive))
+]
+
+-- what is barred is not dead, since it is not alive
+pub end_ended : AliveDecides → (book : BookSeen) (marks : List Fact) (k c : ℕ) → ¬ IsDead book (marks ++ Bar k c ∷ []) k c
+end_ended alive book marks k c d = both_ways (is_alive book (marks ++ Bar k c ∷ []) k c) (barred book marks k c) ((alive book (marks ++ Bar k c ∷ []) k c).1 d.alive)
+
+-- the dead ends from n on have been barred
+pub record IsEnding (book : BookSeen) (k n : ℕ) (old new : MarksSeen) (listed listing : List Fact) (first row : FloorRowSeen) : Type 0 where
+  pub marks : AreMarksOf book new
+  pub grows : GrowInTurn book old.facts new.facts listed listing
+  pub acts : ActsOn book k old.facts new.facts
+  pub width : row.width ≡ first.width
+  pub same : row.floors ≡ floors book new.facts k
+  pub comes : ComesBelow book new.facts k (activities book)
+  pub ended : (x : ℕ) → n ≤ x → x < activities book → ¬ IsDead book new.facts k x
+
+-- one activity further to the front
+pub end_next : (book : BookSeen) (k n x : ℕ) (a b c : MarksSeen) (l m o : List Fact) (first row new : FloorRowSeen) → n ≡ x + 1
+    → IsEnding book k n a b l m first row → AreMarksOf book c → GrowInTurn book b.facts c.facts m o → ActsOn book k b.facts c.facts
+    → new.width ≡ row.width → new.floors ≡ floors book c.facts k → ComesBelow book c.facts k (activities book) → ¬ IsDead book c.facts k x
+    → ((y : ℕ) → x < y → IsDead book c.facts k y → IsDead book b.facts k y) → IsEnding book k x a c l o first new
+end_next book k n x a b c l m o first row new e so_far marks grows acts width same comes ended later = record {
+  marks = marks;
+  grows = grow_both book a.facts b.facts c.facts l m o so_far.grows grows;
+  acts = acts_on book k a.facts b.facts c.facts so_far.acts acts;
+  width = width ∙ so_far.width;
+  same = same;
+  comes = comes;
+  ended = λ y le lt d. elim (cases_order x y) [
+    | inl here ↦ ended (subst (λ (z : ℕ). IsDead book c.facts k z) (sym here) d)
+    | inr o ↦ elim o [
+      | inl less ↦ so_far.ended y (omega (arith, e, less)) lt (later y less d)
+      | inr more ↦ absurd (omega (arith, le, more))
+    ]
+  ];
+}

@@ -1,0 +1,147 @@
+-- Judging a link by going over the aircraft, and cutting links one after the other.
+use Rattle.std.specs.Prelude.{nat_eq}
+use Rattle.std.proofs.lemmas.List.Elements.{Contains-push}
+use Rattle.tail_book.specs.Numbers.{contains}
+use Rattle.connection_net.specs.inside.Laws.{SuccessorsAreLinks}
+use Rattle.connection_net.specs.Net.{net_of, successors_in}
+use Rattle.std.proofs.Common.{◌≡◌, ◌∙◌, ℕ, ℤ, ◌<◌, ◌+◌, suc, inl, inr, Bool, true, false, List, [], ◌∷◌, ◌++◌, length, get_or, refl, sym, ap, subst, arith, below_more, Option, None, Some}
+use Rattle.std.proofs.lemmas.List.{get_or_default}
+use Rattle.std.proofs.lemmas.Bool.{both_ways, and_from, and_parts, or_cases, eqb-true}
+use Rattle.tail_book.specs.Seen.{BookSeen}
+use Rattle.tail_book.specs.declared.place.Place.TheVariants.{After}
+use Rattle.tail_book.specs.Lookup.{aircraft}
+use Rattle.tail_book.specs.Counters.{step}
+use Rattle.tail_book.specs.inside.Tests.{within_limits, LimitsDecide}
+use Rattle.branch_marks.specs.declared.fact.Fact.{Fact}
+use Rattle.branch_marks.specs.declared.fact.Fact.TheVariants.{Bar, Must, Cut, Tie}
+use Rattle.branch_marks.specs.Marks.{IsUsable}
+use Rattle.branch_marks.specs.inside.MarkTests.{is_usable, UsableDecides}
+use Rattle.branch_marks.specs.MarksSeen.{MarksSeen}
+use Rattle.branch_marks.specs.inside.MarkTables.{AreMarksOf}
+use Rattle.branch_marks.specs.Floors.{floors, FloorsCount}
+use Rattle.branch_marks.specs.Following.{CannotGoBy, IsDeadConnection, IsShutForFloors}
+use Rattle.propagator.specs.inside.FloorRow.{FloorRowSeen, floor_in, no_row}
+use Rattle.propagator.specs.InTurn.{GrowInTurn}
+use Rattle.propagator.specs.inside.LeastOver.{floor_of}
+use Rattle.propagator.specs.inside.Neighbours.{goes_on_to}
+use Rattle.propagator.specs.inside.OneMore.{CutsTakeNoFloor}
+use Rattle.propagator.specs.inside.Cutting.{AreFloorsOf, NothingNewFollows}
+use Rattle.propagator.proofs.ComeOn.{same_list}
+use Rattle.propagator.proofs.InTurn.{grow_both}
+
+-- the aircraft below n have been asked: whether one may use the link, and that none of them goes on
+pub record AreAsked (book : BookSeen) (marks : List Fact) (a b n : ℕ) (used : Bool) : Type 0 where
+  pub some : used ≡ true → (k : ℕ) × (k < aircraft book) × IsUsable book marks k (After a) b
+  pub none : used ≡ false → (k : ℕ) → k < n → ¬ IsUsable book marks k (After a) b
+  pub dead : (k : ℕ) → k < n → IsUsable book marks k (After a) b → CannotGoBy book k a b (floor_of book marks k a)
+
+module _ (usable : UsableDecides) (limits : LimitsDecide) (book : BookSeen) (marks : List Fact) (k a b : ℕ) where
+  -- an aircraft that goes on over the link keeps it from being dead
+  goes_by : (floor : Option (List ℤ)) (g : Bool) → ((low : List ℤ) → floor ≡ Some low → g ≡ goes_on_to book marks k a low b) → (floor ≡ None → g ≡ false)
+      → g ≡ true → IsUsable book marks k (After a) b × (¬ CannotGoBy book k a b floor)
+  goes_by None g some none on = absurd (both_ways g (none refl) on)
+  goes_by (Some low) g some none on =
+      let (link, within) = and_parts (is_usable book marks k (After a) b) (within_limits book.rules.counters (step book k (After a) b low)) (sym (some low refl) ∙ on) in
+      ((usable book marks k (After a) b).0 link, (λ cannot. cannot ((limits book.rules.counters (step book k (After a) b low)).0 within)))
+
+  -- and one that may use it and does not go on cannot
+  cannot_by : (floor : Option (List ℤ)) (g : Bool) → ((low : List ℤ) → floor ≡ Some low → g ≡ goes_on_to book marks k a low b)
+      → g ≡ false → IsUsable book marks k (After a) b → CannotGoBy book k a b floor
+  cannot_by None g some off link = tt
+  cannot_by (Some low) g some off link = λ within. both_ways g off
+      (some low refl ∙ and_from (is_usable book marks k (After a) b) (within_limits book.rules.counters (step book k (After a) b low))
+      ((usable book marks k (After a) b).1 link) ((limits book.rules.counters (step book k (After a) b low)).1 within))
+
+  pub goes_on_over : (floor : Option (List ℤ)) → floor ≡ floor_of book marks k a → k < aircraft book → (g : Bool)
+      → ((low : List ℤ) → floor ≡ Some low → g ≡ goes_on_to book marks k a low b) → (floor ≡ None → g ≡ false) → g ≡ true → ¬ IsDeadConnection book marks a b
+  goes_on_over floor e lt g some none on dead =
+      let (link, goes) = goes_by floor g some none on in
+      goes (subst (λ (f : Option (List ℤ)). CannotGoBy book k a b f) (sym e) (dead.dead k lt link))
+
+  pub cannot_over : (floor : Option (List ℤ)) → floor ≡ floor_of book marks k a → (g : Bool)
+      → ((low : List ℤ) → floor ≡ Some low → g ≡ goes_on_to book marks k a low b) → g ≡ false → IsUsable book marks k (After a) b
+      → CannotGoBy book k a b (floor_of book marks k a)
+  cannot_over floor e g some off link = subst (λ (f : Option (List ℤ)). CannotGoBy book k a b f) e (cannot_by floor g some off link)
+
+-- the row of an aircraft has its floors
+pub row_floor : (book : BookSeen) (marks : List Fact) (rows : List FloorRowSeen) (k a : ℕ) (row : FloorRowSeen) → AreFloorsOf book marks rows → k < aircraft book
+    → k < length rows → row ≡ get_or rows k row → floor_in row a ≡ floor_of book marks k a
+row_floor book marks rows k a row are lt within is =
+    ap (λ (r : FloorRowSeen). floor_in r a) (is ∙ get_or_default rows k row no_row within)
+    ∙ ap (λ (listed : List (Option (List ℤ))). get_or listed a None) (are k lt)
+
+-- one more aircraft is asked
+pub asked_used : (book : BookSeen) (marks : List Fact) (a b n : ℕ) (used now : Bool) → AreAsked book marks a b n used → n < aircraft book
+    → IsUsable book marks n (After a) b → CannotGoBy book n a b (floor_of book marks n a) → now ≡ true → AreAsked book marks a b (n + 1) now
+asked_used book marks a b n used now asked lt link cannot e = record {
+  some = λ _. (n, lt, link);
+  none = λ off. absurd (both_ways now off e);
+  dead = below_more (λ (k : ℕ). IsUsable book marks k (After a) b → CannotGoBy book k a b (floor_of book marks k a)) n asked.dead (λ _. cannot);
+}
+
+pub asked_unused : (book : BookSeen) (marks : List Fact) (a b n : ℕ) (used now : Bool) → AreAsked book marks a b n used
+    → ¬ IsUsable book marks n (After a) b → now ≡ used → AreAsked book marks a b (n + 1) now
+asked_unused book marks a b n used now asked not e = record {
+  some = λ on. asked.some (sym e ∙ on);
+  none = λ off. below_more (λ (k : ℕ). ¬ IsUsable book marks k (After a) b) n (asked.none (sym e ∙ off)) not;
+  dead = below_more (λ (k : ℕ). IsUsable book marks k (After a) b → CannotGoBy book k a b (floor_of book marks k a)) n asked.dead (λ link. absurd (not link));
+}
+
+pub nothing_itself : (book : BookSeen) (marks : List Fact) → NothingNewFollows book marks marks
+nothing_itself book marks fact f = f
+
+-- what is shut for floors stays so where nothing new follows
+pub shut_kept : (book : BookSeen) (old new : List Fact) → IsShutForFloors book old → NothingNewFollows book old new → IsShutForFloors book new
+shut_kept book old new shut nothing (Bar k a) of f = shut (Bar k a) of (nothing (Bar k a) f)
+shut_kept book old new shut nothing (Must k a) of f = f
+shut_kept book old new shut nothing (Cut a b) of f = f
+shut_kept book old new shut nothing (Tie a b) of f = f
+
+-- a Cut that follows leaves the rows right
+pub cut_floors : CutsTakeNoFloor → FloorsCount → (book : BookSeen) (marks : List Fact) (c d : ℕ) (rows : List FloorRowSeen) → IsDeadConnection book marks c d
+    → AreFloorsOf book marks rows → AreFloorsOf book (marks ++ Cut c d ∷ []) rows
+cut_floors take count book marks c d rows dead are k lt =
+    let more = count book (marks ++ Cut c d ∷ []) k in
+    let same = count book marks k in
+    are k lt ∙ sym (same_list (floors book (marks ++ Cut c d ∷ []) k) (floors book marks k) None (omega (arith, more, same))
+    (λ i less. take book marks c d dead k i (omega (arith, more, less))))
+
+-- a connection that is cut is not dead any more: it is there
+pub cut_once : (book : BookSeen) (marks : List Fact) (c d : ℕ) → ¬ IsDeadConnection book (marks ++ Cut c d ∷ []) c d
+cut_once book marks c d dead = dead.new (Contains-push marks (Cut c d))
+
+-- links have been cut, from old marks to new ones
+pub record AreCut (book : BookSeen) (old new : MarksSeen) (listed listing : List Fact) (rows : List FloorRowSeen) : Type 0 where
+  pub marks : AreMarksOf book new
+  pub grows : GrowInTurn book old.facts new.facts listed listing
+  pub floors : AreFloorsOf book new.facts rows
+  pub nothing : NothingNewFollows book old.facts new.facts
+
+pub cut_more : (book : BookSeen) (a b c : MarksSeen) (l m o : List Fact) (rows : List FloorRowSeen) → AreCut book a b l m rows → AreMarksOf book c
+    → GrowInTurn book b.facts c.facts m o → AreFloorsOf book c.facts rows → NothingNewFollows book b.facts c.facts → AreCut book a c l o rows
+cut_more book a b c l m o rows so_far marks grows floors nothing = record {
+  marks = marks;
+  grows = grow_both book a.facts b.facts c.facts l m o so_far.grows grows;
+  floors = floors;
+  nothing = λ fact f. so_far.nothing fact (nothing fact f);
+}
+
+-- what is not dead stays so
+pub never_new : (book : BookSeen) (old new : List Fact) (a b : ℕ) → NothingNewFollows book old new → ¬ IsDeadConnection book old a b → ¬ IsDeadConnection book new a b
+never_new book old new a b nothing not dead = not (nothing (Cut a b) dead)
+
+-- what a list contains stands at some number
+stands_at : (xs : List ℕ) (y : ℕ) → contains xs y ≡ true → (i : ℕ) × (i < length xs) × (get_or xs i 0 ≡ y)
+stands_at [] y h = absurd (both_ways false refl h)
+stands_at (x ∷ xs) y h = elim (or_cases (nat_eq y x) (contains xs y) h) [
+  | inl t ↦ (0, omega arith, sym (eqb-true y x t))
+  | inr t ↦ (let (i, lt, e) = stands_at xs y t in (suc i, omega (arith, lt), e))
+]
+
+-- where no successor is dead to come to, no connection is
+pub none_dead : SuccessorsAreLinks → (book : BookSeen) (marks : List Fact) (a : ℕ) (items : List ℕ) → items ≡ successors_in (net_of book) a
+    → ((i : ℕ) → i < length items → ¬ IsDeadConnection book marks a (get_or items i 0)) → (b : ℕ) → ¬ IsDeadConnection book marks a b
+none_dead links book marks a items are none b dead =
+    let (k, lt, link) = dead.usable in
+    let (i, within, e) = stands_at items b (ap (λ (xs : List ℕ). contains xs b) are ∙ (links book a b).1 (k, lt, link.link)) in
+    none i within (subst (λ (z : ℕ). IsDeadConnection book marks a z) (sym e) dead)

@@ -1,0 +1,16 @@
+pub mod LeastOver
+pub mod MoreMarks
+pub mod SameFor
+pub mod DeadBars
+pub mod DeadCuts
+pub mod KeptFloors
+pub mod Neighbours
+pub mod NotAlive
+pub mod ComeOn
+pub mod InTurn
+pub mod Arriving
+pub mod DeadEnds
+pub mod Settled
+pub mod OnlyCarriers
+pub mod DeadLinks
+pub mod Shut

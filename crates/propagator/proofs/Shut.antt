@@ -1,0 +1,23 @@
+-- Marks are shut once all aircraft stand, nobody is an unnamed only carrier, and no connection is dead.
+use Rattle.std.proofs.Common.{ℕ, List}
+use Rattle.tail_book.specs.Seen.{BookSeen}
+use Rattle.tail_book.specs.Lookup.{aircraft}
+use Rattle.branch_marks.specs.declared.fact.Fact.{Fact}
+use Rattle.branch_marks.specs.declared.fact.Fact.TheVariants.{Bar, Must, Cut, Tie}
+use Rattle.branch_marks.specs.Following.{IsOnlyCarrier, IsDeadConnection, IsShut, IsShutForFloors}
+use Rattle.propagator.specs.inside.FloorRow.{FloorRowSeen}
+use Rattle.propagator.specs.inside.Settling.{StandBelow}
+use Rattle.propagator.specs.inside.Cutting.{NothingNewFollows}
+
+pub shut_for_floors : (book : BookSeen) (marks : List Fact) (rows : List FloorRowSeen) → StandBelow book marks rows (aircraft book) → IsShutForFloors book marks
+shut_for_floors book marks rows stand (Bar k a) of f = (stand k of.0).settled a of.1 f
+shut_for_floors book marks rows stand (Must k a) of f = f
+shut_for_floors book marks rows stand (Cut a b) of f = f
+shut_for_floors book marks rows stand (Tie a b) of f = f
+
+pub shut_at_end : (book : BookSeen) (before marks : List Fact) (rows : List FloorRowSeen) → StandBelow book before rows (aircraft book)
+    → ((k a : ℕ) → ¬ IsOnlyCarrier book before k a) → NothingNewFollows book before marks → ((a b : ℕ) → ¬ IsDeadConnection book marks a b) → IsShut book marks
+shut_at_end book before marks rows stand none nothing cut (Bar k a) of f = (stand k of.0).settled a of.1 (nothing (Bar k a) f)
+shut_at_end book before marks rows stand none nothing cut (Must k a) of f = none k a (nothing (Must k a) f)
+shut_at_end book before marks rows stand none nothing cut (Cut a b) of f = cut a b f
+shut_at_end book before marks rows stand none nothing cut (Tie a b) of f = f

@@ -1,0 +1,29 @@
+-- What a fact that follows changes once it is among the marks.
+use Rattle.std.specs.Prelude.{ℕ, ◌≡◌, ◌<◌, ◌++◌, List, [], ◌∷◌, None, if◌then◌else◌, nat_eq}
+use Rattle.tail_book.specs.Seen.{BookSeen}
+use Rattle.tail_book.specs.Lookup.{activities}
+use Rattle.tail_book.specs.inside.Sound.{IsBook}
+use Rattle.branch_marks.specs.declared.fact.Fact.{Fact}
+use Rattle.branch_marks.specs.declared.fact.Fact.TheVariants.{Bar, Cut}
+use Rattle.branch_marks.specs.Following.{IsDead, IsDeadConnection, Follows}
+use Rattle.propagator.specs.inside.LeastOver.{floor_of}
+
+-- a Bar that follows takes the floor at its activity, and leaves its aircraft all others
+abbrev pub BarsTakeOneFloor : Type 0
+BarsTakeOneFloor = (book : BookSeen) (marks : List Fact) (k c : ℕ) → IsDead book marks k c
+    → (a : ℕ) → a < activities book → floor_of book (marks ++ Bar k c ∷ []) k a ≡ (if nat_eq a c then None else floor_of book marks k a)
+
+-- what is dead after it and comes later was dead before it
+abbrev pub BarsKillNothingLater : Type 0
+BarsKillNothingLater = (book : BookSeen) → IsBook book → (marks : List Fact) (k c : ℕ) → IsDead book marks k c
+    → (a : ℕ) → c < a → IsDead book (marks ++ Bar k c ∷ []) k a → IsDead book marks k a
+
+-- a Cut that follows leaves all floors
+abbrev pub CutsTakeNoFloor : Type 0
+CutsTakeNoFloor = (book : BookSeen) (marks : List Fact) (c d : ℕ) → IsDeadConnection book marks c d
+    → (k a : ℕ) → a < activities book → floor_of book (marks ++ Cut c d ∷ []) k a ≡ floor_of book marks k a
+
+-- and what follows after it followed before it
+abbrev pub CutsMakeNothingFollow : Type 0
+CutsMakeNothingFollow = (book : BookSeen) (marks : List Fact) (c d : ℕ) → IsDeadConnection book marks c d
+    → (fact : Fact) → Follows book (marks ++ Cut c d ∷ []) fact → Follows book marks fact

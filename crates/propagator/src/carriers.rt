@@ -1,0 +1,125 @@
+//! Only carriers: an activity that is alive for one aircraft alone is given to it.
+//!
+//! A Must of an only carrier changes nothing for any other aircraft: the activity was not alive for them. So its own
+//! floors alone are made anew, and it is settled before the next Must is looked for. Each Must names an activity that
+//! none named, so there are at most as many as activities. To look at an activity costs the words of its bit row.
+
+ghost use Rattle.std.specs.Prelude.{◌≡◌, ◌<◌, ℕ, IfSome, IfNone, OnOk, length};
+ghost use Rattle.tail_book.specs.Lookup.{activities, aircraft};
+ghost use Rattle.maint_counters.specs.inside.StepTable.{IsStepTableOf};
+ghost use Rattle.connection_net.specs.Net.{net_of};
+ghost use Rattle.branch_marks.specs.inside.MarkTables.{AreMarksOf};
+ghost use Rattle.branch_marks.specs.Following.{IsOnlyCarrier};
+ghost use Rattle.propagator.specs.inside.FloorRow.{AreRowsOf};
+ghost use Rattle.propagator.specs.InTurn.{GrowInTurn};
+ghost use Rattle.propagator.specs.inside.Settling.{StandBelow};
+ghost use Rattle.propagator.specs.inside.Unnamed.{unnamed};
+
+use crate::adding::add_next;
+use crate::floor_row::FloorRow;
+use crate::laws::{musts_leave_others, same_dead, same_floors};
+use crate::settling::settle_at;
+use branch_marks::laws::{alive_decides, has_fact_decides};
+use branch_marks::{Fact, Marks};
+use connection_net::Net;
+use maint_counters::StepTable;
+use tail_book::{Book, Memory};
+
+// The only carrier of an activity, if there is one that no Must names yet.
+fn carrier_at(book: &Book, marks: &Marks, a: u32) -> Option<u32>
+    requires marks { AreMarksOf book.now marks.now }
+    requires activity { a < activities book.now }
+    ensures some { IfSome result (λ k. IsOnlyCarrier book.now marks.now.facts k a) }
+    ensures none { IfNone result ((k : ℕ) → ¬ IsOnlyCarrier book.now marks.now.facts k a) }
+{
+    alive_decides();
+    marks.facts_are_of_book(book);
+    let m = book.tails.len() as u32;
+    let k = marks.next_alive(book, a, 0);
+    if k == m {
+        return None;
+    }
+    if marks.next_alive(book, a, k + 1) < m {
+        return None;
+    }
+    if marks.has(Fact::Must(k, a)) {
+        return None;
+    }
+    Some(k)
+}
+
+// An aircraft and an activity of which it is the only carrier, if there are such.
+fn find_carrier(book: &Book, marks: &Marks) -> Option<(u32, u32)>
+    requires { AreMarksOf book.now marks.now }
+    ensures some { IfSome result (λ pair. IsOnlyCarrier book.now marks.now.facts pair.0 pair.1) }
+    ensures none { IfNone result ((k a : ℕ) → ¬ IsOnlyCarrier book.now marks.now.facts k a) }
+{
+    for a in 0..book.activities.len() as u32 {
+        if let Some(k) = carrier_at(book, marks, a) {
+            return Some((k, a));
+        }
+    }
+    None
+}
+
+// Gives an activity to its only carrier, and settles that aircraft.
+fn carry(
+    book: &Book,
+    net: &Net,
+    steps: &StepTable,
+    marks: &mut Marks,
+    facts: &mut Vec<Fact>,
+    k: u32,
+    a: u32,
+    rows: &mut [FloorRow],
+    values: &mut [i64],
+) -> Result<(), Memory>
+    requires net { net.now ≡ net_of book.now }
+    requires steps { IsStepTableOf book.now steps.now }
+    requires marks { AreMarksOf book.now marks.old }
+    requires carrier { IsOnlyCarrier book.now marks.old.facts k a }
+    requires rows { AreRowsOf book.now rows.old }
+    requires stand { StandBelow book.now marks.old.facts rows.old (aircraft book.now) }
+    requires width { length values.old ≡ length book.now.rules.counters }
+    ensures marks { AreMarksOf book.now marks.new }
+    ensures grows { GrowInTurn book.now marks.old.facts marks.new.facts facts.old.items facts.new.items }
+    ensures rows { AreRowsOf book.now rows.new }
+    ensures stand { OnOk result (StandBelow book.now marks.new.facts rows.new (aircraft book.now)) }
+    ensures fewer { OnOk result (unnamed book.now marks.new.facts < unnamed book.now marks.old.facts) }
+{
+    alive_decides();
+    has_fact_decides();
+    musts_leave_others();
+    same_floors();
+    same_dead();
+    add_next(book, marks, facts, Fact::Must(k, a))?;
+    settle_at(book, net, steps, marks, facts, k, rows, values)
+}
+
+/// Gives each activity to its only carrier, and settles the aircraft, until there is none left.
+pub fn carry_all(
+    book: &Book,
+    net: &Net,
+    steps: &StepTable,
+    marks: &mut Marks,
+    facts: &mut Vec<Fact>,
+    rows: &mut [FloorRow],
+    values: &mut [i64],
+) -> Result<(), Memory>
+    requires net { net.now ≡ net_of book.now }
+    requires steps { IsStepTableOf book.now steps.now }
+    requires marks { AreMarksOf book.now marks.old }
+    requires rows { AreRowsOf book.now rows.old }
+    requires stand { StandBelow book.now marks.old.facts rows.old (aircraft book.now) }
+    requires width { length values.old ≡ length book.now.rules.counters }
+    ensures marks { AreMarksOf book.now marks.new }
+    ensures grows { GrowInTurn book.now marks.old.facts marks.new.facts facts.old.items facts.new.items }
+    ensures rows { AreRowsOf book.now rows.new }
+    ensures stand { OnOk result (StandBelow book.now marks.new.facts rows.new (aircraft book.now)) }
+    ensures none { OnOk result ((k a : ℕ) → ¬ IsOnlyCarrier book.now marks.new.facts k a) }
+{
+    while let Some((k, a)) = find_carrier(book, marks) {
+        carry(book, net, steps, marks, facts, k, a, rows, values)?;
+    }
+    Ok(())
+}

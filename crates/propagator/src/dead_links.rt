@@ -1,0 +1,160 @@
+//! Dead connections: links that some aircraft may use, and over which none can go on.
+//!
+//! A Cut of such a link leaves all floors, and nothing follows from it that did not follow before. So one pass over the
+//! links of the network finds them all, each judged once. For most links the first aircraft that may use it goes on over
+//! it, and the question is answered by one step.
+
+ghost use Rattle.std.specs.Prelude.{◌≡◌, ◌<◌, ◌↔◌, ℕ, IsTrue, OnOk, length};
+ghost use Rattle.tail_book.specs.Lookup.{activities, aircraft};
+ghost use Rattle.maint_counters.specs.inside.StepTable.{IsStepTableOf};
+ghost use Rattle.connection_net.specs.Net.{net_of};
+ghost use Rattle.branch_marks.specs.inside.MarkTables.{AreMarksOf};
+ghost use Rattle.branch_marks.specs.Following.{IsDeadConnection, IsShutForFloors};
+ghost use Rattle.propagator.specs.inside.FloorRow.{AreRowsOf};
+ghost use Rattle.propagator.specs.InTurn.{GrowInTurn};
+ghost use Rattle.propagator.specs.inside.Cutting.{AreFloorsOf, NothingNewFollows};
+
+use crate::adding::add_next;
+use crate::floor_row::FloorRow;
+use crate::floors::goes_on_to;
+use crate::laws::{cuts_make_nothing_follow, cuts_take_no_floor, successors_are_of_book};
+use branch_marks::laws::{floors_count, usable_decides};
+use branch_marks::{Fact, Marks};
+use connection_net::Net;
+use connection_net::laws::{rows_for_each, successors_are_links};
+use maint_counters::StepTable;
+use tail_book::laws::limits_decide;
+use tail_book::{Book, Memory, Place};
+
+// Whether a link is a dead connection.
+fn is_dead_link(
+    book: &Book,
+    steps: &StepTable,
+    marks: &Marks,
+    a: u32,
+    b: u32,
+    rows: &[FloorRow],
+    values: &mut [i64],
+) -> bool
+    requires steps { IsStepTableOf book.now steps.now }
+    requires marks { AreMarksOf book.now marks.now }
+    requires from { a < activities book.now }
+    requires to { b < activities book.now }
+    requires rows { AreRowsOf book.now rows.now }
+    requires floors { AreFloorsOf book.now marks.now.facts rows.now }
+    requires width { length values.old ≡ length book.now.rules.counters }
+    ensures { IsTrue result ↔ IsDeadConnection book.now marks.now.facts a b }
+{
+    usable_decides();
+    limits_decide();
+    marks.facts_are_of_book(book);
+    if marks.has(Fact::Cut(a, b)) {
+        return false;
+    }
+    let mut used = false;
+    for k in 0..book.tails.len() as u32 {
+        if marks.usable(book, k, Place::After(a), b) {
+            if goes_on_to(book, steps, marks, k, a, b, &rows[k as usize], values) {
+                return false;
+            }
+            used = true;
+        }
+    }
+    used
+}
+
+// Cuts a link where it is a dead connection.
+fn cut_link(
+    book: &Book,
+    steps: &StepTable,
+    marks: &mut Marks,
+    facts: &mut Vec<Fact>,
+    a: u32,
+    b: u32,
+    rows: &[FloorRow],
+    values: &mut [i64],
+) -> Result<(), Memory>
+    requires steps { IsStepTableOf book.now steps.now }
+    requires marks { AreMarksOf book.now marks.old }
+    requires from { a < activities book.now }
+    requires to { b < activities book.now }
+    requires rows { AreRowsOf book.now rows.now }
+    requires floors { AreFloorsOf book.now marks.old.facts rows.now }
+    requires shut { IsShutForFloors book.now marks.old.facts }
+    requires width { length values.old ≡ length book.now.rules.counters }
+    ensures marks { AreMarksOf book.now marks.new }
+    ensures grows { GrowInTurn book.now marks.old.facts marks.new.facts facts.old.items facts.new.items }
+    ensures floors { AreFloorsOf book.now marks.new.facts rows.now }
+    ensures nothing { NothingNewFollows book.now marks.old.facts marks.new.facts }
+    ensures cut { OnOk result (¬ IsDeadConnection book.now marks.new.facts a b) }
+{
+    floors_count();
+    cuts_take_no_floor();
+    cuts_make_nothing_follow();
+    if !is_dead_link(book, steps, marks, a, b, rows, values) {
+        return Ok(());
+    }
+    add_next(book, marks, facts, Fact::Cut(a, b))
+}
+
+// Cuts each dead connection from an activity.
+fn cut_links_of(
+    book: &Book,
+    net: &Net,
+    steps: &StepTable,
+    marks: &mut Marks,
+    facts: &mut Vec<Fact>,
+    a: u32,
+    rows: &[FloorRow],
+    values: &mut [i64],
+) -> Result<(), Memory>
+    requires net { net.now ≡ net_of book.now }
+    requires steps { IsStepTableOf book.now steps.now }
+    requires marks { AreMarksOf book.now marks.old }
+    requires activity { a < activities book.now }
+    requires rows { AreRowsOf book.now rows.now }
+    requires floors { AreFloorsOf book.now marks.old.facts rows.now }
+    requires shut { IsShutForFloors book.now marks.old.facts }
+    requires width { length values.old ≡ length book.now.rules.counters }
+    ensures marks { AreMarksOf book.now marks.new }
+    ensures grows { GrowInTurn book.now marks.old.facts marks.new.facts facts.old.items facts.new.items }
+    ensures floors { AreFloorsOf book.now marks.new.facts rows.now }
+    ensures nothing { NothingNewFollows book.now marks.old.facts marks.new.facts }
+    ensures cut { OnOk result ((b : ℕ) → ¬ IsDeadConnection book.now marks.new.facts a b) }
+{
+    rows_for_each();
+    successors_are_of_book();
+    successors_are_links();
+    for b in net.successors(a) {
+        cut_link(book, steps, marks, facts, a, *b, rows, values)?;
+    }
+    Ok(())
+}
+
+/// Cuts each dead connection.
+pub fn cut_links(
+    book: &Book,
+    net: &Net,
+    steps: &StepTable,
+    marks: &mut Marks,
+    facts: &mut Vec<Fact>,
+    rows: &[FloorRow],
+    values: &mut [i64],
+) -> Result<(), Memory>
+    requires net { net.now ≡ net_of book.now }
+    requires steps { IsStepTableOf book.now steps.now }
+    requires marks { AreMarksOf book.now marks.old }
+    requires rows { AreRowsOf book.now rows.now }
+    requires floors { AreFloorsOf book.now marks.old.facts rows.now }
+    requires shut { IsShutForFloors book.now marks.old.facts }
+    requires width { length values.old ≡ length book.now.rules.counters }
+    ensures marks { AreMarksOf book.now marks.new }
+    ensures grows { GrowInTurn book.now marks.old.facts marks.new.facts facts.old.items facts.new.items }
+    ensures nothing { NothingNewFollows book.now marks.old.facts marks.new.facts }
+    ensures cut { OnOk result ((a b : ℕ) → ¬ IsDeadConnection book.now marks.new.facts a b) }
+{
+    for a in 0..book.activities.len() as u32 {
+        cut_links_of(book, net, steps, marks, facts, a, rows, values)?;
+    }
+    Ok(())
+}

@@ -1,0 +1,138 @@
+//! Laws over the definitions alone: the contract of each function is the law.
+
+ghost use Rattle.propagator.specs.inside.LeastOver.{FloorsAreLeast, LeastAreFloors, NoFloorWithout};
+ghost use Rattle.propagator.specs.inside.SameFor.{SameFloors, SameDead, BarsLeaveOthers, MustsLeaveOthers};
+ghost use Rattle.propagator.specs.inside.OneMore.{BarsTakeOneFloor, BarsKillNothingLater, CutsTakeNoFloor, CutsMakeNothingFollow};
+ghost use Rattle.propagator.specs.inside.Neighbours.{LinksLeaveTime, PredecessorsComeBefore, PredecessorsBringAll, SuccessorsAreOfBook, SuccessorsTell};
+ghost use Rattle.tail_book.specs.Seen.{BookSeen};
+ghost use Rattle.std.specs.Prelude.{ℕ, ℤ, List};
+ghost use Rattle.branch_marks.specs.declared.fact.Fact.{Fact as MarkFact};
+
+use branch_marks::laws::{alive_decides, may_end_decides, usable_decides};
+use connection_net::laws::{predecessors_are_links, rows_rise, successors_are_links};
+use tail_book::laws::{limits_decide, links_rise};
+
+/// Each floor is the least of what the places before it bring.
+pub fn floors_are_least()
+    ensures { FloorsAreLeast }
+{}
+
+/// Whatever is the least of what is brought is the floor.
+pub fn least_are_floors()
+    ensures { LeastAreFloors }
+{
+    floors_are_least();
+}
+
+/// Marks that leave an aircraft the same leave it the same floors.
+pub fn same_floors()
+    ensures { SameFloors }
+{}
+
+/// And nothing new is dead for it.
+pub fn same_dead()
+    ensures { SameDead }
+{
+    alive_decides();
+    usable_decides();
+    may_end_decides();
+}
+
+/// A Bar of one aircraft leaves every other the same.
+pub fn bars_leave_others()
+    ensures { BarsLeaveOthers }
+{}
+
+/// And so does a Must of an activity that was not alive for the other.
+pub fn musts_leave_others()
+    ensures { MustsLeaveOthers }
+{}
+
+/// A Bar that follows takes one floor.
+pub fn bars_take_one_floor()
+    ensures { BarsTakeOneFloor }
+{
+    floors_are_least();
+    least_are_floors();
+    usable_decides();
+    limits_decide();
+}
+
+/// What is dead after it and comes later was dead before it.
+pub fn bars_kill_nothing_later()
+    ensures { BarsKillNothingLater }
+{
+    bars_take_one_floor();
+    links_rise();
+    alive_decides();
+    usable_decides();
+    may_end_decides();
+}
+
+/// A Cut that follows leaves all floors.
+pub fn cuts_take_no_floor()
+    ensures { CutsTakeNoFloor }
+{
+    floors_are_least();
+    least_are_floors();
+    usable_decides();
+    limits_decide();
+}
+
+/// What follows after it followed before it.
+pub fn cuts_make_nothing_follow()
+    ensures { CutsMakeNothingFollow }
+{
+    cuts_take_no_floor();
+    alive_decides();
+    usable_decides();
+    may_end_decides();
+}
+
+/// Where there is a link, the aircraft is free in time.
+pub fn links_leave_time()
+    ensures { LinksLeaveTime }
+{}
+
+/// Predecessors have smaller numbers.
+pub fn predecessors_come_before()
+    ensures { PredecessorsComeBefore }
+{
+    predecessors_are_links();
+    rows_rise();
+    links_rise();
+}
+
+/// What is brought to an activity is brought by its predecessors.
+pub fn predecessors_bring_all()
+    ensures { PredecessorsBringAll }
+{
+    predecessors_are_links();
+    rows_rise();
+    links_rise();
+    usable_decides();
+}
+
+/// Successors are of the book.
+pub fn successors_are_of_book()
+    ensures { SuccessorsAreOfBook }
+{
+    rows_rise();
+}
+
+/// Successors tell whether an aircraft can go on.
+pub fn successors_tell()
+    ensures { (book : BookSeen) (marks : List MarkFact) (k a : ℕ) (values : List ℤ) → SuccessorsTell book marks k a values }
+{
+    successors_are_links();
+    rows_rise();
+    usable_decides();
+    limits_decide();
+}
+
+/// Where an activity is not alive, there is no floor.
+pub fn no_floor_without()
+    ensures { NoFloorWithout }
+{
+    floors_are_least();
+}

@@ -1,0 +1,312 @@
+//! Small books, and what follows on them: each rule alone, the rules in order, and the least hole.
+
+ghost use Rattle.std.specs.Prelude.{IfOk, IsTrue};
+ghost use Rattle.branch_marks.specs.Facts.{IsFactOf};
+ghost use Rattle.branch_marks.specs.inside.MarkTables.{AreMarksOf};
+
+use crate::{Closed, close};
+use branch_marks::{Fact, Marks};
+use connection_net::Net;
+use std::alloc::Global;
+use std::test::Fail;
+use tail_book::*;
+
+mod chance;
+
+const ARN: u32 = 0;
+
+const OSL: u32 = 1;
+
+// A flight; its number is its name.
+fn flight(alloc: Global, id: Name, leg: (u32, u32), time: (i64, i64)) -> Activity {
+    let ((from, to), (start, end)) = (leg, time);
+    Activity {
+        id,
+        flight: true,
+        from,
+        to,
+        start,
+        end,
+        types: Vec::new(alloc),
+        tags: Vec::new(alloc),
+        tail: None,
+        resets: Vec::new(alloc),
+    }
+}
+
+// An aircraft that is ready at an airport at minute 0.
+fn tail(alloc: Global, name: Name, at: u32, carry: Vec<i64>) -> Tail {
+    Tail {
+        name,
+        kind: 0,
+        at,
+        ready: 0,
+        fixed: 0,
+        tags: Vec::new(alloc),
+        avoid: Vec::new(alloc),
+        carry,
+    }
+}
+
+// Minutes flown up to a limit, between stops of an hour at ARN.
+fn hours(alloc: Global, limit: i64) -> Result<Counter, Memory> {
+    Ok(Counter {
+        name: Name::new(b"hours".as_slice()),
+        kind: CounterKind::Minutes,
+        limit,
+        bases: vec![in alloc; ARN]?,
+        stop: 60,
+    })
+}
+
+// One type with a turn, and two airports without one.
+fn rules(alloc: Global, turn: i64, counters: Vec<Counter>) -> Result<Rules, Memory> {
+    let kind = AircraftType {
+        name: Name::new(b"A320".as_slice()),
+        rate: 10,
+        turn,
+    };
+    let (arn, osl) = (Name::new(b"ARN".as_slice()), Name::new(b"OSL".as_slice()));
+    let airport = |name| Airport {
+        name,
+        offset: 0,
+        turn: 0,
+    };
+    Ok(Rules {
+        kinds: vec![in alloc; kind]?,
+        airports: vec![in alloc; airport(arn), airport(osl)]?,
+        curfews: Vec::new(alloc),
+        counters,
+        bands: Vec::new(alloc),
+    })
+}
+
+// Flights to and fro, the first from ARN, of an hour each, from these minutes on.
+fn to_and_fro(alloc: Global, starts: &[i64]) -> Result<Vec<Activity>, Memory> {
+    let (mut flights, mut leg, mut left) = (Vec::new(alloc), (ARN, OSL), starts.iter());
+    for id in [
+        Name::new(b"F1".as_slice()),
+        Name::new(b"F2".as_slice()),
+        Name::new(b"F3".as_slice()),
+        Name::new(b"F4".as_slice()),
+    ] {
+        if let Some(start) = left.next() {
+            flights.push(flight(alloc, id, leg, (*start, start.saturating_add(60))))?;
+            leg = (leg.1, leg.0);
+        }
+    }
+    Ok(flights)
+}
+
+// One aircraft at ARN, flights to and fro, a turn and no counter.
+fn turning(alloc: Global, turn: i64, starts: &[i64]) -> Result<Book, Fail> {
+    let tails = vec![in alloc; tail(alloc, Name::new(b"SE-A".as_slice()), ARN, Vec::new(alloc))]?;
+    let rules = rules(alloc, turn, Vec::new(alloc))?;
+    Ok(Book::new(to_and_fro(alloc, starts)?, tails, rules).ok_or("no book")?)
+}
+
+// One aircraft at ARN that may fly two hours between stops of an hour there.
+fn counting(alloc: Global, starts: &[i64]) -> Result<Book, Fail> {
+    let (name, carry) = (Name::new(b"SE-A".as_slice()), vec![in alloc; 0]?);
+    let tails = vec![in alloc; tail(alloc, name, ARN, carry)]?;
+    let rules = rules(alloc, 30, vec![in alloc; hours(alloc, 120)?]?)?;
+    Ok(Book::new(to_and_fro(alloc, starts)?, tails, rules).ok_or("no book")?)
+}
+
+// Two aircraft at ARN that may fly 100 minutes; to OSL an hour's flight and one of half an hour, and an hour back.
+fn two_ways(alloc: Global) -> Result<Book, Fail> {
+    let (a, b) = (Name::new(b"SE-A".as_slice()), Name::new(b"SE-B".as_slice()));
+    let (used, new) = (vec![in alloc; 0]?, vec![in alloc; 0]?);
+    let tails = vec![in alloc; tail(alloc, a, ARN, used), tail(alloc, b, ARN, new)]?;
+    let flights = vec![in alloc;
+        flight(alloc, Name::new(b"LONG".as_slice()), (ARN, OSL), (360, 420)),
+        flight(
+            alloc,
+            Name::new(b"SHORT".as_slice()),
+            (ARN, OSL),
+            (370, 400)
+        ),
+        flight(alloc, Name::new(b"BACK".as_slice()), (OSL, ARN), (480, 540)),
+    ]?;
+    let rules = rules(alloc, 30, vec![in alloc; hours(alloc, 100)?]?)?;
+    Ok(Book::new(flights, tails, rules).ok_or("no book")?)
+}
+
+// One aircraft at ARN, two flights to OSL at the same time, and no way back.
+fn side_by_side(alloc: Global) -> Result<Book, Fail> {
+    let tails = vec![in alloc; tail(alloc, Name::new(b"SE-A".as_slice()), ARN, Vec::new(alloc))]?;
+    let flights = vec![in alloc;
+        flight(alloc, Name::new(b"F1".as_slice()), (ARN, OSL), (360, 420)),
+        flight(alloc, Name::new(b"F2".as_slice()), (ARN, OSL), (370, 430)),
+    ]?;
+    let rules = rules(alloc, 30, Vec::new(alloc))?;
+    Ok(Book::new(flights, tails, rules).ok_or("no book")?)
+}
+
+// Whether the numbers in a fact are of the book.
+fn is_of(book: &Book, fact: Fact) -> bool
+    ensures { IsTrue result → IsFactOf book.now fact }
+{
+    let (m, n) = (book.tails.len() as u64, book.activities.len() as u64);
+    match fact {
+        Fact::Bar(k, a) => (k as u64) < m && (a as u64) < n,
+        Fact::Must(k, a) => (k as u64) < m && (a as u64) < n,
+        Fact::Cut(a, b) => (a as u64) < n && (b as u64) < n,
+        Fact::Tie(a, b) => (a as u64) < n && (b as u64) < n,
+    }
+}
+
+// Marks with these facts.
+fn marks(alloc: Global, book: &Book, facts: &[Fact]) -> Result<Marks, Fail>
+    ensures { IfOk result (AreMarksOf book.now) }
+{
+    let mut marks = Marks::new(alloc, book)?;
+    for fact in facts {
+        if is_of(book, *fact) {
+            marks.add(book, *fact)?;
+        }
+    }
+    Ok(marks)
+}
+
+// What is added to marks with these facts, behind one that the list has already, and the answer.
+fn closed(alloc: Global, book: &Book, facts: &[Fact]) -> Result<(Vec<Fact>, Closed), Fail> {
+    let net = Net::new(alloc, book)?;
+    let mut marks = marks(alloc, book, facts)?;
+    let mut list = Vec::new(alloc);
+    let answer = close(alloc, book, &net, &mut marks, &mut list)?;
+    Ok((list, answer))
+}
+
+// The second of two flights leaves a minute before the turn ends: it is dead on arrival, and that is found before the
+// only carrier is given the first; so the second has nobody. A minute later nothing is dead.
+#[test]
+fn floors_come_before_carriers(rt: HostRuntime) -> Result<(), Fail> {
+    let (late, soon) = (
+        turning(rt.alloc(), 30, &[360, 450])?,
+        turning(rt.alloc(), 31, &[360, 450])?,
+    );
+    let (list, answer) = closed(rt.alloc(), &soon, &[])?;
+    assert_eq!(rt;
+        list.as_slice(),
+        [Fact::Bar(0, 1), Fact::Must(0, 0)].as_slice()
+    );
+    assert_eq!(rt; answer, Closed::Hole(1));
+    let (list, answer) = closed(rt.alloc(), &late, &[])?;
+    assert_eq!(rt;
+        list.as_slice(),
+        [Fact::Must(0, 0), Fact::Must(0, 1)].as_slice()
+    );
+    assert_eq!(rt; answer, Closed::Fixed);
+    Ok(())
+}
+
+// With the first flight a Must, the third comes after three hours in the air: dead on arrival, where the stop at the base
+// is a minute too short to clear the counter, and not where it is long enough.
+#[test]
+fn stops_at_bases_clear_floors(rt: HostRuntime) -> Result<(), Fail> {
+    let (short, long) = (
+        counting(rt.alloc(), &[360, 450, 569, 660])?,
+        counting(rt.alloc(), &[360, 450, 570, 660])?,
+    );
+    let (list, answer) = closed(rt.alloc(), &short, &[Fact::Must(0, 0)])?;
+    assert_eq!(rt; list.first().copied(), Some(Fact::Bar(0, 2)));
+    assert_eq!(rt; answer, Closed::Hole(2));
+    let (list, answer) = closed(rt.alloc(), &long, &[Fact::Must(0, 0)])?;
+    assert_eq!(rt;
+        list.as_slice(),
+        [Fact::Must(0, 1), Fact::Must(0, 2), Fact::Must(0, 3)].as_slice()
+    );
+    assert_eq!(rt; answer, Closed::Fixed);
+    Ok(())
+}
+
+// Of two flights at the same time the second is a Must: the first is a dead end. Without the Must it is none, since the
+// aircraft may end there.
+#[test]
+fn ends_are_dead_where_more_must_come(rt: HostRuntime) -> Result<(), Fail> {
+    let book = side_by_side(rt.alloc())?;
+    for (facts, want, hole) in [
+        (
+            [Fact::Must(0, 1)].as_slice(),
+            Fact::Bar(0, 0),
+            Closed::Hole(0),
+        ),
+        (
+            [Fact::Must(0, 0)].as_slice(),
+            Fact::Bar(0, 1),
+            Closed::Hole(1),
+        ),
+        ([].as_slice(), Fact::Must(0, 0), Closed::Hole(1)),
+    ] {
+        let (list, answer) = closed(rt.alloc(), &book, facts)?;
+        assert_eq!(rt; list.first().copied(), Some(want), "{facts:?}");
+        assert_eq!(rt; answer, hole, "{facts:?}");
+    }
+    Ok(())
+}
+
+// Back after the hour's flight passes the limit, and after that of half an hour it does not: so the one connection is cut,
+// for both aircraft. Where one of them must fly the long one, it cannot come back.
+#[test]
+fn connections_that_nobody_can_use_are_cut(rt: HostRuntime) -> Result<(), Fail> {
+    let book = two_ways(rt.alloc())?;
+    for (facts, want) in [
+        ([].as_slice(), [Fact::Cut(0, 2)].as_slice()),
+        ([Fact::Cut(0, 2)].as_slice(), [].as_slice()),
+        (
+            [Fact::Must(0, 0)].as_slice(),
+            [
+                Fact::Bar(0, 1),
+                Fact::Bar(0, 2),
+                Fact::Must(1, 1),
+                Fact::Must(1, 2),
+            ]
+            .as_slice(),
+        ),
+    ] {
+        let (list, answer) = closed(rt.alloc(), &book, facts)?;
+        assert_eq!(rt; list.as_slice(), want, "{facts:?}");
+        assert_eq!(rt; answer, Closed::Fixed, "{facts:?}");
+    }
+    Ok(())
+}
+
+// Two flights of four have nobody: the least is told.
+#[test]
+fn the_least_hole_is_told(rt: HostRuntime) -> Result<(), Fail> {
+    let book = turning(rt.alloc(), 40, &[360, 450, 560, 700])?;
+    for (facts, hole) in [
+        ([].as_slice(), Closed::Hole(1)),
+        ([Fact::Bar(0, 0)].as_slice(), Closed::Hole(0)),
+        (
+            [Fact::Bar(0, 3), Fact::Bar(0, 2)].as_slice(),
+            Closed::Hole(1),
+        ),
+    ] {
+        let (_, answer) = closed(rt.alloc(), &book, facts)?;
+        assert_eq!(rt; answer, hole, "{facts:?}");
+    }
+    Ok(())
+}
+
+// What a list has already stays at its front.
+#[test]
+fn lists_grow_at_their_end(rt: HostRuntime) -> Result<(), Fail> {
+    let book = turning(rt.alloc(), 31, &[360, 450])?;
+    let net = Net::new(rt.alloc(), &book)?;
+    let mut marks = marks(rt.alloc(), &book, &[])?;
+    let mut list = vec![in rt.alloc(); Fact::Tie(5, 6)]?;
+    close(rt.alloc(), &book, &net, &mut marks, &mut list)?;
+    assert_eq!(rt;
+        list.as_slice(),
+        [Fact::Tie(5, 6), Fact::Bar(0, 1), Fact::Must(0, 0)].as_slice()
+    );
+    assert_eq!(rt;
+        marks.facts(),
+        [Fact::Bar(0, 1), Fact::Must(0, 0)].as_slice()
+    );
+    let more = close(rt.alloc(), &book, &net, &mut marks, &mut list)?;
+    assert_eq!(rt; (more, list.len()), (Closed::Hole(1), 3));
+    Ok(())
+}
