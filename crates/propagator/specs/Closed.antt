@@ -4,8 +4,8 @@ use Rattle.tail_book.specs.Seen.{BookSeen}
 use Rattle.tail_book.specs.Lookup.{activities, aircraft}
 use Rattle.branch_marks.specs.declared.fact.Fact.{Fact}
 use Rattle.branch_marks.specs.Marks.{IsAlive}
-use Rattle.propagator.specs.declared.hole_at.Closed.{Closed}
-use Rattle.propagator.specs.declared.hole_at.Closed.TheVariants.{Fixed, Hole}
+use Rattle.propagator.specs.declared.hole.Closed.{Closed}
+use Rattle.propagator.specs.declared.hole.Closed.TheVariants.{Fixed, Hole}
 
 -- activity a is alive for some aircraft of the book
 abbrev pub SomebodyFlies : BookSeen → List Fact → ℕ → Type 0

@@ -17,7 +17,7 @@ ghost use Rattle.propagator.specs.InTurn.{GrowInTurn};
 use crate::carriers::carry_all;
 use crate::dead_links::cut_links;
 use crate::floor_row::FloorRow;
-use crate::hole_at::{Closed, hole};
+use crate::hole::{Closed, hole};
 use crate::settling::settle_all;
 use branch_marks::{Fact, Marks};
 use connection_net::Net;

@@ -9,12 +9,12 @@ mod dead_ends;
 mod dead_links;
 mod floor_row;
 mod floors;
-mod hole_at;
+mod hole;
 pub mod laws;
 mod settling;
 
 pub use closing::close;
-pub use hole_at::Closed;
+pub use hole::Closed;
 
 #[cfg(test)]
 mod tests;

@@ -1,6 +1,8 @@
 //! Books and marks by chance, beside a plain and slow program: each fact that is added follows in its turn, those about all
 //! aircraft wait for the floors, nothing is left, and no legal plan that keeps the marks is lost.
 
+ghost use Rattle.std.specs.Prelude.{◌<◌};
+
 use super::{closed, flight, is_of, rules, tail};
 use crate::Closed;
 use branch_marks::Fact;

@@ -7,7 +7,7 @@ use Rattle.tail_book.specs.Lookup.{aircraft}
 use Rattle.branch_marks.specs.declared.fact.Fact.{Fact}
 use Rattle.branch_marks.specs.inside.MarkTests.{is_alive, AliveDecides}
 use Rattle.propagator.specs.Closed.{SomebodyFlies}
-use Rattle.propagator.proofs.hole_at.somebody_flies.Goals as goal
+use Rattle.propagator.proofs.hole.somebody_flies.Goals as goal
 
 -- the first one alive, if it is of the book
 somebody_is : AliveDecides → (book : BookSeen) (marks : List Fact) (a first m : ℕ) → m ≡ aircraft book

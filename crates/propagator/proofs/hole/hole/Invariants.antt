@@ -1,6 +1,6 @@
 use Rattle.std.proofs.Common.{ℕ, ◌<◌}
 use Rattle.propagator.specs.Closed.{SomebodyFlies}
-use Rattle.propagator.proofs.hole_at.hole.Given as goal
+use Rattle.propagator.proofs.hole.hole.Given as goal
 
 -- each activity below a has somebody
 abbrev pub invariant-loop-a : goal.invariant-loop-a
