@@ -1,0 +1,78 @@
+-- Buckets that are done stay done: what was tried stays tried, and the buckets before it, and their rows, are as they were.
+use Rattle.std.proofs.Common.{◌≡◌, ◌≢◌, ℕ, ℤ, ◌+◌, ◌<◌, arith, inl, inr, List, length, get_or, sym, subst}
+use Rattle.std.specs.List.{Contains}
+use Rattle.std.proofs.lemmas.Bool.{cases_lt}
+use Rattle.tail_book.specs.Seen.{BookSeen}
+use Rattle.tail_book.specs.inside.Seen.{CostTableSeen}
+use Rattle.tail_book.specs.declared.place.Place.TheVariants.{Carry, After}
+use Rattle.branch_marks.specs.declared.fact.Fact.{Fact}
+use Rattle.branch_marks.specs.Weights.{arc_weight}
+use Rattle.label_store.specs.Seen.{StoreSeen}
+use Rattle.label_store.specs.Buckets.{row_at}
+use Rattle.label_store.specs.Store.{bucket_of, IsStore}
+use Rattle.pricing.specs.inside.Truth.{first_row}
+use Rattle.pricing.specs.inside.Growth.{Grows, Tried}
+use Rattle.pricing.specs.inside.Filled.{IsReached, IsBegun, IsFilled, AreFilled}
+use Rattle.pricing.proofs.Families.{row_of_bucket}
+use Rattle.pricing.proofs.Growing.{tried_stays}
+
+module _ (table : CostTableSeen) (book : BookSeen) (marks : List Fact) (k : ℕ) (duals : List ℤ) where
+  reached_stays : (first old new : StoreSeen) (x c b : ℕ) → Grows b old new
+      → IsReached table book marks k duals first x c old → IsReached table book marks k duals first x c new
+  reached_stays first old new x c b grows reached usable j has =
+      tried_stays book k old new (arc_weight table book k duals (After x) c) (After x) c b (row_at first.rows j) grows (reached usable j has)
+
+  begun_stays : (old new : StoreSeen) (c b : ℕ) → Grows b old new → IsBegun table book marks k duals c old → IsBegun table book marks k duals c new
+  begun_stays old new c b grows begun usable =
+      tried_stays book k old new (arc_weight table book k duals Carry c) Carry c b (first_row book k) grows (begun usable)
+
+  -- the rows that were tried are those that the bucket has now
+  read_now : (old new : StoreSeen) (x c b : ℕ) → IsStore old → x < length old.buckets → x ≢ b → Grows b old new
+      → IsReached table book marks k duals old x c new → IsReached table book marks k duals new x c new
+  read_now old new x c b sound lt other grows reached usable j has =
+      let there : Contains (bucket_of old x) j = subst (λ (bucket : List ℕ). Contains bucket j) (grows.others x other) has in
+      subst (λ (r : List ℤ). Tried book k new (arc_weight table book k duals (After x) c) (After x) c r)
+      (sym (grows.rows.rows j (row_of_bucket old sound x j lt there).kept)) (reached usable j there)
+
+  -- one activity more at whose places all were tried
+  pub reached_one_more : (first old new : StoreSeen) (there : List ℕ) (b i : ℕ) → Grows b old new
+      → ((q : ℕ) → q < i → IsReached table book marks k duals first (get_or there q 0) b old)
+      → IsReached table book marks k duals first (get_or there i 0) b new
+      → (q : ℕ) → q < i + 1 → IsReached table book marks k duals first (get_or there q 0) b new
+  reached_one_more first old new there b i grows before here q lt = elim (cases_lt q i) [
+    | inl less ↦ reached_stays first old new (get_or there q 0) b b grows (before q less)
+    | inr more ↦ let at : i ≡ q = omega (arith, lt, more) in
+        subst (λ (m : ℕ). IsReached table book marks k duals first (get_or there m 0) b new) at here
+  ]
+
+  -- what a link's rows were when they were tried, they are still: another bucket has grown since
+  pub reached_here : (first old new : StoreSeen) (x b : ℕ) → IsStore first → x < length first.buckets → x < b → Grows b first old
+      → IsReached table book marks k duals old x b new → IsReached table book marks k duals first x b new
+  reached_here first old new x b sound lt later grows reached usable j has =
+      let other : x ≢ b = omega (arith, later) in
+      subst (λ (r : List ℤ). Tried book k new (arc_weight table book k duals (After x) b) (After x) b r)
+      (grows.rows.rows j (row_of_bucket first sound x j lt has).kept)
+      (reached usable j (subst (λ (bucket : List ℕ). Contains bucket j) (sym (grows.others x other)) has))
+
+  pub filled : (old new : StoreSeen) (b : ℕ) → IsStore old → b < length old.buckets → Grows b old new → IsBegun table book marks k duals b old
+      → ((x : ℕ) → x < b → IsReached table book marks k duals old x b new) → IsFilled table book marks k duals new b
+  filled old new b sound lt grows begun reached = record {
+    first = begun_stays old new b b grows begun;
+    next = λ x later. read_now old new x b b sound (omega (arith, later, lt)) (omega (arith, later)) grows (reached x later);
+  }
+
+  filled_stays : (old new : StoreSeen) (c b : ℕ) → IsStore old → b < length old.buckets → c < b → Grows b old new
+      → IsFilled table book marks k duals old c → IsFilled table book marks k duals new c
+  filled_stays old new c b sound lt before grows done = record {
+    first = begun_stays old new c b grows done.first;
+    next = λ x later. read_now old new x c b sound (omega (arith, later, before, lt)) (omega (arith, later, before)) grows
+        (reached_stays old old new x c b grows (done.next x later));
+  }
+
+  -- one bucket more is done
+  pub filled_one_more : (old new : StoreSeen) (b : ℕ) → IsStore old → b < length old.buckets → Grows b old new
+      → AreFilled table book marks k duals old b → IsFilled table book marks k duals new b → AreFilled table book marks k duals new (b + 1)
+  filled_one_more old new b sound lt grows before here c below = elim (cases_lt c b) [
+    | inl less ↦ filled_stays old new c b sound lt less grows (before c less)
+    | inr more ↦ let at : b ≡ c = omega (arith, below, more) in subst (λ (a : ℕ). IsFilled table book marks k duals new a) at here
+  ]

@@ -1,0 +1,58 @@
+-- Stores that grow: what holds of a bucket that is done and what was tried stay so.
+use Rattle.std.proofs.Common.{◌≡◌, ◌≢◌, ℕ, ℤ, ◌+◌, ◌<◌, ◌≤◌, arith, refl, inl, inr, List, [], ◌∷◌, length, get_or, sym, ◌∙◌, ap, subst}
+use Rattle.std.specs.List.{Contains}
+use Rattle.std.proofs.lemmas.Bool.{cases_lt}
+use Rattle.tail_book.specs.Seen.{BookSeen}
+use Rattle.tail_book.specs.inside.Seen.{CostTableSeen}
+use Rattle.tail_book.specs.declared.place.Place.{Place}
+use Rattle.tail_book.specs.declared.place.Place.TheVariants.{After}
+use Rattle.label_store.specs.Seen.{StoreSeen}
+use Rattle.label_store.specs.Buckets.{row_at}
+use Rattle.label_store.specs.Store.{bucket_of}
+use Rattle.label_store.specs.inside.Laws.{KeepsRows}
+use Rattle.pricing.specs.inside.Truth.{row_after}
+use Rattle.pricing.specs.inside.Growth.{Grows, IsAsWide, Tried}
+
+pub Grows-refl : (b : ℕ) (store : StoreSeen) → Grows b store store
+Grows-refl b store = record {
+  rows = record { longer = omega arith; rows = λ i lt. refl; parents = λ i lt. refl; nodes = λ i lt. refl };
+  covered = λ v row covered. covered;
+  others = λ v other. refl;
+}
+
+pub Grows-trans : (b : ℕ) (one two three : StoreSeen) → Grows b one two → Grows b two three → Grows b one three
+Grows-trans b one two three first next =
+    let longer = first.rows.longer in
+    let longer_yet = next.rows.longer in
+    record {
+      rows = record {
+        longer = omega (arith, longer, longer_yet);
+        rows = λ i lt. next.rows.rows i (omega (arith, lt, longer)) ∙ first.rows.rows i lt;
+        parents = λ i lt. next.rows.parents i (omega (arith, lt, longer)) ∙ first.rows.parents i lt;
+        nodes = λ i lt. next.rows.nodes i (omega (arith, lt, longer)) ∙ first.rows.nodes i lt;
+      };
+      covered = λ v row covered. next.covered v row (first.covered v row covered);
+      others = λ v other. next.others v other ∙ first.others v other;
+    }
+
+pub wide_refl : (store : StoreSeen) → IsAsWide store store
+wide_refl store = record { width = refl; nodes = refl }
+
+pub wide_trans : (one two three : StoreSeen) → IsAsWide one two → IsAsWide two three → IsAsWide one three
+wide_trans one two three first next = record { width = next.width ∙ first.width; nodes = next.nodes ∙ first.nodes }
+
+-- what was tried stays tried
+pub tried_stays : (book : BookSeen) (k : ℕ) (old new : StoreSeen) (arc : ℤ) (x : Place) (b c : ℕ) (row : List ℤ) → Grows c old new
+    → Tried book k old arc x b row → Tried book k new arc x b row
+tried_stays book k old new arc x b c row grows tried within = grows.covered b (row_after book k arc x b row) (tried within)
+
+-- one row more of a bucket was tried
+pub tried_one_more : (book : BookSeen) (k : ℕ) (first old new : StoreSeen) (there : List ℕ) (arc : ℤ) (x : Place) (b i : ℕ) (row : List ℤ) → Grows b old new
+    → ((q : ℕ) → q < i → Tried book k old arc x b (row_at first.rows (get_or there q 0)))
+    → Tried book k new arc x b row → row ≡ row_at first.rows (get_or there i 0)
+    → (q : ℕ) → q < i + 1 → Tried book k new arc x b (row_at first.rows (get_or there q 0))
+tried_one_more book k first old new there arc x b i row grows before tried is q lt = elim (cases_lt q i) [
+  | inl less ↦ tried_stays book k old new arc x b b (row_at first.rows (get_or there q 0)) grows (before q less)
+  | inr more ↦ let at : i ≡ q = omega (arith, lt, more) in
+      subst (λ (m : ℕ). Tried book k new arc x b (row_at first.rows (get_or there m 0))) at (subst (Tried book k new arc x b) is tried)
+]

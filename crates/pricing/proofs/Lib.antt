@@ -1,0 +1,7 @@
+mod Steps
+mod Routes
+mod Truths
+mod Families
+mod Growing
+mod Predecessors
+mod Filling

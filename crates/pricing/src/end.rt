@@ -1,0 +1,159 @@
+//! Where an aircraft ends its route: at its carry-in or at a row of a bucket, where the marks let it, and the least such end.
+
+ghost use Rattle.std.specs.Prelude.{◌≡◌, ◌<◌, ◌≤◌, ◌≤ℤ◌, ◌⊎◌, ℤ, pos, length, None, Some, IfSome, IfOk, ◌++◌, reverse};
+ghost use Rattle.tail_book.specs.declared.place.Place.TheVariants.{Carry, After};
+ghost use Rattle.tail_book.specs.Lookup.{activities, aircraft};
+ghost use Rattle.tail_book.specs.inside.Place.{IsPlaceOf};
+ghost use Rattle.branch_marks.specs.inside.MarkTables.{AreMarksOf};
+ghost use Rattle.branch_marks.specs.Marks.{MayEnd};
+ghost use Rattle.label_store.specs.Buckets.{row_at};
+ghost use Rattle.label_store.specs.Store.{node_of};
+ghost use Rattle.pricing.specs.Rows.{weight_of, route_to};
+ghost use Rattle.pricing.specs.inside.Truth.{IsKept};
+ghost use Rattle.pricing.specs.inside.Ends.{IsEnd, IsAtMost, IsLeastAt, IsLeastEnd};
+
+use branch_marks::Marks;
+use label_store::Store;
+use label_store::laws::every_store_is_sound;
+use std::alloc::Global;
+use tail_book::laws::every_book_is_sound;
+use tail_book::{Book, Memory, Place, Route};
+
+/// A place where the aircraft may end: its weight there, and the row, none at the carry-in.
+#[derive(Clone, Copy, Debug)]
+pub struct End {
+    pub value: i64,
+    pub row: Option<usize>,
+}
+
+// The lighter of two ends, where there was one.
+fn lighter(best: Option<End>, end: End) -> Option<End>
+    ensures here { IsAtMost result end.value }
+    ensures stays { (most : ℤ) → IsAtMost best most → IsAtMost result most }
+    ensures one { (result ≡ best) ⊎ (result ≡ Some end) }
+{
+    match best {
+        None => Some(end),
+        Some(known) => {
+            if known.value <= end.value {
+                best
+            } else {
+                Some(end)
+            }
+        }
+    }
+}
+
+// What a row weighs.
+fn weight_of(store: &Store, j: usize) -> i64
+    requires { j < length store.now.rows }
+    ensures { result ≡ weight_of (row_at store.now.rows j) }
+{
+    every_store_is_sound(store);
+    store.row(j)[0]
+}
+
+// The lightest of an end and the rows of the bucket of an activity, behind which the aircraft may end.
+fn least_at(
+    book: &Book,
+    marks: &Marks,
+    k: u32,
+    store: &Store,
+    b: u32,
+    best: Option<End>,
+) -> Option<End>
+    requires activity { b < activities book.now }
+    requires nodes { length store.now.buckets ≡ activities book.now }
+    requires may { MayEnd marks.now.facts k (After b) }
+    requires one { IfSome best (IsEnd book.now marks.now.facts k store.now) }
+    ensures one { IfSome result (IsEnd book.now marks.now.facts k store.now) }
+    ensures here { IsLeastAt marks.now.facts k store.now result b }
+    ensures stays { (most : ℤ) → IsAtMost best most → IsAtMost result most }
+{
+    every_store_is_sound(store);
+    let mut least = best;
+    for i in 0..store.count(b as usize) {
+        let j = store.at(b as usize, i);
+        let value = weight_of(store, j);
+        least = lighter(
+            least,
+            End {
+                value,
+                row: Some(j),
+            },
+        );
+    }
+    least
+}
+
+// The lightest of an end and the rows of the bucket of an activity, if the aircraft may end behind it.
+fn least_behind(
+    book: &Book,
+    marks: &Marks,
+    k: u32,
+    store: &Store,
+    b: u32,
+    best: Option<End>,
+) -> Option<End>
+    requires marks { AreMarksOf book.now marks.now }
+    requires aircraft { k < aircraft book.now }
+    requires activity { b < activities book.now }
+    requires nodes { length store.now.buckets ≡ activities book.now }
+    requires one { IfSome best (IsEnd book.now marks.now.facts k store.now) }
+    ensures one { IfSome result (IsEnd book.now marks.now.facts k store.now) }
+    ensures here { IsLeastAt marks.now.facts k store.now result b }
+    ensures stays { (most : ℤ) → IsAtMost best most → IsAtMost result most }
+{
+    if !marks.may_end(book, k, Place::After(b)) {
+        return best;
+    }
+    least_at(book, marks, k, store, b, best)
+}
+
+// The end at the carry-in, if the aircraft may end there.
+fn first_end(book: &Book, marks: &Marks, k: u32, store: &Store) -> Option<End>
+    requires marks { AreMarksOf book.now marks.now }
+    requires aircraft { k < aircraft book.now }
+    ensures one { IfSome result (IsEnd book.now marks.now.facts k store.now) }
+    ensures first { MayEnd marks.now.facts k Carry → IsAtMost result (pos 0) }
+{
+    if marks.may_end(book, k, Place::Carry) {
+        Some(End {
+            value: 0,
+            row: None,
+        })
+    } else {
+        None
+    }
+}
+
+/// The lightest end.
+pub fn least_end(book: &Book, marks: &Marks, k: u32, store: &Store) -> Option<End>
+    requires marks { AreMarksOf book.now marks.now }
+    requires aircraft { k < aircraft book.now }
+    requires nodes { length store.now.buckets ≡ activities book.now }
+    ensures { IsLeastEnd book.now marks.now.facts k store.now (activities book.now) result }
+{
+    every_book_is_sound(book);
+    let mut best = first_end(book, marks, k, store);
+    for b in 0..book.activities.len() as u32 {
+        best = least_behind(book, marks, k, store, b, best);
+    }
+    best
+}
+
+/// The route that the parents of a row spell.
+pub fn spelled(alloc: Global, store: &Store, row: Option<usize>) -> Result<Route, Memory>
+    requires { IsKept store.now row }
+    ensures { IfOk result (λ route. route ≡ route_to store.now row) }
+{
+    every_store_is_sound(store);
+    let mut route = Vec::new(alloc);
+    let mut at = row;
+    while let Some(j) = at {
+        route.push(store.node(j) as u32)?;
+        at = store.parent(j);
+    }
+    route.reverse();
+    Ok(Route(route))
+}

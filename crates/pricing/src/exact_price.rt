@@ -1,0 +1,121 @@
+//! Pricing: the least weight of an aircraft's legal routes that fit the marks, and a route of that weight.
+//!
+//! Labels are made in order of activity, and of two at one activity the one that is no larger in weight and counters stands
+//! for the other, since whatever goes on from the other goes on from it. So the buckets are a closed family, and its
+//! lightest end is the least weight. Each row has the weight and counters of the route that its parents spell, which is
+//! how the route is found.
+//! Each usable link is asked for once, and each row at its beginning is tried over it against the rows at its end. How
+//! many rows there are depends on the counters, and has no good bound.
+
+ghost use Rattle.std.specs.Prelude.{◌≡◌, ◌<◌, ◌+◌, length, IfOk};
+ghost use Rattle.tail_book.specs.Lookup.{activities, aircraft};
+ghost use Rattle.tail_book.specs.inside.CostTable.{IsTableFor};
+ghost use Rattle.connection_net.specs.Net.{net_of};
+ghost use Rattle.branch_marks.specs.Families.{IsClosedFamily};
+ghost use Rattle.branch_marks.specs.inside.MarkTables.{AreMarksOf};
+ghost use Rattle.branch_marks.specs.Settled.{AreDuals};
+ghost use Rattle.pricing.specs.Price.{IsPriceOf};
+ghost use Rattle.pricing.specs.Rows.{labels_of, AreSpelled};
+ghost use Rattle.pricing.specs.inside.Truth.{AreTrue};
+ghost use Rattle.pricing.specs.inside.Growth.{IsAsWide};
+
+use crate::end::{least_end, spelled};
+use crate::fill::fill_all;
+use crate::{Priced, laws};
+use branch_marks::Marks;
+use connection_net::Net;
+use label_store::Store;
+use label_store::laws::every_store_is_sound;
+use std::alloc::Global;
+use tail_book::laws::every_book_is_sound;
+use tail_book::{Book, CostTable, Duals, Memory};
+
+/// Prices an aircraft. The store's rows go first; its buckets then hold the labels that no other one there covers.
+pub fn price(
+    alloc: Global,
+    book: &Book,
+    table: &CostTable,
+    net: &Net,
+    marks: &Marks,
+    duals: &Duals,
+    k: u32,
+    store: &mut Store,
+) -> Result<Priced, Memory>
+    requires table { IsTableFor book.now table.now }
+    requires net { net.now ≡ net_of book.now }
+    requires marks { AreMarksOf book.now marks.now }
+    requires duals { AreDuals table.now book.now duals.now.values }
+    requires aircraft { k < aircraft book.now }
+    requires nodes { length store.old.buckets ≡ activities book.now }
+    requires width { store.old.width ≡ 1 + length book.now.rules.counters }
+    ensures price { IfOk result (IsPriceOf table.now book.now marks.now.facts k duals.now.values) }
+    ensures closed { IfOk result (λ _. IsClosedFamily table.now book.now marks.now.facts k duals.now.values (labels_of store.new)) }
+    ensures spelled { IfOk result (λ _. AreSpelled table.now book.now marks.now.facts k duals.now.values store.new) }
+    ensures wide { IsAsWide store.old store.new }
+{
+    fill_from_empty(alloc, book, table, net, marks, duals, k, store)?;
+    let answer = priced(alloc, book, table, marks, duals, k, store)?;
+    Ok(answer)
+}
+
+// Lets the store's rows go, and fills all its buckets.
+fn fill_from_empty(
+    alloc: Global,
+    book: &Book,
+    table: &CostTable,
+    net: &Net,
+    marks: &Marks,
+    duals: &Duals,
+    k: u32,
+    store: &mut Store,
+) -> Result<(), Memory>
+    requires table { IsTableFor book.now table.now }
+    requires net { net.now ≡ net_of book.now }
+    requires marks { AreMarksOf book.now marks.now }
+    requires duals { AreDuals table.now book.now duals.now.values }
+    requires aircraft { k < aircraft book.now }
+    requires nodes { length store.old.buckets ≡ activities book.now }
+    requires width { store.old.width ≡ 1 + length book.now.rules.counters }
+    ensures truths { IfOk result (λ _. AreTrue table.now book.now marks.now.facts k duals.now.values store.new) }
+    ensures closed { IfOk result (λ _. IsClosedFamily table.now book.now marks.now.facts k duals.now.values (labels_of store.new)) }
+    ensures wide { IsAsWide store.old store.new }
+{
+    every_book_is_sound(book);
+    laws::filled_stores_are_closed();
+    store.clear();
+    let mut row = vec![in alloc; 0i64; 1 + book.rules.counters.len()]?;
+    fill_all(book, table, net, marks, duals, k, &mut row, store)?;
+    every_store_is_sound(store);
+    Ok(())
+}
+
+// The answer, from buckets that are a closed family.
+fn priced(
+    alloc: Global,
+    book: &Book,
+    table: &CostTable,
+    marks: &Marks,
+    duals: &Duals,
+    k: u32,
+    store: &Store,
+) -> Result<Priced, Memory>
+    requires marks { AreMarksOf book.now marks.now }
+    requires aircraft { k < aircraft book.now }
+    requires nodes { length store.now.buckets ≡ activities book.now }
+    requires truths { AreTrue table.now book.now marks.now.facts k duals.now.values store.now }
+    requires closed { IsClosedFamily table.now book.now marks.now.facts k duals.now.values (labels_of store.now) }
+    ensures { IfOk result (IsPriceOf table.now book.now marks.now.facts k duals.now.values) }
+{
+    every_book_is_sound(book);
+    every_store_is_sound(store);
+    laws::least_ends_are_least();
+    laws::endless_stores_stick();
+    let Some(end) = least_end(book, marks, k, store) else {
+        return Ok(Priced::Stuck);
+    };
+    let route = spelled(alloc, store, end.row)?;
+    Ok(Priced::Best {
+        value: end.value,
+        route,
+    })
+}

@@ -1,0 +1,107 @@
+//! One step of a row over a link: what the link adds to the weight, and the counters behind it.
+
+ghost use Rattle.std.specs.Prelude.{◌≡◌, ◌<◌, ◌≤◌, ◌+◌, ◌*◌, ◌^◌, ◌↔◌, ◌-ℤ◌, pos, length, IsTrue};
+ghost use Rattle.tail_book.specs.Lookup.{activities, aircraft};
+ghost use Rattle.tail_book.specs.Counters.{step, WithinLimits};
+ghost use Rattle.tail_book.specs.Link.{IsLink};
+ghost use Rattle.tail_book.specs.inside.CostTable.{IsCostTable, IsTableFor, activity_cost_in, connection_cost_in, box_end};
+ghost use Rattle.tail_book.specs.inside.Place.{IsPlaceOf};
+ghost use Rattle.tail_book.specs.inside.Sound.{IsWithin};
+ghost use Rattle.turn_rules.specs.inside.FreeBefore.{IsFreeBefore};
+ghost use Rattle.maint_counters.specs.inside.Counts.{AreCounts};
+ghost use Rattle.branch_marks.specs.Settled.{AreDuals};
+ghost use Rattle.branch_marks.specs.Weights.{arc_weight};
+ghost use Rattle.pricing.specs.Rows.{weight_of, counters_of};
+ghost use Rattle.pricing.specs.inside.Truth.{row_after};
+
+use maint_counters::step;
+use tail_book::{Book, COST_UNIT, CostTable, Duals, Place};
+use turn_rules::{gap, turn};
+
+/// Every table keeps its maxima, and no sum of its costs and duals passes 2^61.
+pub fn every_table_is_sound(table: &CostTable)
+    ensures { IsCostTable table.now }
+{
+    // A look at a field brings out what every table keeps.
+    let _ = &table.fly;
+}
+
+/// One activity's costs, and a dual, are small in thousandths of a cost unit.
+fn costs_are_small(table: &CostTable)
+    requires { 1 ≤ table.now.n }
+    ensures costs { 1000 * (table.now.fly_max + table.now.band_max) ≤ 2 ^ 61 }
+    ensures duals { box_end table.now ≤ 2 ^ 61 }
+{
+    every_table_is_sound(table);
+}
+
+/// A link leaves an aircraft free before the activity starts.
+pub fn links_leave_free(book: &Book, k: u32, from: Place, b: u32)
+    requires aircraft { k < aircraft book.now }
+    requires place { IsPlaceOf book.now from }
+    requires activity { b < activities book.now }
+    requires link { IsLink book.now k from b }
+    ensures { IsFreeBefore book.now k from b }
+{
+    let _ = turn(book, k, from, b);
+}
+
+// What a connection costs.
+fn connection_cost(book: &Book, table: &CostTable, k: u32, from: Place, b: u32) -> u64
+    requires aircraft { k < aircraft book.now }
+    requires place { IsPlaceOf book.now from }
+    requires activity { b < activities book.now }
+    ensures value { result ≡ connection_cost_in table.now book.now k from b }
+    ensures most { result ≤ table.now.band_max }
+{
+    match from {
+        Place::Carry => 0,
+        Place::After(_) => table.connection_cost(gap(book, k, from, b)),
+    }
+}
+
+// What an activity and the connection to it cost.
+fn arc_cost(book: &Book, table: &CostTable, k: u32, from: Place, b: u32) -> u64
+    requires table { IsTableFor book.now table.now }
+    requires aircraft { k < aircraft book.now }
+    requires place { IsPlaceOf book.now from }
+    requires activity { b < activities book.now }
+    ensures value { result ≡ activity_cost_in table.now k b + connection_cost_in table.now book.now k from b }
+    ensures most { 1000 * result ≤ 2 ^ 61 }
+{
+    costs_are_small(table);
+    table.activity_cost(k, b) + connection_cost(book, table, k, from, b)
+}
+
+/// What an activity after a place adds to a weight.
+pub fn arc_weight(book: &Book, table: &CostTable, duals: &Duals, k: u32, from: Place, b: u32) -> i64
+    requires table { IsTableFor book.now table.now }
+    requires duals { AreDuals table.now book.now duals.now.values }
+    requires aircraft { k < aircraft book.now }
+    requires place { IsPlaceOf book.now from }
+    requires activity { b < activities book.now }
+    ensures value { result ≡ arc_weight table.now book.now k duals.now.values from b }
+    ensures range { IsWithin (pos 0 -ℤ pos (2 ^ 62)) (pos (2 ^ 62)) result }
+{
+    costs_are_small(table);
+    (COST_UNIT * arc_cost(book, table, k, from, b)) as i64 - duals.values[b as usize]
+}
+
+/// Writes the row after an activity that adds so much, and answers whether its counters are within their limits.
+pub fn stepped(book: &Book, k: u32, arc: i64, from: Place, b: u32, row: &mut [i64]) -> bool
+    requires aircraft { k < aircraft book.now }
+    requires place { IsPlaceOf book.now from }
+    requires activity { b < activities book.now }
+    requires width { length row.old ≡ 1 + length book.now.rules.counters }
+    requires counts { AreCounts (counters_of row.old) }
+    requires light { IsWithin (pos 0 -ℤ pos (2 ^ 61)) (pos (2 ^ 61)) (weight_of row.old) }
+    requires arc { IsWithin (pos 0 -ℤ pos (2 ^ 62)) (pos (2 ^ 62)) arc }
+    requires free { IsFreeBefore book.now k from b }
+    ensures limits { IsTrue result ↔ WithinLimits book.now.rules.counters (step book.now k from b (counters_of row.old)) }
+    ensures row { row.new ≡ row_after book.now k arc from b row.old }
+    ensures counts { IsTrue result → AreCounts (step book.now k from b (counters_of row.old)) }
+    ensures length { length row.new ≡ length row.old }
+{
+    row[0] += arc;
+    step(book, k, from, b, &mut row[1..])
+}
