@@ -280,7 +280,7 @@ fn try_first(
     ensures length { length row.new ≡ length row.old }
 {
     let from = Place::Carry;
-    if !marks.usable(book, k, from, b) {
+    if !marks.usable(book, k, Place::Carry, b) {
         return Ok(());
     }
     links_leave_free(book, k, from, b);

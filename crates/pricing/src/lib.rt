@@ -10,3 +10,6 @@ mod step;
 
 pub use exact_price::price;
 pub use priced::Priced;
+
+#[cfg(test)]
+mod tests;
