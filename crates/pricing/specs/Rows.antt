@@ -42,7 +42,7 @@ abbrev pub route_to : StoreSeen → Option ℕ → List ℕ
 route_to store None = []
 route_to store (Some j) = route_within (suc j) store (Some j)
 
--- row j has the weight and the counters of the route that its parents spell, which is legal and whose links are usable
+-- the route that the parents of row j spell is legal and goes over usable links, and its weight and counters are the row
 pub record IsSpelled (table : CostTableSeen) (book : BookSeen) (marks : List Fact) (k : ℕ) (duals : List ℤ) (store : StoreSeen) (j : ℕ) : Type 0 where
   pub legal : IsLegalRoute book k (route_to store (Some j))
   pub usable : IsUsableFrom book marks k Carry (route_to store (Some j))

@@ -2,8 +2,8 @@
 //!
 //! Labels are made in order of activity, and of two at one activity the one that is no larger in weight and counters stands
 //! for the other, since whatever goes on from the other goes on from it. So the buckets are a closed family, and its
-//! lightest end is the least weight. Each row has the weight and counters of the route that its parents spell, which is
-//! how the route is found.
+//! lightest end is the least weight. A row's parents spell a route, of which the row is the weight and the counters: so
+//! the route of the lightest end is found by going back.
 //! Each usable link is asked for once, and each row at its beginning is tried over it against the rows at its end. How
 //! many rows there are depends on the counters, and has no good bound.
 
