@@ -42,11 +42,15 @@ made_of activities tails rules =
       rules = numbered_rules;
     }))))
 
--- the book of the three tables, or the first refusal: of the timetable, of the fleet and of the rules, each by itself, and
--- then of the names in all three
-unfoldable pub book_of : List ℕ → List ℕ → List ℕ → Result BookSeen Refusal
-book_of timetable fleet rules =
-    look (timetable_of timetable) (λ raw_activities.
-    look (fleet_of fleet) (λ raw_tails.
+-- what follows from the records of the three tables, or the first refusal: of the timetable, of the fleet and of the rules,
+-- each by itself
+abbrev pub look_at_tables : List ℕ → List ℕ → List ℕ → (List RawActivitySeen → List RawTailSeen → RawRulesSeen → Result BookSeen Refusal) → Result BookSeen Refusal
+look_at_tables timetable fleet rules follows =
+    look (timetable_of timetable) (λ activities.
+    look (fleet_of fleet) (λ tails.
     look (rules_of rules) (λ raw_rules.
-    made_of raw_activities raw_tails raw_rules)))
+    follows activities tails raw_rules)))
+
+-- the book of the three tables, or the first refusal: of each by itself, and then of the names in all three
+unfoldable pub book_of : List ℕ → List ℕ → List ℕ → Result BookSeen Refusal
+book_of timetable fleet rules = look_at_tables timetable fleet rules made_of

@@ -3,7 +3,7 @@
 //! All tags of both tables are listed before an entry is looked up, so that none is unknown then: at most 84,000, since
 //! there are 4,200 records of at most 20 tags. Each goes into a set once.
 
-ghost use Rattle.std.specs.Prelude.{◌≡◌, ◌+◌, ◌*◌, ◌<◌, ◌≤◌, ◌^◌, ◌++◌, length, IfOk, OnOk};
+ghost use Rattle.std.specs.Prelude.{◌≡◌, ◌+◌, ◌*◌, ◌<◌, ◌≤◌, ◌^◌, ◌++◌, ℕ, List, length, IfOk, OnOk};
 ghost use Rattle.std.specs.List.{flat_map};
 ghost use Rattle.tail_book.specs.declared.limits.TheConstants.{ACTIVITY_LIMIT, ITEM_LIMIT, TAIL_LIMIT};
 ghost use Rattle.book_maker.specs.Tags.{tags_of};
@@ -27,29 +27,43 @@ pub fn tags_of(
     ensures few { IfOk result (λ set. length set.keys < 2 ^ 32) }
 {
     let mut names = Vec::new(alloc);
-    add_tail_tags(&mut names, tails)?;
-    add_activity_tags(&mut names, activities)?;
+    add_tags(&mut names, tails)?;
+    add_tags(&mut names, activities)?;
     distinct_names(alloc, &names)
 }
 
-fn add_tail_tags(names: &mut Vec<Name>, tails: &[RawTail]) -> Result<(), Memory>
-    ensures tags { OnOk result (names.new.items ≡ names.old.items ++ flat_map (λ t. t.tags) tails.now) }
-    ensures few { OnOk result (length names.new.items ≤ length names.old.items + ITEM_LIMIT * length tails.now) }
-{
-    for i in 0..tails.len() {
-        let tail = &tails[i];
-        names.extend_from_slice(tail.tags.as_slice())?;
-    }
-    Ok(())
+// A record that names tags.
+trait Tagged {
+    ghost named: { Self → List (List ℕ) };
+
+    fn tags(&self) -> &[Name]
+        ensures value { result.now ≡ named self.now }
+        ensures few { length result.now ≤ ITEM_LIMIT };
 }
 
-fn add_activity_tags(names: &mut Vec<Name>, activities: &[RawActivity]) -> Result<(), Memory>
-    ensures tags { OnOk result (names.new.items ≡ names.old.items ++ flat_map (λ a. a.tags) activities.now) }
-    ensures few { OnOk result (length names.new.items ≤ length names.old.items + ITEM_LIMIT * length activities.now) }
+impl Tagged for RawTail {
+    ghost named = { λ t. t.tags };
+
+    fn tags(&self) -> &[Name] {
+        self.tags.as_slice()
+    }
+}
+
+impl Tagged for RawActivity {
+    ghost named = { λ a. a.tags };
+
+    fn tags(&self) -> &[Name] {
+        self.tags.as_slice()
+    }
+}
+
+// Adds the tags of records, one record after the other.
+fn add_tags<T: Tagged>(names: &mut Vec<Name>, rows: &[T]) -> Result<(), Memory>
+    ensures tags { OnOk result (names.new.items ≡ names.old.items ++ flat_map T.named rows.now) }
+    ensures few { OnOk result (length names.new.items ≤ length names.old.items + ITEM_LIMIT * length rows.now) }
 {
-    for i in 0..activities.len() {
-        let activity = &activities[i];
-        names.extend_from_slice(activity.tags.as_slice())?;
+    for i in 0..rows.len() {
+        names.extend_from_slice(rows[i].tags())?;
     }
     Ok(())
 }

@@ -230,6 +230,41 @@ fn counters_along_routes(rt: HostRuntime) -> Result<(), Fail> {
     Ok(())
 }
 
+// Whether a route is legal for an aircraft; nothing where the book does not have the aircraft.
+fn judged(alloc: Global, book: &Book, k: u32, route: &[u32]) -> Result<Option<bool>, Fail> {
+    let table = StepTable::of(alloc, book)?;
+    let mut values = vec![in alloc; 0; book.rules.counters.len()]?;
+    if k as usize >= book.tails.len() {
+        return Ok(None);
+    }
+    Ok(Some(is_legal_route(book, &table, k, route, &mut values)))
+}
+
+// Routes within the limits and past one, by an activity at another airport, by one that starts in the turn, twice by the
+// same, by a number that no activity has, and none at all.
+#[test]
+fn routes_are_judged(rt: HostRuntime) -> Result<(), Fail> {
+    let book = book(rt.alloc())?;
+    for (k, route, want) in [
+        (A, [].as_slice(), true),
+        (A, [F1, F2, F3, F4].as_slice(), true),
+        (A, [F1, F2, E3].as_slice(), false),
+        (A, [F1, J1].as_slice(), false),
+        (A, [F1, F1].as_slice(), false),
+        (A, [J1].as_slice(), false),
+        (A, [F1, H1 + 1].as_slice(), false),
+        (B, [G1, H1].as_slice(), true),
+        (B, [H1].as_slice(), false),
+        (B, [J1].as_slice(), true),
+        (B, [J2].as_slice(), false),
+        (B, [4_294_967_295].as_slice(), false),
+    ] {
+        let answer = judged(rt.alloc(), &book, k, route)?;
+        assert_eq!(rt; answer, Some(want), "{route:?} of {k}");
+    }
+    Ok(())
+}
+
 // A check at OSL from 10:00 to 12:00, before which the aircraft has been free since midnight: no minutes flown, no
 // landing, and half a day. A flight from there counts as all three, and its days only from its start where a stop
 // cleared them.

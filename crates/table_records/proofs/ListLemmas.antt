@@ -1,7 +1,7 @@
 -- The items of a field, part by part: those before the limit are kept, and the others are only looked at.
 -- What the parts behind give decides, so each turn moves one item from there to those that are read.
 use Rattle.std.proofs.Common.{◌≡◌, ◌∙◌, ◌<◌, ◌≤◌, ℕ, ◌+◌, Bool, true, false, sym, List, [], ◌∷◌, ◌++◌, Result, Ok, Err, length, take, refl, arith, nat_lt, nat_le, length-take, ap}
-use Rattle.std.proofs.lemmas.Bool.Decides.{nat_tests}
+use Rattle.std.proofs.lemmas.Bool.{le-leb, le-ltb, lt-leb, lt-ltb, ltb-false, ltb-true}
 use Rattle.std.proofs.lemmas.List.{append-nil, length_push, take_all, take-append-le}
 use Rattle.std.proofs.lemmas.List.Elements.{All-nil, All-push}
 use Rattle.std.specs.Prelude.{All}
@@ -10,21 +10,6 @@ use Rattle.tail_text.specs.Checks.{look_each}
 use Rattle.tail_text.specs.declared.codes.TheConstants.{TOO_MANY}
 use Rattle.tail_text.specs.inside.Joined.{joined, joined-bad, joined-good, joined-nil}
 use Rattle.table_records.specs.Lists.{items_of}
-
-few_enough : (n limit : ℕ) → n ≤ limit → nat_lt limit n ≡ false
-few_enough n limit h = grind (arith, nat_tests)
-
-enough_few : (n limit : ℕ) → n ≤ limit → nat_le n limit ≡ true
-enough_few n limit h = grind (arith, nat_tests)
-
-too_few : (n limit : ℕ) → limit < n → true ≡ nat_lt limit n
-too_few n limit h = grind (arith, nat_tests)
-
-over : (n limit : ℕ) → true ≡ nat_lt limit n → nat_le n limit ≡ false
-over n limit h = grind (arith, nat_tests)
-
-under : (n limit : ℕ) → false ≡ nat_lt limit n → n ≤ limit
-under n limit h = grind (arith, nat_tests)
 
 -- what is read of these parts stands before what those give that are left, the first of it is kept, and an item too
 -- many has been seen
@@ -64,8 +49,8 @@ module _ {A : Type 0} (give : List ℕ → Result A ℕ) (P : A → Type 0) (par
           read = so_far.read ++ item ∷ [];
           rest = moved item is;
           front = rw before (sym (take_all ITEM_LIMIT (so_far.read ++ item ∷ []) (omega (arith, longer))));
-          many = so_far.many ∙ few_enough (length so_far.read) ITEM_LIMIT (omega arith)
-              ∙ sym (few_enough (length (so_far.read ++ item ∷ [])) ITEM_LIMIT (omega (arith, longer)));
+          many = so_far.many ∙ le-ltb ITEM_LIMIT (length so_far.read) (omega arith)
+              ∙ sym (le-ltb ITEM_LIMIT (length (so_far.read ++ item ∷ [])) (omega (arith, longer)));
           sound = All-push P kept item so_far.sound good;
         }
 
@@ -78,7 +63,7 @@ module _ {A : Type 0} (give : List ℕ → Result A ℕ) (P : A → Type 0) (par
           read = so_far.read ++ item ∷ [];
           rest = moved item is;
           front = so_far.front ∙ sym (take-append-le ITEM_LIMIT so_far.read (item ∷ []) many);
-          many = too_few (length (so_far.read ++ item ∷ [])) ITEM_LIMIT (omega (arith, longer));
+          many = sym (lt-ltb ITEM_LIMIT (length (so_far.read ++ item ∷ [])) (omega (arith, longer)));
           sound = so_far.sound;
         }
 
@@ -96,14 +81,14 @@ module _ {A : Type 0} (give : List ℕ → Result A ℕ) (P : A → Type 0) (par
     pub end-many : AreRead give P parts left kept true → items_of give parts ≡ Err TOO_MANY
     end-many so_far =
         let all : look_each give parts ≡ Ok so_far.read = all-read true so_far in
-        let past : nat_le (length so_far.read) ITEM_LIMIT ≡ false = over (length so_far.read) ITEM_LIMIT so_far.many in
+        let past : nat_le (length so_far.read) ITEM_LIMIT ≡ false = lt-leb (length so_far.read) ITEM_LIMIT (ltb-true ITEM_LIMIT (length so_far.read) (sym so_far.many)) in
         rw (all, past) refl
 
     pub end-few : AreRead give P parts left kept false → items_of give parts ≡ Ok kept
     end-few so_far =
         let all : look_each give parts ≡ Ok so_far.read = all-read false so_far in
-        let few : length so_far.read ≤ ITEM_LIMIT = under (length so_far.read) ITEM_LIMIT so_far.many in
-        let fits : nat_le (length so_far.read) ITEM_LIMIT ≡ true = enough_few (length so_far.read) ITEM_LIMIT few in
+        let few : length so_far.read ≤ ITEM_LIMIT = ltb-false ITEM_LIMIT (length so_far.read) (sym so_far.many) in
+        let fits : nat_le (length so_far.read) ITEM_LIMIT ≡ true = le-leb (length so_far.read) ITEM_LIMIT few in
         let same : kept ≡ so_far.read = so_far.front ∙ take_all ITEM_LIMIT so_far.read few in
         rw (all, fits, same) refl
 

@@ -6,6 +6,7 @@ use Rattle.std.proofs.lemmas.List.Elements.{All-head, All-tail}
 use Rattle.std.proofs.Math.Nat.{mul-le-mul}
 use Rattle.std.specs.Prelude.{All, find, unsigned_abs}
 use Rattle.std.specs.Option.{option_map_or}
+use Rattle.tail_book.specs.declared.limits.TheConstants.{RATE_LIMIT, FIXED_LIMIT, ACTIVITY_COST_LIMIT, BAND_COST_LIMIT, LEG_COST_LIMIT}
 use Rattle.tail_book.specs.Seen.{BookSeen, TailSeen}
 use Rattle.tail_book.specs.Numbers.{int_le}
 use Rattle.tail_book.specs.declared.place.Place.{Place}
@@ -46,23 +47,23 @@ flown_most book sound a lt =
     let e = sound.activities a no_activity lt in
     flown_when (is_flight book a) (end_of book a -ℤ start_of book a) (span (start_of book a) (end_of book a) e.lasts e.short)
 
-activity_most : (rate minutes fixed : ℕ) → rate ≤ 300 → minutes ≤ 2880 → fixed ≤ 100000 → rate * minutes + fixed ≤ 964000
+activity_most : (rate minutes fixed : ℕ) → rate ≤ RATE_LIMIT → minutes ≤ 2880 → fixed ≤ FIXED_LIMIT → rate * minutes + fixed ≤ ACTIVITY_COST_LIMIT
 activity_most rate minutes fixed h k l = let p : rate * minutes ≤ 300 * 2880 = mul-le-mul h k in omega arith
 
-pub activity_cost_most : (book : BookSeen) → IsBook book → (k a : ℕ) → a < activities book → activity_cost book k a ≤ 964000
+pub activity_cost_most : (book : BookSeen) → IsBook book → (k a : ℕ) → a < activities book → activity_cost book k a ≤ ACTIVITY_COST_LIMIT
 activity_cost_most book sound k a lt =
     activity_most (type_rate book (kind_of book k)) (unsigned_abs (flown book a)) (tail_of book k).fixed
-    (everywhere IsKind (λ t. t.rate ≤ 300) no_type (omega arith) (λ t h. h.rate) book.rules.kinds sound.rules.kinds (kind_of book k))
+    (everywhere IsKind (λ t. t.rate ≤ RATE_LIMIT) no_type (omega arith) (λ t h. h.rate) book.rules.kinds sound.rules.kinds (kind_of book k))
     (flown_most book sound a lt)
-    (everywhere (IsTail book.rules) (λ (t : TailSeen). t.fixed ≤ 100_000) no_tail (omega arith) (λ t h. h.fixed) book.tails sound.tails k)
+    (everywhere (IsTail book.rules) (λ (t : TailSeen). t.fixed ≤ FIXED_LIMIT) no_tail (omega arith) (λ t h. h.fixed) book.tails sound.tails k)
 
-pub connection_cost_most : (book : BookSeen) → IsBook book → (k : ℕ) (x : Place) (b : ℕ) → connection_cost book k x b ≤ 1000000
+pub connection_cost_most : (book : BookSeen) → IsBook book → (k : ℕ) (x : Place) (b : ℕ) → connection_cost book k x b ≤ BAND_COST_LIMIT
 connection_cost_most book sound k Carry b = omega arith
 connection_cost_most book sound k (After x) b =
-    found IsBand (λ (n : ℕ). n ≤ 1_000_000) (λ band. band.cost) 0 (λ band h. h.cost) (omega arith)
+    found IsBand (λ (n : ℕ). n ≤ BAND_COST_LIMIT) (λ band. band.cost) 0 (λ band h. h.cost) (omega arith)
     (λ band. int_le (gap book k (After x) b) band.upto) book.rules.bands sound.rules.bands
 
-pub route_most : (book : BookSeen) → IsBook book → (k : ℕ) (x : Place) (route : List ℕ) → All (λ a. a < activities book) route → cost_from book k x route ≤ 2000000 * length route
+pub route_most : (book : BookSeen) → IsBook book → (k : ℕ) (x : Place) (route : List ℕ) → All (λ a. a < activities book) route → cost_from book k x route ≤ LEG_COST_LIMIT * length route
 route_most book sound k x [] below = omega arith
 route_most book sound k x (b ∷ rest) below =
     let a = activity_cost_most book sound k b (All-head (λ a. a < activities book) b rest below) in
@@ -70,11 +71,11 @@ route_most book sound k x (b ∷ rest) below =
     let h = route_most book sound k (After b) rest (All-tail (λ a. a < activities book) b rest below) in
     added (activity_cost book k b) (connection_cost book k x b) (cost_from book k (After b) rest) (length rest) a c h
   where
-    added : (a c r n : ℕ) → a ≤ 964000 → c ≤ 1000000 → r ≤ 2000000 * n → a + c + r ≤ 2000000 * suc n
+    added : (a c r n : ℕ) → a ≤ ACTIVITY_COST_LIMIT → c ≤ BAND_COST_LIMIT → r ≤ LEG_COST_LIMIT * n → a + c + r ≤ LEG_COST_LIMIT * suc n
     added a c r n h i j = omega arith
 
 plan_most : (book : BookSeen) → IsBook book → (k : ℕ) (plan : List (List ℕ)) → All (All (λ a. a < activities book)) plan
-    → cost_of_routes book k plan ≤ 2000000 * length (all_flown plan)
+    → cost_of_routes book k plan ≤ LEG_COST_LIMIT * length (all_flown plan)
 plan_most book sound k [] each = omega arith
 plan_most book sound k (route ∷ plan) each =
     let h = route_most book sound k Carry route (All-head (All (λ a. a < activities book)) route plan each) in
@@ -82,7 +83,7 @@ plan_most book sound k (route ∷ plan) each =
     let e = length-append route (all_flown plan) in
     joined (cost_from book k Carry route) (cost_of_routes book (k + 1) plan) (length route) (length (all_flown plan)) _ h r e
   where
-    joined : (a b m n l : ℕ) → a ≤ 2000000 * m → b ≤ 2000000 * n → l ≡ m + n → a + b ≤ 2000000 * l
+    joined : (a b m n l : ℕ) → a ≤ LEG_COST_LIMIT * m → b ≤ LEG_COST_LIMIT * n → l ≡ m + n → a + b ≤ LEG_COST_LIMIT * l
     joined a b m n l h i e = omega arith
 
 pub cost_most : (book : BookSeen) → IsBook book → (plan : List (List ℕ)) → IsLegalPlan book plan → plan_cost book plan ≤ greatest_cost book

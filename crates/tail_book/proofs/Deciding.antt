@@ -1,4 +1,4 @@
--- The tests of legality decide their words.
+-- The tests of legality decide their facts.
 use Rattle.std.specs.Prelude.{⊤, int_lt, not, ◌==◌}
 use Rattle.std.proofs.Common.{◌≡◌, ℕ, ℤ, ◌+ℤ◌, ◌≤ℤ◌, Bool, true, false, arith, List, [], ◌∷◌, refl, sym, length}
 use lib.Signed.{◌<ℤ◌}

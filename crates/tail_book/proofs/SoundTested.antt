@@ -1,4 +1,4 @@
--- The tests of books and cost tables decide their words.
+-- The tests of books and cost tables decide their facts.
 use Rattle.std.proofs.Common.{◌≡◌, ◌≤◌, ◌<◌, ◌+◌, ◌*◌, ◌/◌, ◌%◌, ◌^◌, ℕ, ℤ, pos, negsuc, Bool, true, arith, ap, List, [], ◌∷◌, refl, length, suc}
 use Rattle.std.proofs.Math.Nat.{mul-mod_left}
 use Rattle.std.proofs.lemmas.Int.{ints}

@@ -6,6 +6,7 @@ use Rattle.std.proofs.lemmas.List.Elements.{All-head, All-tail, All-append, All-
 use Rattle.std.proofs.lemmas.List.FromFn.{length-map-range_with_len, get_or-map-range_with_len}
 use Rattle.std.specs.Prelude.{All}
 use Rattle.std.specs.List.{flat_map, range_with_len}
+use Rattle.tail_book.specs.declared.limits.TheConstants.{ENTRY_LIMIT, LEG_COST_LIMIT}
 use Rattle.tail_book.specs.Seen.{BookSeen}
 use Rattle.tail_book.specs.declared.place.Place.{Place}
 use Rattle.tail_book.specs.declared.place.Place.TheVariants.{Carry, After}
@@ -88,24 +89,24 @@ own_cost_of_routes book k (route ∷ plan) most below =
     (own_cost_from book k Carry route (omega (arith, most)) (All-head (All (λ a. a < activities book)) route plan below))
     (own_cost_of_routes book (k + 1) plan (omega (arith, most)) (All-tail (All (λ a. a < activities book)) route plan below))
 
--- each entry is within a million
-row_most : (book : BookSeen) → IsBook book → (k : ℕ) → All (λ c. c ≤ 1_000_000) (activity_costs book k)
-row_most book sound k = All-from_get_or (λ c. c ≤ 1_000_000) (activity_costs book k) 0 (λ i lt. within i (subst (λ n. i < n) (row_length book k) lt))
+-- each entry is within its maximum
+row_most : (book : BookSeen) → IsBook book → (k : ℕ) → All (λ c. c ≤ ENTRY_LIMIT) (activity_costs book k)
+row_most book sound k = All-from_get_or (λ c. c ≤ ENTRY_LIMIT) (activity_costs book k) 0 (λ i lt. within i (subst (λ n. i < n) (row_length book k) lt))
   where
-    within : (i : ℕ) → i < activities book → get_or (activity_costs book k) i 0 ≤ 1_000_000
+    within : (i : ℕ) → i < activities book → get_or (activity_costs book k) i 0 ≤ ENTRY_LIMIT
     within i lt = let same = row_entry book k i lt in let most = activity_cost_most book sound k i lt in omega (arith, same, most)
 
-rows_most : (book : BookSeen) → IsBook book → (s m : ℕ) → All (λ c. c ≤ 1_000_000) (flat_map (activity_costs book) (range_with_len s m))
+rows_most : (book : BookSeen) → IsBook book → (s m : ℕ) → All (λ c. c ≤ ENTRY_LIMIT) (flat_map (activity_costs book) (range_with_len s m))
 rows_most book sound s zero = λ i d lt. absurd (omega (arith, lt))
-rows_most book sound s (suc m) = All-append (λ c. c ≤ 1_000_000) _ _ (row_most book sound s) (rows_most book sound (s + 1) m)
+rows_most book sound s (suc m) = All-append (λ c. c ≤ ENTRY_LIMIT) _ _ (row_most book sound s) (rows_most book sound (s + 1) m)
 
 -- 4,000 activities at two million each, in thousandths
-sums_most : (n : ℕ) → n ≤ 4000 → n * (1000 * (n * (1_000_000 + 1_000_000) + 1)) + 1000 * (n * (1_000_000 + 1_000_000)) ≤ 2 ^ 61
+sums_most : (n : ℕ) → n ≤ 4000 → n * (1000 * (n * LEG_COST_LIMIT + 1)) + 1000 * (n * LEG_COST_LIMIT) ≤ 2 ^ 61
 sums_most n few =
     let squared : n * n ≤ 4000 * 4000 = mul-le-mul few few in
-    spread n (n * n) (n * (1000 * (n * 2_000_000 + 1))) few squared (omega arith)
+    spread n (n * n) (n * (1000 * (n * LEG_COST_LIMIT + 1))) few squared (omega arith)
   where
-    spread : (n s p : ℕ) → n ≤ 4000 → s ≤ 16_000_000 → p ≡ 2_000_000_000 * s + 1000 * n → p + 1000 * (n * (1_000_000 + 1_000_000)) ≤ 2 ^ 61
+    spread : (n s p : ℕ) → n ≤ 4000 → s ≤ 16_000_000 → p ≡ 2_000_000_000 * s + 1000 * n → p + 1000 * (n * LEG_COST_LIMIT) ≤ 2 ^ 61
     spread n s p few squared e = omega arith
 
 pub own_costs_sound : (book : BookSeen) → IsBook book → IsCostTable (costs_of book)

@@ -4,7 +4,7 @@
 //! costs, and so the box of duals; `IsCostTable` asks that sums of costs and duals in thousandths stay below 2^61, so that
 //! they fit 64 bits wherever they are taken. A cost is one read, and a connection's a walk over at most eight bands.
 
-ghost use Rattle.std.specs.Prelude.{◌≡◌, ◌↔◌, ◌<◌, ◌≤◌, ◌+◌, ◌*◌, ◌^◌, ◌++◌, IfOk, IfSome, IsSome, length, pos, unsigned_abs, nat_le};
+ghost use Rattle.std.specs.Prelude.{◌≡◌, ◌↔◌, ◌<◌, ◌≤◌, ◌+◌, ◌*◌, ◌^◌, ◌++◌, ℕ, All, IfOk, IfSome, IsSome, length, pos, unsigned_abs, nat_le};
 ghost use Rattle.std.specs.List.{list_all};
 ghost use Rattle.tail_book.specs.Lookup.{activities, aircraft};
 ghost use Rattle.tail_book.specs.Cost.{activity_cost, band_cost};
@@ -12,6 +12,7 @@ ghost use Rattle.tail_book.specs.Counters.{flown};
 ghost use Rattle.tail_book.specs.inside.CostTable.{activity_cost_in, activity_costs, box_end, costs_of, greatest_cost_in, IsCostTable};
 ghost use Rattle.tail_book.specs.inside.SoundTests.{keeps_maxima, sums_fit};
 
+use crate::limits::{BAND_COST_LIMIT, ENTRY_LIMIT};
 use crate::{Band, Book, Memory, laws};
 use std::alloc::Global;
 use std::marker::Model;
@@ -45,9 +46,6 @@ impl Model for CostTable {
 /// Thousandths in a cost unit: duals and reduced costs are counted in these.
 pub const COST_UNIT: u64 = 1000;
 
-// What an entry, and a band, of a book cost at most.
-const COST_MAX: u64 = 1_000_000;
-
 // What sums of thousandths of costs and of duals reach at most.
 const SUM_MAX: u128 = 1 << 61;
 
@@ -79,7 +77,7 @@ impl CostTable {
         }
     }
 
-    /// The book's own costs, with maxima of a million each.
+    /// The book's own costs, with the greatest cost of an entry and of a band as maxima.
     pub fn of(alloc: Global, book: &Book) -> Result<CostTable, Memory>
         ensures { IfOk result (λ table. table ≡ costs_of book.now) }
     {
@@ -93,8 +91,8 @@ impl CostTable {
             m,
             fly,
             bands,
-            fly_max: COST_MAX,
-            band_max: COST_MAX,
+            fly_max: ENTRY_LIMIT,
+            band_max: BAND_COST_LIMIT,
         })
     }
 }
@@ -175,7 +173,8 @@ impl CostTable {
 
 /// The cost of the first band, in the table's order, that reaches so many minutes, and 0 where none does.
 pub fn band_cost(bands: &[Band], minutes: i64) -> u64
-    ensures { result ≡ band_cost bands.now minutes }
+    ensures value { result ≡ band_cost bands.now minutes }
+    ensures most { (most : ℕ) → All (λ band. band.cost ≤ most) bands.now → result ≤ most }
 {
     for band in bands {
         if minutes <= band.upto {

@@ -2,6 +2,7 @@
 
 ghost use Rattle.tail_book.specs.inside.Rising.{LinksRise, LegalRoutesRise, EachIsFlownOnce};
 ghost use Rattle.tail_book.specs.inside.Bounds.{ActivitiesCostAtMost, ConnectionsCostAtMost, LegalPlansCostAtMost};
+ghost use Rattle.tail_book.specs.inside.CostTable.{IsCostTable};
 ghost use Rattle.tail_book.specs.inside.Sound.{IsBook};
 ghost use Rattle.tail_book.specs.inside.TableLaws.{OwnCostsAreForBook, OwnCostsOfActivities, OwnCostsOfConnections, OwnCostsOfRoutes, OwnCostsOfPlans, OwnCostsOfLegalPlans, OwnCostsKeepClaims, OwnCostsKeepOutcomes, LegalPlansCostAtMostIn};
 ghost use Rattle.tail_book.specs.inside.SoundTests.{BookDecides, CostTableDecides};
@@ -16,7 +17,7 @@ mod order;
 mod renumbered;
 mod sums;
 
-use crate::Book;
+use crate::{Book, CostTable};
 pub use along::{counters_along_step, legal_is_legal_along};
 pub use bounds::{
     reduced_costs_are_small, rising_routes_are_below, rising_routes_are_short,
@@ -62,12 +63,12 @@ pub fn each_is_flown_once()
     ensures { EachIsFlownOnce }
 {}
 
-/// An activity costs at most 964,000.
+/// An activity costs at most what its minutes and its fixed amount come to: 964,000.
 pub fn activities_cost_at_most()
     ensures { ActivitiesCostAtMost }
 {}
 
-/// A connection costs at most a million.
+/// A connection costs at most what a band does: a million.
 pub fn connections_cost_at_most()
     ensures { ConnectionsCostAtMost }
 {}
@@ -163,4 +164,12 @@ pub fn every_book_is_sound(book: &Book)
 {
     // A look at a field brings out what every book keeps.
     let _ = &book.activities;
+}
+
+/// Every cost table keeps its maxima, and no sum of its costs and duals passes 2^61.
+pub fn every_cost_table_is_sound(table: &CostTable)
+    ensures { IsCostTable table.now }
+{
+    // A look at a field brings out what every table keeps.
+    let _ = &table.fly;
 }

@@ -60,3 +60,12 @@ pub const FIXED_LIMIT: u64 = 100_000;
 
 /// What a band costs at most, in cost units.
 pub const BAND_COST_LIMIT: u64 = 1_000_000;
+
+/// What an activity costs at most, in cost units: 964,000, which its minutes and its fixed amount come to.
+pub const ACTIVITY_COST_LIMIT: u64 = SPAN_LIMIT as u64 * RATE_LIMIT + FIXED_LIMIT;
+
+/// The maximum of an entry of a book's own cost table, in cost units: a round number that no activity's cost passes.
+pub const ENTRY_LIMIT: u64 = 1_000_000;
+
+/// What an activity with the connection to it costs at most, in cost units: two million.
+pub const LEG_COST_LIMIT: u64 = ENTRY_LIMIT + BAND_COST_LIMIT;

@@ -1,4 +1,4 @@
-//! Routes and plans, as lists of numbers. Whether they are legal is no matter of the types: the words of legality say it.
+//! Routes and plans, as lists of numbers. Whether they are legal is no matter of the types: the definitions of legality say it.
 
 ghost use Rattle.std.specs.Str.{bytes_eq};
 ghost use Rattle.std.specs.Cmp.Lexicographic.{pointwise};

@@ -1,2 +1,3 @@
 pub mod NumberSets
 pub mod Permissions
+mod Turns

@@ -1,5 +1,5 @@
 -- Sets as the bits of a word: what a bit says after a number is added, or two sets are joined.
-use Rattle.std.proofs.Common.{◌≡◌, ◌≢◌, ◌∙◌, ℕ, zero, suc, ◌+◌, ◌*◌, ◌%◌, ◌^◌, ◌<◌, arith, ap, ap₂, Bool, true, false, refl, sym, List, length, take, get_or, w32, ⊎_elim}
+use Rattle.std.proofs.Common.{◌≡◌, ◌∙◌, ℕ, zero, suc, ◌*◌, ◌%◌, ◌^◌, ◌<◌, arith, ap, Bool, true, false, refl, sym, w32, ⊎_elim}
 use Rattle.std.specs.Prelude.{◌||◌, nat_eq, bit_or, max}
 use Rattle.std.specs.Int.{bit_at}
 use Rattle.std.proofs.lemmas.Bool.{eq-eqb, ne_eqb, cases_eq}

@@ -2,13 +2,16 @@
 #![tactic(auto)]
 
 mod connection;
+mod costs;
 mod curfew;
 mod curfew_table;
+pub mod laws;
 mod number_set;
 mod permission;
 mod permission_table;
 
 pub use connection::{connected, earliest_start, free_from, gap, link, port, turn};
+pub use costs::connection_cost;
 pub use curfew::curfewed;
 pub use curfew_table::{CurfewTable, curfewed_by};
 pub use number_set::NumberSet;

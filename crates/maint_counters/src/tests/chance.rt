@@ -7,37 +7,19 @@ ghost use Rattle.maint_counters.specs.inside.StepTable.{IsStepTableOf};
 
 use super::{activity, counter, rules, tail};
 use crate::*;
+use dice::Dice;
 use std::alloc::Global;
 use std::process::Abort;
 use std::test::Fail;
 use tail_book::*;
 
-// Numbers that look like chance, the same ones for the same seed.
-#[derive(Drop)]
-struct Dice {
-    state: u64,
-}
-
-impl Dice {
-    fn below(&mut self, n: u32) -> u32
-        requires { 0 < n }
-        ensures { result < n }
-    {
-        self.state = self
-            .state
-            .wrapping_mul(6_364_136_223_846_793_005)
-            .wrapping_add(1_442_695_040_888_963_407);
-        (self.state >> 32) as u32 % n
+// Up to two numbers below 3.
+fn few(dice: &mut Dice, alloc: Global) -> Result<Vec<u32>, Memory> {
+    let mut numbers = Vec::new(alloc);
+    for _ in 0..dice.below(3) {
+        numbers.push(dice.below(3))?;
     }
-
-    // Up to two numbers below 3.
-    fn few(&mut self, alloc: Global) -> Result<Vec<u32>, Memory> {
-        let mut numbers = Vec::new(alloc);
-        for _ in 0..self.below(3) {
-            numbers.push(self.below(3))?;
-        }
-        Ok(numbers)
-    }
+    Ok(numbers)
 }
 
 // A counter of each kind.
@@ -49,7 +31,7 @@ fn three_counters(alloc: Global, dice: &mut Dice) -> Result<Vec<Counter>, Memory
         (Name::new(b"days".as_slice()), CounterKind::Days, 1440),
     ] {
         let stop = 1 + dice.below(900) as i64;
-        counters.push(counter(name, kind, limit, dice.few(alloc)?, stop))?;
+        counters.push(counter(name, kind, limit, few(dice, alloc)?, stop))?;
     }
     Ok(counters)
 }
@@ -94,7 +76,7 @@ fn an_activity(alloc: Global, dice: &mut Dice, name: Name, start: i64) -> Result
     let resets = if flight {
         Vec::new(alloc)
     } else {
-        dice.few(alloc)?
+        few(dice, alloc)?
     };
     let leg = if flight { (from, to) } else { (from, from) };
     Ok(activity(alloc, name, flight, leg, (start, end), resets))
@@ -118,7 +100,7 @@ fn six_activities(alloc: Global, dice: &mut Dice) -> Result<Vec<Activity>, Memor
 
 // A book of three counters and airports, two aircraft and six activities.
 fn book_by_chance(alloc: Global, seed: u64) -> Result<Book, Fail> {
-    let mut dice = Dice { state: seed };
+    let mut dice = Dice::new(seed);
     let counters = three_counters(alloc, &mut dice)?;
     let rules = rules(alloc, three_airports(alloc)?, counters)?;
     let tails = two_tails(alloc, &mut dice)?;

@@ -1,6 +1,7 @@
 -- What activities, connections, routes and plans cost by a table, in cost units, and the table of the book's own costs.
 use Rattle.std.specs.Prelude.{ℕ, ℤ, pos, ◌+ℤ◌, ◌≤ℤ◌, ◌+◌, ◌*◌, ◌^◌, ◌≤◌, ◌≡◌, List, [], ◌∷◌, All, length, map, slice_index_or}
 use Rattle.std.specs.List.{flat_map, range_with_len}
+use Rattle.tail_book.specs.declared.limits.TheConstants.{ENTRY_LIMIT, BAND_COST_LIMIT}
 use Rattle.tail_book.specs.Seen.{BookSeen}
 use Rattle.tail_book.specs.inside.Seen.{CostTableSeen}
 use Rattle.tail_book.specs.declared.place.Place.{Place}
@@ -77,6 +78,6 @@ costs_of book = record {
   m = aircraft book;
   fly = flat_map (activity_costs book) (range_with_len 0 (aircraft book));
   bands = book.rules.bands;
-  fly_max = 1_000_000;
-  band_max = 1_000_000;
+  fly_max = ENTRY_LIMIT;
+  band_max = BAND_COST_LIMIT;
 }

@@ -22,7 +22,7 @@ each_at_most [] (other ∷ others) = false
 each_at_most (value ∷ values) [] = false
 each_at_most (value ∷ values) (other ∷ others) = int_le value other && each_at_most values others
 
--- the test is true exactly where the word holds
+-- the test is true exactly where the fact holds
 abbrev pub EachAtMostDecides : Type 0
 EachAtMostDecides = (values others : List ℤ) → Decides (each_at_most values others) (EachAtMost values others)
 

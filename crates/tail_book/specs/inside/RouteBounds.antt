@@ -1,5 +1,6 @@
 -- What a route costs at most, legal or not: it has no more activities than the book where its numbers rise.
 use Rattle.std.specs.Prelude.{ℕ, ℤ, pos, ◌+◌, ◌*◌, ◌^◌, ◌-ℤ◌, ◌<◌, ◌≤◌, List, All, length, map}
+use Rattle.tail_book.specs.declared.limits.TheConstants.{LEG_COST_LIMIT}
 use Rattle.tail_book.specs.Seen.{BookSeen}
 use Rattle.tail_book.specs.inside.Seen.{CostTableSeen}
 use Rattle.tail_book.specs.declared.place.Place.{Place}
@@ -22,7 +23,7 @@ RisingRoutesAreBelow = (n : ℕ) (x : Place) (route : List ℕ) → IsRisingFrom
 -- a route of the book's activities costs at most two million for each of its own
 abbrev pub RoutesCostAtMost : Type 0
 RoutesCostAtMost = (book : BookSeen) → IsBook book → (k : ℕ) (x : Place) (route : List ℕ) → All (λ a. a < activities book) route
-    → cost_from book k x route ≤ 2_000_000 * length route
+    → cost_from book k x route ≤ LEG_COST_LIMIT * length route
 
 -- so where its numbers rise, it costs at most what bounds every legal plan
 abbrev pub RisingRoutesCostAtMost : Type 0

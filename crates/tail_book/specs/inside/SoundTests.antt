@@ -1,4 +1,4 @@
--- The words of what every book keeps, and of what every cost table keeps, as tests that compute.
+-- What every book keeps, and what every cost table keeps, as tests that compute.
 use Rattle.std.specs.Prelude.{ℕ, ℤ, pos, ◌+ℤ◌, ◌-ℤ◌, ◌*◌, ◌+◌, ◌^◌, ◌%◌, ◌==◌, Bool, true, ◌&&◌, not, List, [], ◌∷◌, length, nat_lt, nat_le, unsigned_abs, bytes_eq}
 use Rattle.std.specs.Bool.{Decides}
 use Rattle.std.specs.List.{list_all}
@@ -165,7 +165,7 @@ keeps_maxima n fly bands fly_max band_max =
 abbrev pub is_cost_table : CostTableSeen → Bool
 is_cost_table table = keeps_maxima table.n table.fly table.bands table.fly_max table.band_max
 
--- each test is true exactly where its word holds
+-- each test is true exactly where its fact holds
 abbrev pub BookDecides : Type 0
 BookDecides = (book : BookSeen) → Decides (is_book book) (IsBook book)
 

@@ -1,4 +1,4 @@
--- The words of legality as tests that compute.
+-- The facts of legality as tests that compute.
 use Rattle.std.specs.Prelude.{ℕ, zero, suc, ℤ, ◌==◌, List, [], ◌∷◌, Bool, true, false, ◌&&◌, nat_lt, not, length}
 use Rattle.std.specs.Bool.{Decides}
 use Rattle.tail_book.specs.Seen.{CounterSeen, BookSeen}
@@ -60,7 +60,7 @@ abbrev pub is_legal_plan : BookSeen → List (List ℕ) → Bool
 is_legal_plan book plan =
     length plan == aircraft book && (are_legal_below book plan (aircraft book) && are_flown_once_below plan (activities book))
 
--- each test is true exactly where its word holds
+-- each test is true exactly where its fact holds
 abbrev pub AllowedDecides : Type 0
 AllowedDecides = (book : BookSeen) (k a : ℕ) → Decides (is_allowed book k a) (IsAllowed book k a)
 

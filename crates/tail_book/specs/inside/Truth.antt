@@ -1,4 +1,4 @@
--- When claims and answers are true by the costs of a table, and two words more by the book's own.
+-- When claims and answers are true by the costs of a table, and two facts more by the book's own.
 use Rattle.std.specs.Prelude.{ℕ, List}
 use Rattle.tail_book.specs.Seen.{BookSeen}
 use Rattle.tail_book.specs.inside.Seen.{CostTableSeen}

@@ -3,7 +3,7 @@ use Rattle.std.specs.Prelude.{ℕ, ℤ, ◌≡◌, ◌<◌, Bool, ◌&&◌, ◌|
 use Rattle.std.specs.List.{list_any}
 use Rattle.tail_book.specs.Seen.{CurfewSeen, BookSeen}
 use Rattle.tail_book.specs.Lookup.{activities, is_flight, from_port, to_port, start_of, end_of}
-use Rattle.tail_book.specs.Curfew.{local_minute, in_window, covers_type, forbids}
+use Rattle.tail_book.specs.Curfew.{local_minute, in_window, forbids}
 use Rattle.turn_rules.specs.declared.number_set.NumberSet.{NumberSet}
 use Rattle.turn_rules.specs.declared.curfew_table.CurfewTable.{CurfewTable}
 use Rattle.turn_rules.specs.inside.NumberSet.{has}

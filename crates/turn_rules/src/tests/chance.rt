@@ -1,40 +1,20 @@
 //! Books by chance, with every kind of rule of flying: the tables say what the rules say.
 
-ghost use Rattle.std.specs.Prelude.{◌<◌};
-
 use super::{activity, asking, kind, rules, tail};
 use crate::*;
+use dice::Dice;
 use std::alloc::Global;
 use std::process::Abort;
 use std::test::Fail;
 use tail_book::*;
 
-// Numbers that look like chance, the same ones for the same seed.
-#[derive(Drop)]
-struct Dice {
-    state: u64,
-}
-
-impl Dice {
-    fn below(&mut self, n: u32) -> u32
-        requires { 0 < n }
-        ensures { result < n }
-    {
-        self.state = self
-            .state
-            .wrapping_mul(6_364_136_223_846_793_005)
-            .wrapping_add(1_442_695_040_888_963_407);
-        (self.state >> 32) as u32 % n
+// Up to two numbers below 3.
+fn few(dice: &mut Dice, alloc: Global) -> Result<Vec<u32>, Memory> {
+    let mut numbers = Vec::new(alloc);
+    for _ in 0..dice.below(3) {
+        numbers.push(dice.below(3))?;
     }
-
-    // Up to two numbers below 3.
-    fn few(&mut self, alloc: Global) -> Result<Vec<u32>, Memory> {
-        let mut numbers = Vec::new(alloc);
-        for _ in 0..self.below(3) {
-            numbers.push(self.below(3))?;
-        }
-        Ok(numbers)
-    }
+    Ok(numbers)
 }
 
 fn three_kinds(alloc: Global) -> Result<Vec<AircraftType>, Memory> {
@@ -69,7 +49,7 @@ fn five_curfews(alloc: Global, dice: &mut Dice) -> Result<Vec<Curfew>, Memory> {
             airport: dice.below(3),
             from: dice.below(1440) as i64,
             to: dice.below(1440) as i64,
-            types: dice.few(alloc)?,
+            types: few(dice, alloc)?,
             starts: dice.below(2) == 0,
             landings: dice.below(2) == 0,
         })?;
@@ -84,9 +64,9 @@ fn three_tails(alloc: Global, dice: &mut Dice) -> Result<Vec<Tail>, Memory> {
         Name::new(b"A2".as_slice()),
         Name::new(b"A3".as_slice()),
     ] {
-        let (place, tags) = ((dice.below(3), 0), dice.few(alloc)?);
+        let (place, tags) = ((dice.below(3), 0), few(dice, alloc)?);
         let avoid = if dice.below(3) == 0 {
-            dice.few(alloc)?
+            few(dice, alloc)?
         } else {
             Vec::new(alloc)
         };
@@ -107,12 +87,12 @@ fn an_activity(alloc: Global, dice: &mut Dice, name: Name, start: i64) -> Result
         (start, start.saturating_add(minutes)),
     );
     let types = if dice.below(2) == 0 {
-        dice.few(alloc)?
+        few(dice, alloc)?
     } else {
         Vec::new(alloc)
     };
     let tags = if dice.below(4) == 0 {
-        dice.few(alloc)?
+        few(dice, alloc)?
     } else {
         Vec::new(alloc)
     };
@@ -144,7 +124,7 @@ fn eight_activities(alloc: Global, dice: &mut Dice) -> Result<Vec<Activity>, Mem
 
 // A book of three types, airports and aircraft, five curfews and eight activities.
 fn book_by_chance(alloc: Global, seed: u64) -> Result<Book, Fail> {
-    let mut dice = Dice { state: seed };
+    let mut dice = Dice::new(seed);
     let (kinds, airports) = (three_kinds(alloc)?, three_airports(alloc, &mut dice)?);
     let rules = rules(alloc, kinds, airports, five_curfews(alloc, &mut dice)?);
     let tails = three_tails(alloc, &mut dice)?;

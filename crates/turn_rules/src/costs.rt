@@ -1,0 +1,27 @@
+//! What connections cost by bands: the book's own, or those of a table.
+
+ghost use Rattle.std.specs.Prelude.{◌≡◌, ◌<◌, ◌≤◌, ℕ, All};
+ghost use Rattle.tail_book.specs.Cost.{connection_cost};
+ghost use Rattle.tail_book.specs.Lookup.{activities, aircraft};
+ghost use Rattle.tail_book.specs.inside.CostTable.{connection_cost_in};
+ghost use Rattle.tail_book.specs.inside.Place.{IsPlaceOf};
+ghost use Rattle.tail_book.specs.inside.Seen.{CostTableSeen};
+
+use crate::connection::gap;
+use tail_book::{Band, Book, Place, band_cost};
+
+/// What a connection costs by these bands, in cost units: what they say of the minutes on the ground, and nothing from
+/// the carry-in.
+pub fn connection_cost(book: &Book, bands: &[Band], k: u32, from: Place, b: u32) -> u64
+    requires aircraft { k < aircraft book.now }
+    requires place { IsPlaceOf book.now from }
+    requires activity { b < activities book.now }
+    ensures own { bands.now ≡ book.now.rules.bands → result ≡ connection_cost book.now k from b }
+    ensures in_table { (table : CostTableSeen) → table.bands ≡ bands.now → result ≡ connection_cost_in table book.now k from b }
+    ensures most { (most : ℕ) → All (λ band. band.cost ≤ most) bands.now → result ≤ most }
+{
+    match from {
+        Place::Carry => 0,
+        Place::After(_) => band_cost(bands, gap(book, k, from, b)),
+    }
+}
