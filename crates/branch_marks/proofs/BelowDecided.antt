@@ -1,4 +1,4 @@
--- Tests over the numbers below a number decide their words.
+-- Tests over the numbers below a number decide their definitions.
 use Rattle.std.proofs.Common.{ℕ, ◌<◌, Bool, refl}
 use Rattle.std.specs.Bool.{Decides}
 use Rattle.std.proofs.lemmas.Bool.Decides.{Decides-below_and, Decides-below_or}

@@ -1,4 +1,4 @@
--- Tests and their words: how a test of a part decides a word of the whole.
+-- Tests and their definitions: how a test of a part decides a definition of the whole.
 use Rattle.std.specs.Prelude.{⊤, not, nat_le, int_lt, ◌&&◌, ◌||◌, All, Any, AllPairs}
 use Rattle.std.proofs.Common.{◌≡◌, ℕ, ℤ, ◌≤ℤ◌, ◌≤◌, Bool, true, false, arith, List, refl, suc, [], ◌∷◌}
 use lib.Signed.{◌<ℤ◌}

@@ -1,4 +1,4 @@
--- The tests of dominance and of closed families decide their words.
+-- The tests of dominance and of closed families decide their definitions.
 use Rattle.std.proofs.Common.{ℕ, ℤ, pos, ◌≤ℤ◌, List}
 use Rattle.std.specs.Prelude.{not, ◌&&◌, ◌||◌}
 use Rattle.std.specs.Bool.{Decides}

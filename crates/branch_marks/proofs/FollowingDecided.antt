@@ -1,4 +1,4 @@
--- The tests of the rules of propagation decide their words.
+-- The tests of the rules of propagation decide their definitions.
 use Rattle.std.proofs.Common.{◌≡◌, ℕ, ℤ, ◌<◌, List, Option, Some, None}
 use Rattle.std.specs.Prelude.{Contains}
 use Rattle.std.specs.Bool.{Decides}

@@ -1,5 +1,6 @@
 pub mod Bits
 pub mod Places
+pub mod RowsPadded
 pub mod FactTables
 pub mod Parts
 pub mod Decisions

@@ -1,4 +1,4 @@
--- The tests of what marks leave open decide their words: fact by fact, and then over all marks.
+-- The tests of what marks leave open decide their definitions: fact by fact, and then over all marks.
 use Rattle.std.specs.Prelude.{not, nat_eq, nat_le, ◌&&◌, ◌||◌}
 use Rattle.std.proofs.Common.{ℕ, List, [], ◌∷◌}
 use Rattle.std.specs.Bool.{Decides}

@@ -1,4 +1,4 @@
--- The tests of proof trees decide their words.
+-- The tests of proof trees decide their definitions.
 use Rattle.std.proofs.Common.{◌≡◌, ℕ, ℤ, pos, ◌+ℤ◌, ◌≤◌, List, [], ◌∷◌, ◌++◌, length}
 use Rattle.std.specs.Prelude.{nat_le, ◌==◌}
 use Rattle.std.specs.Bool.{Decides}

@@ -13,4 +13,7 @@ pub mod Branches
 pub mod ProofTree
 pub mod MarksSeen
 pub mod MarkCalls
+pub mod Events
+pub mod LogShown
+pub mod TreeLog
 pub mod inside

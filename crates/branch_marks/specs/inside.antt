@@ -11,3 +11,4 @@ pub mod BitRows
 pub mod Named
 pub mod MarkTables
 pub mod MarkParts
+pub mod RowParts

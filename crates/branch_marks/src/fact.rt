@@ -2,6 +2,13 @@
 //!
 //! Who flies what, and what directly follows what: the branching of Ryan and Foster, carried over to aircraft.
 
+ghost use Rattle.std.specs.Prelude.{◌≡◌, ◌↔◌, IsTrue};
+ghost use Rattle.branch_marks.specs.Facts.{IsFactOf};
+ghost use Rattle.branch_marks.specs.inside.MarkTests.{is_fact_of};
+
+use crate::laws::fact_of_decides;
+use tail_book::Book;
+
 /// A branching fact. Marks are a list of these.
 #[derive(Clone, Copy, PartialEq, Eq, Debug)]
 pub enum Fact {
@@ -13,6 +20,28 @@ pub enum Fact {
     Cut(u32, u32),
     /// The second activity comes directly after the first, in one route.
     Tie(u32, u32),
+}
+
+impl Fact {
+    /// Whether the numbers in the fact are of the book.
+    pub fn is_of(self, book: &Book) -> bool
+        ensures means { IsTrue result ↔ IsFactOf book.now self }
+        ensures tests { result ≡ is_fact_of book.now self }
+    {
+        fact_of_decides();
+        self.has_numbers_of(book)
+    }
+
+    // Compares both numbers with what the book has.
+    fn has_numbers_of(self, book: &Book) -> bool
+        ensures { result ≡ is_fact_of book.now self }
+    {
+        let (n, m) = (book.activities.len(), book.tails.len());
+        match self {
+            Fact::Bar(k, a) | Fact::Must(k, a) => (k as usize) < m && (a as usize) < n,
+            Fact::Cut(a, b) | Fact::Tie(a, b) => (a as usize) < n && (b as usize) < n,
+        }
+    }
 }
 
 /// What a split decides: whether an aircraft flies an activity, or whether an activity comes directly after another.

@@ -5,13 +5,19 @@
 mod alive_rows;
 mod bit_rows;
 mod carriers;
+mod event;
 mod fact;
 mod fact_rows;
 pub mod laws;
 mod marks;
 mod named;
+mod row;
 mod ties;
+mod tree_log;
 
+pub use event::Event;
 pub use fact::{Fact, Pair};
 pub use marks::{Added, Marks};
 pub use named::Named;
+pub use row::Row;
+pub use tree_log::{LogFail, MemTree, NoLog, TreeLog};

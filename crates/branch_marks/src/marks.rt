@@ -12,6 +12,7 @@ ghost use Rattle.branch_marks.specs.inside.FactTests.{has_fact};
 ghost use Rattle.branch_marks.specs.inside.MarkTables.{AreMarksOf, IsFactWithin, is_tie};
 ghost use Rattle.branch_marks.specs.MarkCalls.{AddsOnce};
 
+mod fitting;
 mod questions;
 #[cfg(test)]
 mod tests;

@@ -48,7 +48,7 @@ ends_at_least marks k family low =
 abbrev pub has_no_end : List Fact → ℕ → List Label → Bool
 has_no_end marks k family = not (may_end marks k Carry) && list_all (λ member. not (may_end marks k (After member.at))) family
 
--- each test is true exactly where its word holds
+-- each test is true exactly where its definition holds
 abbrev pub CoversDecides : Type 0
 CoversDecides = (label other : Label) → Decides (covers label other) (Covers label other)
 

@@ -60,7 +60,7 @@ is_shut book marks =
     all_below (λ k. all_below (λ a. not (is_dead book marks k a) && not (is_only_carrier book marks k a)) (activities book)) (aircraft book)
     && all_below (λ a. all_below (λ b. not (is_dead_connection book marks a b)) (activities book)) (activities book)
 
--- each test is true exactly where its word holds
+-- each test is true exactly where its definition holds
 abbrev pub FollowsDecides : Type 0
 FollowsDecides = (book : BookSeen) (marks : List Fact) (fact : Fact) → Decides (follows book marks fact) (Follows book marks fact)
 

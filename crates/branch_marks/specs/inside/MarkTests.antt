@@ -77,7 +77,7 @@ fits_from book marks k x (b ∷ rest) = is_usable book marks k x b && fits_from 
 abbrev pub fits : BookSeen → List Fact → ℕ → List ℕ → Bool
 fits book marks k route = fits_from book marks k Carry route
 
--- each test is true exactly where its word holds
+-- each test is true exactly where its definition holds
 abbrev pub FactOfDecides : Type 0
 FactOfDecides = (book : BookSeen) (fact : Fact) → Decides (is_fact_of book fact) (IsFactOf book fact)
 

@@ -71,7 +71,7 @@ bounds_at_least low (Hole a) = true
 bounds_at_least low (Stuck k family) = true
 bounds_at_least low (Bounded duals covers) = nat_le low (leaf_bound duals covers)
 
--- each test is true exactly where its word holds
+-- each test is true exactly where its definition holds
 abbrev pub ShownDecides : Type 0
 ShownDecides = (table : CostTableSeen) (book : BookSeen) (marks : List Fact) (tree : Tree) → Decides (is_shown table book marks tree) (IsShown table book marks tree)
 

@@ -1,4 +1,4 @@
-//! Laws of tests and their words.
+//! Laws of tests and their definitions.
 
 ghost use Rattle.branch_marks.specs.inside.MarkTests.{FactOfDecides, AliveDecides, UsableDecides, MayEndDecides, FitsDecides};
 ghost use Rattle.branch_marks.specs.inside.FactTests.{HasFactDecides};

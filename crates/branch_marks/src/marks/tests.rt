@@ -2,7 +2,6 @@
 
 ghost use Rattle.std.specs.Prelude.{IfOk, IsTrue};
 ghost use Rattle.tail_book.specs.inside.Place.{IsPlaceOf};
-ghost use Rattle.branch_marks.specs.Facts.{IsFactOf};
 ghost use Rattle.branch_marks.specs.inside.MarkTables.{AreMarksOf};
 
 use crate::{Added, Fact, Marks, Named};
@@ -83,26 +82,13 @@ fn book(alloc: Global) -> Result<Book, Fail> {
     Ok(Book::new(flights, tails, rules(alloc)?).ok_or("no book")?)
 }
 
-// Whether the numbers in a fact are of the book.
-fn is_of(book: &Book, fact: Fact) -> bool
-    ensures { IsTrue result → IsFactOf book.now fact }
-{
-    let (m, n) = (book.tails.len() as u64, book.activities.len() as u64);
-    match fact {
-        Fact::Bar(k, a) => (k as u64) < m && (a as u64) < n,
-        Fact::Must(k, a) => (k as u64) < m && (a as u64) < n,
-        Fact::Cut(a, b) => (a as u64) < n && (b as u64) < n,
-        Fact::Tie(a, b) => (a as u64) < n && (b as u64) < n,
-    }
-}
-
 // Marks with these facts.
 fn marks(alloc: Global, book: &Book, facts: &[Fact]) -> Result<Marks, Fail>
     ensures { IfOk result (AreMarksOf book.now) }
 {
     let mut marks = Marks::new(alloc, book)?;
     for fact in facts {
-        if is_of(book, *fact) {
+        if fact.is_of(book) {
             marks.add(book, *fact)?;
         }
     }
@@ -164,7 +150,7 @@ fn may_end(
 // Whether marks with these facts have a fact.
 fn has(alloc: Global, book: &Book, facts: &[Fact], fact: Fact) -> Result<Option<bool>, Fail> {
     let marks = marks(alloc, book, facts)?;
-    if !is_of(book, fact) {
+    if !fact.is_of(book) {
         return Ok(None);
     }
     marks.facts_are_of_book(book);
@@ -256,6 +242,49 @@ fn ends_by_fact(rt: HostRuntime) -> Result<(), Fail> {
     Ok(())
 }
 
+// Whether a route fits marks with these facts; nothing where the book does not have the aircraft.
+fn fits(
+    alloc: Global,
+    book: &Book,
+    facts: &[Fact],
+    k: u32,
+    route: &[u32],
+) -> Result<Option<bool>, Fail> {
+    let marks = marks(alloc, book, facts)?;
+    if k as usize >= book.tails.len() {
+        return Ok(None);
+    }
+    Ok(Some(marks.fits(book, k, route)))
+}
+
+// Routes beside one fact: whole ones, one that is broken in its middle, one that ends too early, none at all, and numbers
+// that are no activity's.
+#[test]
+fn routes_by_fact(rt: HostRuntime) -> Result<(), Fail> {
+    let book = book(rt.alloc())?;
+    for (fact, k, route, want) in [
+        (Fact::Bar(1, 0), 0, [0, 1, 2].as_slice(), true),
+        (Fact::Bar(0, 1), 0, [0, 1, 2].as_slice(), false),
+        (Fact::Bar(0, 1), 0, [0, 3].as_slice(), true),
+        (Fact::Must(0, 1), 0, [0, 1, 2].as_slice(), true),
+        (Fact::Must(0, 1), 0, [0, 3].as_slice(), false),
+        (Fact::Must(0, 3), 0, [0, 1].as_slice(), false),
+        (Fact::Must(0, 3), 1, [0, 1].as_slice(), true),
+        (Fact::Must(0, 3), 0, [].as_slice(), false),
+        (Fact::Must(0, 3), 1, [].as_slice(), true),
+        (Fact::Cut(1, 2), 0, [0, 1, 2].as_slice(), false),
+        (Fact::Tie(1, 2), 0, [0, 1].as_slice(), false),
+        (Fact::Tie(1, 2), 0, [0, 1, 2].as_slice(), true),
+        (Fact::Cut(1, 2), 0, [0, 2].as_slice(), false),
+        (Fact::Cut(1, 2), 0, [0, 1, 5].as_slice(), false),
+        (Fact::Cut(1, 2), 0, [4_294_967_295].as_slice(), false),
+    ] {
+        let answer = fits(rt.alloc(), &book, &[fact], k, route)?;
+        assert_eq!(rt; answer, Some(want), "{fact:?}: {k} by {route:?}");
+    }
+    Ok(())
+}
+
 // What adding a fact twice answers, and which fact then stands last.
 fn added(
     alloc: Global,
@@ -264,7 +293,7 @@ fn added(
     fact: Fact,
 ) -> Result<(Added, Added, Option<Fact>), Fail> {
     let mut marks = marks(alloc, book, facts)?;
-    if !is_of(book, fact) {
+    if !fact.is_of(book) {
         return Ok((Added::Known, Added::Known, None));
     }
     let first = marks.add(book, fact)?;
@@ -343,7 +372,7 @@ fn parted(
 ) -> Result<(Option<Fact>, Option<Fact>), Fail> {
     let mut marks = marks(alloc, book, &[])?;
     let mut copy = marks.copy()?;
-    if is_of(book, here) && is_of(book, there) {
+    if here.is_of(book) && there.is_of(book) {
         marks.add(book, here)?;
         copy.add(book, there)?;
     }

@@ -7,41 +7,23 @@ ghost use Rattle.connection_net.specs.Net.{net_of};
 use super::{aircraft, names, rules};
 use crate::Net;
 use crate::laws::rows_for_each;
+use dice::Dice;
 use std::alloc::Global;
 use std::process::Abort;
 use std::test::Fail;
 use tail_book::*;
 use turn_rules::link;
 
-// Numbers that look like chance, the same ones for the same seed.
-#[derive(Drop)]
-struct Dice {
-    state: u64,
-}
-
-impl Dice {
-    fn below(&mut self, n: u32) -> u32
-        requires { 0 < n }
-        ensures { result < n }
-    {
-        self.state = self
-            .state
-            .wrapping_mul(6_364_136_223_846_793_005)
-            .wrapping_add(1_442_695_040_888_963_407);
-        (self.state >> 32) as u32 % n
+// Up to two numbers below 3, and none in half of the cases.
+fn few(dice: &mut Dice, alloc: Global) -> Result<Vec<u32>, Memory> {
+    let mut numbers = Vec::new(alloc);
+    if dice.below(2) == 0 {
+        return Ok(numbers);
     }
-
-    // Up to two numbers below 3, and none in half of the cases.
-    fn few(&mut self, alloc: Global) -> Result<Vec<u32>, Memory> {
-        let mut numbers = Vec::new(alloc);
-        if self.below(2) == 0 {
-            return Ok(numbers);
-        }
-        for _ in 0..self.below(3) {
-            numbers.push(self.below(3))?;
-        }
-        Ok(numbers)
+    for _ in 0..dice.below(3) {
+        numbers.push(dice.below(3))?;
     }
+    Ok(numbers)
 }
 
 // Two curfews, each for starts or landings of some types.
@@ -52,7 +34,7 @@ fn two_curfews(alloc: Global, dice: &mut Dice) -> Result<Vec<Curfew>, Memory> {
             airport: dice.below(3),
             from: dice.below(1440) as i64,
             to: dice.below(1440) as i64,
-            types: dice.few(alloc)?,
+            types: few(dice, alloc)?,
             starts: dice.below(2) == 0,
             landings: dice.below(2) == 0,
         })?;
@@ -77,9 +59,9 @@ fn four_tails(alloc: Global, dice: &mut Dice) -> Result<Vec<Tail>, Memory> {
     for name in names().iter().take(4) {
         let carried = (dice.below(3), dice.below(3), 1000 + dice.below(1500) as i64);
         let mut tail = aircraft(alloc, *name, &carried);
-        tail.tags = dice.few(alloc)?;
+        tail.tags = few(dice, alloc)?;
         if dice.below(4) == 0 {
-            tail.avoid = dice.few(alloc)?;
+            tail.avoid = few(dice, alloc)?;
         }
         tails.push(tail)?;
     }
@@ -96,9 +78,9 @@ fn an_activity(alloc: Global, dice: &mut Dice, id: Name, start: i64) -> Result<A
         to: if flight { to } else { from },
         start,
         end: start.saturating_add(minutes),
-        types: dice.few(alloc)?,
+        types: few(dice, alloc)?,
         tags: if dice.below(4) == 0 {
-            dice.few(alloc)?
+            few(dice, alloc)?
         } else {
             Vec::new(alloc)
         },
@@ -122,7 +104,7 @@ fn ten_activities(alloc: Global, dice: &mut Dice) -> Result<Vec<Activity>, Memor
 
 // A book of three types and airports, four aircraft and ten activities, over up to three days.
 fn book_by_chance(alloc: Global, seed: u64) -> Result<Book, Fail> {
-    let mut dice = Dice { state: seed };
+    let mut dice = Dice::new(seed);
     let rules = three_types(alloc, &mut dice)?;
     let tails = four_tails(alloc, &mut dice)?;
     let book = Book::new(ten_activities(alloc, &mut dice)?, tails, rules);

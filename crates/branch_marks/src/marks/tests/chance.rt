@@ -1,49 +1,30 @@
 //! Marks by chance: the tables say what a walk over the facts says.
 
-ghost use Rattle.std.specs.Prelude.{◌<◌};
 ghost use Rattle.branch_marks.specs.inside.MarkTables.{AreMarksOf};
 
 use super::{book, is_place_of, marks};
 use crate::{Fact, Marks};
+use dice::Dice;
 use std::alloc::Global;
 use std::test::Fail;
 use tail_book::*;
 use turn_rules::{allowed, link};
 
-// Numbers that look like chance, the same ones for the same seed.
-#[derive(Drop)]
-struct Dice {
-    state: u64,
+fn fact(dice: &mut Dice) -> Fact {
+    match dice.below(4) {
+        0 => Fact::Bar(dice.below(2), dice.below(5)),
+        1 => Fact::Must(dice.below(2), dice.below(5)),
+        2 => Fact::Cut(dice.below(5), dice.below(5)),
+        _ => Fact::Tie(dice.below(5), dice.below(5)),
+    }
 }
 
-impl Dice {
-    fn below(&mut self, n: u32) -> u32
-        requires { 0 < n }
-        ensures { result < n }
-    {
-        self.state = self
-            .state
-            .wrapping_mul(6_364_136_223_846_793_005)
-            .wrapping_add(1_442_695_040_888_963_407);
-        (self.state >> 32) as u32 % n
+fn facts(dice: &mut Dice, alloc: Global) -> Result<Vec<Fact>, Memory> {
+    let mut facts = Vec::new(alloc);
+    for _ in 0..dice.below(7) {
+        facts.push(fact(dice))?;
     }
-
-    fn fact(&mut self) -> Fact {
-        match self.below(4) {
-            0 => Fact::Bar(self.below(2), self.below(5)),
-            1 => Fact::Must(self.below(2), self.below(5)),
-            2 => Fact::Cut(self.below(5), self.below(5)),
-            _ => Fact::Tie(self.below(5), self.below(5)),
-        }
-    }
-
-    fn facts(&mut self, alloc: Global) -> Result<Vec<Fact>, Memory> {
-        let mut facts = Vec::new(alloc);
-        for _ in 0..self.below(7) {
-            facts.push(self.fact())?;
-        }
-        Ok(facts)
-    }
+    Ok(facts)
 }
 
 fn is_at(from: Place, a: u32) -> bool {
@@ -186,9 +167,9 @@ fn compare(alloc: Global, book: &Book, facts: &[Fact], k: u32) -> Result<(bool, 
 #[test]
 fn tables_say_what_the_facts_say(rt: HostRuntime) -> Result<(), Fail> {
     let book = book(rt.alloc())?;
-    let (mut dice, mut usable) = (Dice { state: 1 }, 0u32);
+    let (mut dice, mut usable) = (Dice::new(1), 0u32);
     for _ in 0..200 {
-        let facts = dice.facts(rt.alloc())?;
+        let facts = facts(&mut dice, rt.alloc())?;
         for k in 0..2 {
             let (same, found) = compare(rt.alloc(), &book, &facts, k)?;
             assert!(rt; same, "{facts:?}: aircraft {k}");

@@ -1,0 +1,36 @@
+-- What calls on a log say of the events that it tells, from before to after. All but `IsLater` speak of a log that has not
+-- ceased by the call's end, and of each list that it told before.
+use Rattle.std.specs.Prelude.{ℕ, false, ◌≡◌, ◌⊎◌, ◌^◌, ◌-◌, ◌<◌, ◌≤◌, List, ◌∷◌, ◌++◌}
+use Rattle.branch_marks.specs.declared.event.Event.{Event}
+use Rattle.branch_marks.specs.LogShown.{LogShown}
+
+-- the log tells the list with all of the due events at its end
+abbrev pub Notes : LogShown → LogShown → List Event → Type 0
+Notes old new due = (told : List Event) → new.ceased ≡ false → old.tells told → new.tells (told ++ due)
+
+-- the log tells the list as it was, or is torn between the list and the event
+abbrev pub NotesNothing : LogShown → LogShown → Event → Type 0
+NotesNothing old new event = (told : List Event) → new.ceased ≡ false → old.tells told → new.tells told ⊎ new.torn told event
+
+-- the log tells the list and then a front of the due events, and may be torn within the event that comes next
+pub record IsCut (log : LogShown) (told due : List Event) : Type 0 where
+  pub front : List Event
+  pub rest : List Event
+  pub split : due ≡ front ++ rest
+  pub state : log.tells (told ++ front) ⊎ ((next : Event) × (later : List Event) × (rest ≡ next ∷ later) × log.torn (told ++ front) next)
+
+abbrev pub NotesFront : LogShown → LogShown → List Event → Type 0
+NotesFront old new due = (told : List Event) → new.ceased ≡ false → old.tells told → IsCut new told due
+
+-- the one state comes after the other: a log that has ceased stays so, and the count of failed writes never falls
+pub record IsLater (old new : LogShown) : Type 0 where
+  pub ceases : new.ceased ≡ false → old.ceased ≡ false
+  pub counts : old.faults ≤ new.faults
+
+-- a count rose; one that stands at the greatest number of its type counts as risen
+abbrev pub HasRisen : ℕ → ℕ → Type 0
+HasRisen old new = (old < new) ⊎ (new ≡ 2 ^ 64 - 1)
+
+-- a write failed
+abbrev pub WriteHasFailed : LogShown → LogShown → Type 0
+WriteHasFailed old new = HasRisen old.faults new.faults
