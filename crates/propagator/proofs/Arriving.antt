@@ -1,25 +1,17 @@
 -- Adding Bars of one aircraft: each leaves all others the same, and those of arrivals leave even its own floors.
-use Rattle.std.specs.Prelude.{Result, Ok, Err, OnOk, OnErr, is_some, nat_eq}
-use Rattle.std.proofs.Common.{◌≡◌, ◌∙◌, ℕ, ℤ, ◌<◌, ◌+◌, true, false, inl, inr, List, [], ◌∷◌, ◌++◌, refl, sym, ap, subst, arith, get_or, below_more, Option, None, Some}
-use Rattle.std.proofs.lemmas.Bool.{and_parts, both_ways, cond-true, cond-false}
-use Rattle.std.proofs.lemmas.Bool.Decides.{eqb_tells}
+use Rattle.std.specs.Prelude.{Result, Ok, Err, OnOk, OnErr, is_some}
+use Rattle.std.proofs.Common.{◌≡◌, ◌∙◌, ℕ, ℤ, ◌<◌, true, false, List, [], ◌∷◌, ◌++◌, refl, sym, subst, Option, None, Some}
+use Rattle.std.proofs.lemmas.Bool.{and_parts, both_ways}
 use Rattle.tail_book.specs.Seen.{BookSeen}
 use Rattle.tail_book.specs.Lookup.{activities, aircraft}
 use Rattle.branch_marks.specs.declared.fact.Fact.{Fact}
 use Rattle.branch_marks.specs.declared.fact.Fact.TheVariants.{Bar}
 use Rattle.branch_marks.specs.Marks.{IsAlive}
 use Rattle.branch_marks.specs.inside.MarkTests.{is_alive, lets_fly}
-use Rattle.branch_marks.specs.Floors.{floors, FloorsCount}
-use Rattle.branch_marks.specs.MarksSeen.{MarksSeen}
-use Rattle.branch_marks.specs.inside.MarkTables.{AreMarksOf}
-use Rattle.propagator.specs.InTurn.{GrowInTurn}
 use Rattle.branch_marks.specs.Following.{IsDeadBy, IsDead}
 use Rattle.propagator.specs.inside.LeastOver.{floor_of}
-use Rattle.propagator.specs.inside.OneMore.{BarsTakeOneFloor}
 use Rattle.propagator.specs.inside.SameFor.{SameFor, BarsLeaveOthers}
-use Rattle.propagator.specs.inside.Settling.{ActsOn, ComesBelow}
-use Rattle.propagator.proofs.ComeOn.{same_list}
-use Rattle.propagator.proofs.InTurn.{grow_both}
+use Rattle.propagator.specs.inside.Settling.{ActsOn}
 use Rattle.propagator.proofs.MoreMarks.{alive_more}
 
 pub same_as_itself : (book : BookSeen) (k : ℕ) (marks : List Fact) → SameFor book k marks marks
@@ -53,15 +45,7 @@ pub at_either : {T E : Type 0} (P : List Fact → Type 0) (result : Result T E) 
 at_either P (Ok v) old new next ok err p q = subst P (sym ok) p
 at_either P (Err e) old new next ok err p q = subst P (sym err) q
 
--- Bars of arrivals have been added as far as n
-pub record IsArriving (book : BookSeen) (k n : ℕ) (old new : MarksSeen) (listed listing : List Fact) : Type 0 where
-  pub marks : AreMarksOf book new
-  pub grows : GrowInTurn book old.facts new.facts listed listing
-  pub acts : ActsOn book k old.facts new.facts
-  pub same : floors book new.facts k ≡ floors book old.facts k
-  pub comes : ComesBelow book new.facts k n
-
-none_of : (floor : Option (List ℤ)) → is_some floor ≡ false → floor ≡ None
+pub none_of : (floor : Option (List ℤ)) → is_some floor ≡ false → floor ≡ None
 none_of None e = refl
 none_of (Some values) e = absurd (both_ways true e refl)
 
@@ -72,30 +56,4 @@ dead_arrival book marks k a hk ha alive none = record {
   of_book = (hk, ha);
   alive = alive;
   dead = subst (λ (floor : Option (List ℤ)). IsDeadBy book marks k a floor) (sym (none_of (floor_of book marks k a) none)) tt;
-}
-
--- a Bar where there is no floor leaves all floors
-pub arrival_floors : BarsTakeOneFloor → FloorsCount → (book : BookSeen) (marks : List Fact) (k c : ℕ) → IsDead book marks k c → is_some (floor_of book marks k c) ≡ false
-    → floors book (marks ++ Bar k c ∷ []) k ≡ floors book marks k
-arrival_floors one count book marks k c dead none =
-    let more = count book (marks ++ Bar k c ∷ []) k in
-    let same = count book marks k in
-    same_list (floors book (marks ++ Bar k c ∷ []) k) (floors book marks k) None (omega (arith, more, same))
-    (λ i lt. one book marks k c dead i (omega (arith, more, lt)) ∙ elim (eqb_tells i c) [
-      | inl here ↦ (cond-true (nat_eq i c) None (floor_of book marks k i) here.0
-          ∙ sym (ap (λ (z : ℕ). floor_of book marks k z) here.1 ∙ none_of (floor_of book marks k c) none))
-      | inr other ↦ cond-false (nat_eq i c) None (floor_of book marks k i) other.0
-    ])
-
--- one more activity is looked at
-pub arrive_next : (book : BookSeen) (k n : ℕ) (a b c : MarksSeen) (l m o : List Fact) → n < activities book → IsArriving book k n a b l m
-    → AreMarksOf book c → GrowInTurn book b.facts c.facts m o → ActsOn book k b.facts c.facts → floors book c.facts k ≡ floors book b.facts k
-    → (is_alive book c.facts k n ≡ true → is_some (floor_of book c.facts k n) ≡ true) → IsArriving book k (n + 1) a c l o
-arrive_next book k n a b c l m o lt so_far marks grows acts same comes = record {
-  marks = marks;
-  grows = grow_both book a.facts b.facts c.facts l m o so_far.grows grows;
-  acts = acts_on book k a.facts b.facts c.facts so_far.acts acts;
-  same = same ∙ so_far.same;
-  comes = below_more (λ (x : ℕ). is_alive book c.facts k x ≡ true → is_some (floor_of book c.facts k x) ≡ true) n
-      (λ x less alive. ap (λ (listed : List (Option (List ℤ))). is_some (get_or listed x None)) same ∙ so_far.comes x less (acts.fewer x alive)) comes;
 }

@@ -2,13 +2,16 @@
 -- Where it had one, no step from it stayed within the limits. So c brought nothing to any other activity, and without it
 -- each of these has the same least; at c itself nothing may arrive any more.
 use Rattle.std.specs.Prelude.{◌≢◌, ◌&&◌, nat_eq, if◌then◌else◌}
-use Rattle.std.proofs.Common.{◌≡◌, ◌∙◌, ℕ, ℤ, ◌<◌, inl, inr, arith, List, [], ◌∷◌, ◌++◌, refl, sym, ap, subst, Option, None, Some}
+use Rattle.std.proofs.Common.{◌≡◌, ◌∙◌, ℕ, ℤ, ◌<◌, true, false, inl, inr, arith, List, [], ◌∷◌, ◌++◌, refl, sym, ap, subst, Option, None, Some}
 use Rattle.std.specs.List.{range_with_len}
-use Rattle.std.proofs.lemmas.Bool.{cond-true, cond-false, and_parts, false_from_ne_true, ne_eqb}
+use Rattle.std.proofs.lemmas.Bool.{both_ways, cond-true, cond-false, and_parts, false_from_ne_true, ne_eqb}
 use Rattle.std.proofs.lemmas.Bool.Decides.{eqb_tells}
 use Rattle.tail_book.specs.Seen.{BookSeen}
 use Rattle.tail_book.specs.declared.place.Place.TheVariants.{Carry, After}
 use Rattle.tail_book.specs.Lookup.{activities, carry_of}
+use Rattle.tail_book.specs.Numbers.{contains}
+use Rattle.connection_net.specs.inside.Laws.{PredecessorsAreLinks}
+use Rattle.connection_net.specs.Net.{net_of, predecessors_in}
 use Rattle.tail_book.specs.Counters.{step}
 use Rattle.tail_book.specs.inside.Rising.{LinksRise}
 use Rattle.tail_book.specs.inside.Sound.{IsBook}
@@ -21,6 +24,7 @@ use Rattle.branch_marks.specs.Following.{IsDeadBy, IsDead}
 use Rattle.propagator.specs.inside.LeastOver.{floor_of, least_over, brought_first, brought, least_at, FloorsAreLeast, LeastAreFloors}
 use Rattle.propagator.specs.inside.OneMore.{BarsTakeOneFloor}
 use Rattle.propagator.proofs.LeastOver.{least_same, least_none}
+use Rattle.propagator.proofs.RightRows.{no_predecessor, dead_back}
 use Rattle.propagator.proofs.MoreMarks.{end_kept, unusable_without, unusable_brings, same_brings, barred, elsewhere_alive, elsewhere_usable, first_usable}
 
 -- from what is dead nothing goes on
@@ -100,3 +104,23 @@ module _ (one_taken : BarsTakeOneFloor) (rise : LinksRise) (alive : AliveDecides
             (subst (λ (floor : Option (List ℤ)). IsDeadBy book (marks ++ Bar k c ∷ []) k a floor)
             (one_taken book marks k c dead a d.of_book.1 ∙ cond-false (nat_eq a c) None (floor_of book marks k a) (ne_eqb a c apart)) d.dead);
       }
+
+-- but for the activity itself, only what went on to it may be dead that was not
+module _ (one_taken : BarsTakeOneFloor) (pred : PredecessorsAreLinks) (alive : AliveDecides) (usable : UsableDecides) (ends : MayEndDecides)
+    (book : BookSeen) (marks : List Fact) (k c : ℕ) (dead : IsDead book marks k c) (a : ℕ) (apart : a ≢ c)
+    (out : contains (predecessors_in (net_of book) c) a ≡ false) where
+  goes_still : (b : ℕ) → b < activities book → is_usable book marks k (After a) b ≡ true → is_usable book (marks ++ Bar k c ∷ []) k (After a) b ≡ true
+  goes_still b lt t = elim (eqb_tells b c) [
+    | inl here ↦ absurd (both_ways (is_usable book marks k (After a) b)
+        (ap (λ (z : ℕ). is_usable book marks k (After a) z) here.1 ∙ no_predecessor pred usable book marks k a c out) t)
+    | inr other ↦ (elsewhere_usable book marks k c a b apart other.1 ∙ t)
+  ]
+
+  pub dead_apart : IsDead book (marks ++ Bar k c ∷ []) k a → IsDead book marks k a
+  dead_apart d = record {
+    of_book = d.of_book;
+    alive = (alive book marks k a).0 (sym (elsewhere_alive book marks k c a apart) ∙ (alive book (marks ++ Bar k c ∷ []) k a).1 d.alive);
+    dead = dead_back usable ends book marks (marks ++ Bar k c ∷ []) k a (end_kept book marks (Bar k c) k (After a) refl) goes_still (floor_of book marks k a)
+        (subst (λ (floor : Option (List ℤ)). IsDeadBy book (marks ++ Bar k c ∷ []) k a floor)
+        (one_taken book marks k c dead a d.of_book.1 ∙ cond-false (nat_eq a c) None (floor_of book marks k a) (ne_eqb a c apart)) d.dead);
+  }

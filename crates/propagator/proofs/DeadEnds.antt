@@ -1,7 +1,7 @@
 -- Going over the dead ends of one aircraft from the last activity to the first.
-use Rattle.std.specs.Prelude.{IsTrue, not, is_some, nat_eq}
-use Rattle.std.proofs.Common.{◌≡◌, ◌∙◌, ℕ, ℤ, ◌<◌, ◌≤◌, ◌+◌, Bool, true, false, inl, inr, List, [], ◌∷◌, ◌++◌, refl, sym, ap, subst, arith, get_or, length, Option, None, Some}
-use Rattle.std.proofs.lemmas.Bool.{both_ways, cond-true, cond-false, false_from_ne_true, cases_order}
+use Rattle.std.specs.Prelude.{◌≢◌, IsTrue, not, is_some, nat_eq}
+use Rattle.std.proofs.Common.{◌≡◌, ◌∙◌, ℕ, ℤ, ◌<◌, ◌+◌, Bool, true, false, inl, inr, List, [], ◌∷◌, ◌++◌, refl, sym, ap, subst, arith, get_or, length, Option, None, Some}
+use Rattle.std.proofs.lemmas.Bool.{both_ways, cond-true, cond-false, false_from_ne_true, true_from_ne_false, cases_order}
 use Rattle.std.proofs.Math.ListN.{set}
 use Rattle.std.proofs.lemmas.List.{length-set, get_or-set_other}
 use Rattle.std.proofs.lemmas.Grind.{get_or-set_at}
@@ -21,11 +21,14 @@ use Rattle.propagator.specs.inside.FloorRow.{FloorRowSeen}
 use Rattle.propagator.specs.InTurn.{GrowInTurn}
 use Rattle.propagator.specs.inside.LeastOver.{floor_of}
 use Rattle.propagator.specs.inside.Neighbours.{goes_on_from, SuccessorsTell}
-use Rattle.propagator.specs.inside.OneMore.{BarsTakeOneFloor}
-use Rattle.propagator.specs.inside.Settling.{ActsOn, ComesBelow}
+use Rattle.propagator.specs.inside.OneMore.{BarsTakeOneFloor, BarsKillNothingLater, BarsKillPredecessors}
+use Rattle.propagator.specs.inside.Settling.{ActsOn}
+use Rattle.propagator.specs.inside.Touching.{is_set, AreSetToo, IsAskedBelow}
+use Rattle.tail_book.specs.inside.Sound.{IsBook}
+use Rattle.connection_net.specs.Net.{net_of, predecessors_in}
 use Rattle.propagator.proofs.ComeOn.{same_list}
 use Rattle.propagator.proofs.InTurn.{grow_both}
-use Rattle.propagator.proofs.MoreMarks.{barred, elsewhere_alive}
+use Rattle.propagator.proofs.MoreMarks.{barred}
 use Rattle.propagator.proofs.Arriving.{acts_on}
 
 not_true : (g : Bool) → IsTrue (not g) → g ≡ false
@@ -70,48 +73,61 @@ end_floors one count book marks k c lt dead listed are =
           ∙ sym (one book marks k c dead i (omega (arith, less, kept, all, same)) ∙ cond-false (nat_eq i c) None (floor_of book marks k i) other.0))
     ])
 
--- what stays alive keeps its floor
-pub end_comes : BarsTakeOneFloor → (book : BookSeen) (marks : List Fact) (k c : ℕ) → IsDead book marks k c
-    → ComesBelow book marks k (activities book) → ComesBelow book (marks ++ Bar k c ∷ []) k (activities book)
-end_comes one book marks k c dead comes a lt alive = elim (eqb_tells a c) [
-  | inl here ↦ absurd (both_ways (is_alive book (marks ++ Bar k c ∷ []) k a)
-      (ap (λ (z : ℕ). is_alive book (marks ++ Bar k c ∷ []) k z) here.1 ∙ barred book marks k c) alive)
-  | inr other ↦ (
-      ap is_some (one book marks k c dead a lt ∙ cond-false (nat_eq a c) None (floor_of book marks k a) other.0)
-      ∙ comes a lt (sym (elsewhere_alive book marks k c a other.1) ∙ alive))
-]
-
 -- what is barred is not dead, since it is not alive
 pub end_ended : AliveDecides → (book : BookSeen) (marks : List Fact) (k c : ℕ) → ¬ IsDead book (marks ++ Bar k c ∷ []) k c
 end_ended alive book marks k c d = both_ways (is_alive book (marks ++ Bar k c ∷ []) k c) (barred book marks k c) ((alive book (marks ++ Bar k c ∷ []) k c).1 d.alive)
 
--- the dead ends from n on have been barred
-pub record IsEnding (book : BookSeen) (k n : ℕ) (old new : MarksSeen) (listed listing : List Fact) (first row : FloorRowSeen) : Type 0 where
+-- with a Bar, what is dead is to be asked, and comes before: it was dead before, or went on to what is barred now
+pub bar_asked : BarsKillNothingLater → BarsKillPredecessors → AliveDecides → (book : BookSeen) → IsBook book → (marks : List Fact) (k c : ℕ) (ask ask' : List Bool)
+    → IsDead book marks k c → AreSetToo (predecessors_in (net_of book) c) ask ask' → IsAskedBelow book marks k (c + 1) ask
+    → IsAskedBelow book (marks ++ Bar k c ∷ []) k c ask'
+bar_asked later apart alive book sound marks k c ask ask' dead more asked a d = (
+  true_from_ne_false (is_set ask' a) (λ off.
+      let (off', out) = more a off in
+      both_ways (is_set ask a) off' (asked a (apart book marks k c dead a (λ same. not_here same) out d)).0),
+  before,
+)
+  where
+    not_here : a ≢ c
+    not_here same = end_ended alive book marks k c (subst (λ (z : ℕ). IsDead book (marks ++ Bar k c ∷ []) k z) same d)
+
+    before : a < c
+    before = elim (cases_order a c) [
+      | inl same ↦ absurd (not_here same)
+      | inr o ↦ elim o [
+        | inl less ↦ less
+        | inr more ↦ (let under = (asked a (later book sound marks k c dead a more d)).1 in absurd (omega (arith, more, under)))
+      ]
+    ]
+
+-- what is not dead need not be asked
+pub not_asked : (book : BookSeen) (marks : List Fact) (k c : ℕ) (ask : List Bool) → ¬ IsDead book marks k c → IsAskedBelow book marks k (c + 1) ask → IsAskedBelow book marks k c ask
+not_asked book marks k c ask not asked a d =
+    let (on, under) = asked a d in
+    let apart : a ≢ c = λ same. not (subst (λ (z : ℕ). IsDead book marks k z) same d) in
+    (on, omega (arith, under, apart))
+
+pub not_set : (book : BookSeen) (marks : List Fact) (k c : ℕ) (ask : List Bool) → is_set ask c ≡ false → IsAskedBelow book marks k (c + 1) ask → IsAskedBelow book marks k c ask
+not_set book marks k c ask off asked = not_asked book marks k c ask (λ d. both_ways (is_set ask c) off (asked c d).0) asked
+
+-- what is dead from n on has been barred
+pub record IsEnding (book : BookSeen) (k n : ℕ) (old new : MarksSeen) (listed listing : List Fact) (first row : FloorRowSeen) (ask : List Bool) : Type 0 where
   pub marks : AreMarksOf book new
   pub grows : GrowInTurn book old.facts new.facts listed listing
   pub acts : ActsOn book k old.facts new.facts
   pub width : row.width ≡ first.width
   pub same : row.floors ≡ floors book new.facts k
-  pub comes : ComesBelow book new.facts k (activities book)
-  pub ended : (x : ℕ) → n ≤ x → x < activities book → ¬ IsDead book new.facts k x
+  pub asked : IsAskedBelow book new.facts k n ask
 
 -- one activity further to the front
-pub end_next : (book : BookSeen) (k n x : ℕ) (a b c : MarksSeen) (l m o : List Fact) (first row new : FloorRowSeen) → n ≡ x + 1
-    → IsEnding book k n a b l m first row → AreMarksOf book c → GrowInTurn book b.facts c.facts m o → ActsOn book k b.facts c.facts
-    → new.width ≡ row.width → new.floors ≡ floors book c.facts k → ComesBelow book c.facts k (activities book) → ¬ IsDead book c.facts k x
-    → ((y : ℕ) → x < y → IsDead book c.facts k y → IsDead book b.facts k y) → IsEnding book k x a c l o first new
-end_next book k n x a b c l m o first row new e so_far marks grows acts width same comes ended later = record {
+pub end_next : (book : BookSeen) (k n x : ℕ) (a b c : MarksSeen) (l m o : List Fact) (first row new : FloorRowSeen) (ask ask' : List Bool)
+    → IsEnding book k n a b l m first row ask → AreMarksOf book c → GrowInTurn book b.facts c.facts m o → ActsOn book k b.facts c.facts
+    → new.width ≡ row.width → new.floors ≡ floors book c.facts k → IsAskedBelow book c.facts k x ask' → IsEnding book k x a c l o first new ask'
+end_next book k n x a b c l m o first row new ask ask' so_far marks grows acts width same asked = record {
   marks = marks;
   grows = grow_both book a.facts b.facts c.facts l m o so_far.grows grows;
   acts = acts_on book k a.facts b.facts c.facts so_far.acts acts;
   width = width ∙ so_far.width;
   same = same;
-  comes = comes;
-  ended = λ y le lt d. elim (cases_order x y) [
-    | inl here ↦ ended (subst (λ (z : ℕ). IsDead book c.facts k z) (sym here) d)
-    | inr o ↦ elim o [
-      | inl less ↦ so_far.ended y (omega (arith, e, less)) lt (later y less d)
-      | inr more ↦ absurd (omega (arith, le, more))
-    ]
-  ];
+  asked = asked;
 }

@@ -1,12 +1,12 @@
 -- Judging a link by going over the aircraft, and cutting links one after the other.
-use Rattle.std.specs.Prelude.{nat_eq}
+use Rattle.std.specs.Prelude.{nat_eq, ◌&&◌}
 use Rattle.std.proofs.lemmas.List.Elements.{Contains-push}
 use Rattle.tail_book.specs.Numbers.{contains}
 use Rattle.connection_net.specs.inside.Laws.{SuccessorsAreLinks}
 use Rattle.connection_net.specs.Net.{net_of, successors_in}
-use Rattle.std.proofs.Common.{◌≡◌, ◌∙◌, ℕ, ℤ, ◌<◌, ◌+◌, suc, inl, inr, Bool, true, false, List, [], ◌∷◌, ◌++◌, length, get_or, refl, sym, ap, subst, arith, below_more, Option, None, Some}
+use Rattle.std.proofs.Common.{◌≡◌, ◌∙◌, ℕ, ℤ, ◌<◌, ◌≤◌, ◌+◌, suc, inl, inr, Bool, true, false, List, [], ◌∷◌, ◌++◌, length, get_or, refl, sym, ap, subst, arith, below_more, Option, None, Some}
 use Rattle.std.proofs.lemmas.List.{get_or_default}
-use Rattle.std.proofs.lemmas.Bool.{both_ways, and_from, and_parts, or_cases, eqb-true}
+use Rattle.std.proofs.lemmas.Bool.{both_ways, and_from, and_parts, or_cases, eqb-true, cases_order}
 use Rattle.tail_book.specs.Seen.{BookSeen}
 use Rattle.tail_book.specs.declared.place.Place.TheVariants.{After}
 use Rattle.tail_book.specs.Lookup.{aircraft}
@@ -15,7 +15,7 @@ use Rattle.tail_book.specs.inside.Tests.{within_limits, LimitsDecide}
 use Rattle.branch_marks.specs.declared.fact.Fact.{Fact}
 use Rattle.branch_marks.specs.declared.fact.Fact.TheVariants.{Bar, Must, Cut, Tie}
 use Rattle.branch_marks.specs.Marks.{IsUsable}
-use Rattle.branch_marks.specs.inside.MarkTests.{is_usable, UsableDecides}
+use Rattle.branch_marks.specs.inside.MarkTests.{is_alive, is_usable, AliveDecides, UsableDecides}
 use Rattle.branch_marks.specs.MarksSeen.{MarksSeen}
 use Rattle.branch_marks.specs.inside.MarkTables.{AreMarksOf}
 use Rattle.branch_marks.specs.Floors.{floors, FloorsCount}
@@ -63,6 +63,11 @@ module _ (usable : UsableDecides) (limits : LimitsDecide) (book : BookSeen) (mar
       → CannotGoBy book k a b (floor_of book marks k a)
   cannot_over floor e g some off link = subst (λ (f : Option (List ℤ)). CannotGoBy book k a b f) e (cannot_by floor g some off link)
 
+-- over a link that the aircraft may use, the step alone decides
+pub by_step : (book : BookSeen) (marks : List Fact) (k a b : ℕ) (low : List ℤ) (g : Bool) → is_usable book marks k (After a) b ≡ true
+    → g ≡ within_limits book.rules.counters (step book k (After a) b low) → g ≡ goes_on_to book marks k a low b
+by_step book marks k a b low g on e = e ∙ sym (ap (λ (t : Bool). t && within_limits book.rules.counters (step book k (After a) b low)) on)
+
 -- the row of an aircraft has its floors
 pub row_floor : (book : BookSeen) (marks : List Fact) (rows : List FloorRowSeen) (k a : ℕ) (row : FloorRowSeen) → AreFloorsOf book marks rows → k < aircraft book
     → k < length rows → row ≡ get_or rows k row → floor_in row a ≡ floor_of book marks k a
@@ -85,6 +90,37 @@ asked_unused book marks a b n used now asked not e = record {
   some = λ on. asked.some (sym e ∙ on);
   none = λ off. below_more (λ (k : ℕ). ¬ IsUsable book marks k (After a) b) n (asked.none (sym e ∙ off)) not;
   dead = below_more (λ (k : ℕ). IsUsable book marks k (After a) b → CannotGoBy book k a b (floor_of book marks k a)) n asked.dead (λ link. absurd (not link));
+}
+
+-- those from n to m are not alive at a, so none of them may use the link
+module _ (alive : AliveDecides) (book : BookSeen) (marks : List Fact) (a b n m : ℕ) (gap : (k : ℕ) → n ≤ k → k < m → is_alive book marks k a ≡ false) where
+  not_there : (k : ℕ) → n ≤ k → k < m → ¬ IsUsable book marks k (After a) b
+  not_there k le lt link = both_ways (is_alive book marks k a) (gap k le lt) ((alive book marks k a).1 link.before)
+
+  pub asked_on : (used : Bool) → AreAsked book marks a b n used → AreAsked book marks a b m used
+  asked_on used asked = record {
+    some = asked.some;
+    none = λ off k lt. elim (cases_order k n) [
+      | inl same ↦ not_there k (omega (arith, same)) lt
+      | inr o ↦ elim o [
+        | inl less ↦ asked.none off k less
+        | inr more ↦ not_there k (omega (arith, more)) lt
+      ]
+    ];
+    dead = λ k lt link. elim (cases_order k n) [
+      | inl same ↦ absurd (not_there k (omega (arith, same)) lt link)
+      | inr o ↦ elim o [
+        | inl less ↦ asked.dead k less link
+        | inr more ↦ absurd (not_there k (omega (arith, more)) lt link)
+      ]
+    ];
+  }
+
+pub asked_none : (book : BookSeen) (marks : List Fact) (a b : ℕ) → AreAsked book marks a b 0 false
+asked_none book marks a b = record {
+  some = λ on. absurd (both_ways false refl on);
+  none = λ _ k lt. absurd (omega (arith, lt));
+  dead = λ k lt. absurd (omega (arith, lt));
 }
 
 pub nothing_itself : (book : BookSeen) (marks : List Fact) → NothingNewFollows book marks marks
@@ -131,7 +167,7 @@ pub never_new : (book : BookSeen) (old new : List Fact) (a b : ℕ) → NothingN
 never_new book old new a b nothing not dead = not (nothing (Cut a b) dead)
 
 -- what a list contains stands at some number
-stands_at : (xs : List ℕ) (y : ℕ) → contains xs y ≡ true → (i : ℕ) × (i < length xs) × (get_or xs i 0 ≡ y)
+pub stands_at : (xs : List ℕ) (y : ℕ) → contains xs y ≡ true → (i : ℕ) × (i < length xs) × (get_or xs i 0 ≡ y)
 stands_at [] y h = absurd (both_ways false refl h)
 stands_at (x ∷ xs) y h = elim (or_cases (nat_eq y x) (contains xs y) h) [
   | inl t ↦ (0, omega arith, sym (eqb-true y x t))

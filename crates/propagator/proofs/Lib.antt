@@ -14,3 +14,10 @@ pub mod Settled
 pub mod OnlyCarriers
 pub mod DeadLinks
 pub mod Shut
+pub mod SeenFront
+pub mod RightRows
+pub mod FactsTouch
+pub mod SetFlags
+pub mod RenewedFloors
+pub mod MovedFloors
+pub mod StillGoing

@@ -1,23 +1,18 @@
 -- A usable link is a link, so it is one of the network. The predecessors of b rise, and what is not among them brings nothing:
 -- so the least over them is the least over all numbers below b.
-use Rattle.std.specs.Prelude.{⊤, All, ◌||◌, nat_eq, if◌then◌else◌}
-use Rattle.std.proofs.Common.{◌≡◌, ◌∙◌, ℕ, zero, suc, ℤ, pos, ◌≤ℤ◌, ◌+◌, ◌<◌, ◌≤◌, inl, inr, Bool, true, false, arith, List, [], ◌∷◌, length, get_or, refl, sym, ap, subst, Option, None}
-use Rattle.std.specs.Int.{int_max}
+use Rattle.std.specs.Prelude.{⊤, All, ◌||◌, nat_eq}
+use Rattle.std.proofs.Common.{◌≡◌, ◌∙◌, ℕ, zero, suc, ℤ, ◌+◌, ◌<◌, ◌≤◌, inl, inr, Bool, true, false, arith, List, [], ◌∷◌, length, get_or, refl, sym, ap, subst, Option, None}
 use Rattle.std.specs.List.{list_any, range_with_len}
 use Rattle.std.proofs.lemmas.Bool.{cases_order, both_ways, eq-eqb, eqb-true, ne_eqb, and_parts, and_from, or_left, or_right, or_cases, false_from_ne_true}
-use Rattle.std.proofs.lemmas.Int.{ints, int_max_is}
-use Rattle.std.proofs.lemmas.List.Elements.{All-get_or}
 use Rattle.tail_book.specs.Seen.{BookSeen}
 use Rattle.tail_book.specs.declared.place.Place.{Place}
 use Rattle.tail_book.specs.declared.place.Place.TheVariants.{Carry, After}
-use Rattle.tail_book.specs.Lookup.{activities, aircraft, no_tail, no_type, kind_of}
+use Rattle.tail_book.specs.Lookup.{activities}
 use Rattle.tail_book.specs.Numbers.{contains}
-use Rattle.tail_book.specs.Link.{IsLink, turn_time}
 use Rattle.tail_book.specs.inside.Rising.{IsRisingFrom, LinksRise}
 use Rattle.tail_book.specs.Counters.{step}
-use Rattle.tail_book.specs.inside.Sound.{IsBook, IsKind}
+use Rattle.tail_book.specs.inside.Sound.{IsBook}
 use Rattle.tail_book.specs.inside.Tests.{within_limits, LimitsDecide}
-use Rattle.turn_rules.specs.inside.FreeBefore.{IsFreeBefore}
 use Rattle.connection_net.specs.inside.Laws.{PredecessorsAreLinks, SuccessorsAreLinks, RowsRise}
 use Rattle.connection_net.specs.Net.{net_of, predecessors_in, successors_in}
 use Rattle.branch_marks.specs.declared.fact.Fact.{Fact}
@@ -27,22 +22,6 @@ use Rattle.propagator.specs.inside.LeastOver.{least_over, brought}
 use Rattle.propagator.specs.inside.Neighbours.{goes_on_to, goes_on_from, SuccessorsTell}
 use Rattle.propagator.proofs.LeastOver.{least_none}
 use Rattle.propagator.proofs.MoreMarks.{unusable_brings}
-
--- a turn takes no less than no time
-chosen : (t : Bool) (z w : ℤ) → pos 0 ≤ℤ z → pos 0 ≤ℤ (if t then int_max z w else pos 0)
-chosen true z w h = omega (arith, ints, int_max_is z w)
-chosen false z w h = omega (arith, ints)
-
-turn_takes : (book : BookSeen) → IsBook book → (k : ℕ) → k < aircraft book → (x : Place) (b : ℕ) → pos 0 ≤ℤ turn_time book k x b
-turn_takes book sound k lt Carry b = omega (arith, ints)
-turn_takes book sound k lt (After x) b =
-    chosen _ _ _ (All-get_or IsKind book.rules.kinds (kind_of book k) no_type (sound.tails k no_tail lt).kind sound.rules.kinds).turn.least
-
-pub time_left : (book : BookSeen) → IsBook book → (k : ℕ) (x : Place) (b : ℕ) → IsLink book k x b → IsFreeBefore book k x b
-time_left book sound k x b link =
-    let turn = turn_takes book sound k link.after.aircraft x b in
-    let time = link.time in
-    omega (arith, ints, turn, time)
 
 -- the numbers of the list rise, from x on
 RisesFrom : ℕ → List ℕ → Type 0
@@ -132,6 +111,11 @@ pub of_book : ((book : BookSeen) → RowsRise book) → (book : BookSeen) (a : �
 of_book rows book a = λ i d within.
     rising_below (activities book) Carry (successors_in (net_of book) a) (get_or (successors_in (net_of book) a) i d) ((rows book).successors a)
     (contained (successors_in (net_of book) a) i d within)
+
+pub before_of_book : ((book : BookSeen) → RowsRise book) → (book : BookSeen) (b : ℕ) → All (λ a. a < activities book) (predecessors_in (net_of book) b)
+before_of_book rows book b = λ i d within.
+    rising_below (activities book) Carry (predecessors_in (net_of book) b) (get_or (predecessors_in (net_of book) b) i d) ((rows book).predecessors b)
+    (contained (predecessors_in (net_of book) b) i d within)
 
 -- a test that holds of what is contained holds of some, and one that holds of none holds of nothing contained
 some_holds : (p : ℕ → Bool) (xs : List ℕ) (y : ℕ) → contains xs y ≡ true → p y ≡ true → list_any p xs ≡ true

@@ -1,7 +1,7 @@
 -- An activity has an only carrier where the first aircraft that is alive there is the last one too, and no Must names it. A
 -- Must gives the activity to that aircraft, so that one activity less is unnamed from then on.
 use Rattle.std.specs.Prelude.{Result, Ok, Err, OnOk, ◌≢◌, Contains, nat_eq, if◌then◌else◌}
-use Rattle.std.proofs.Common.{◌≡◌, ◌∙◌, ℕ, zero, suc, ◌<◌, ◌≤◌, ◌+◌, Bool, true, false, inl, inr, List, [], ◌∷◌, ◌++◌, refl, sym, ap, subst, arith}
+use Rattle.std.proofs.Common.{◌≡◌, ◌∙◌, ℕ, zero, suc, ◌<◌, ◌≤◌, ◌+◌, Bool, true, false, inl, inr, List, [], ◌∷◌, ◌++◌, refl, sym, ap, subst, arith, below_more}
 use Rattle.std.proofs.lemmas.Bool.{both_ways, cases_order, or_left, or_right, or_cases, and_from, eq-eqb, false_from_ne_true}
 use Rattle.std.proofs.lemmas.List.Elements.{All-contains}
 use Rattle.std.proofs.lemmas.List.Folds.{list_any-append}
@@ -15,11 +15,15 @@ use Rattle.branch_marks.specs.Marks.{LetsFly}
 use Rattle.branch_marks.specs.inside.MarkTests.{is_alive, AliveDecides}
 use Rattle.branch_marks.specs.Following.{IsOnlyCarrier}
 use Rattle.std.proofs.lemmas.Bool.Decides.{eqb_tells}
-use Rattle.propagator.specs.inside.FloorRow.{FloorRowSeen, ChangesOnly}
+use Rattle.branch_marks.specs.MarksSeen.{MarksSeen}
+use Rattle.branch_marks.specs.inside.MarkTables.{AreMarksOf}
+use Rattle.propagator.specs.InTurn.{GrowInTurn}
+use Rattle.propagator.specs.inside.FloorRow.{FloorRowSeen, AreRowsOf, ChangesOnly}
 use Rattle.propagator.specs.inside.SameFor.{SameFor, SameFloors, SameDead, MustsLeaveOthers}
 use Rattle.propagator.specs.inside.Settling.{ActsOn, StandsFor, StandBelow}
 use Rattle.propagator.proofs.Arriving.{same_on}
-use Rattle.propagator.proofs.Settled.{stands_on}
+use Rattle.propagator.proofs.InTurn.{grow_both}
+use Rattle.propagator.proofs.Settled.{AreSettling, stands_on}
 use Rattle.propagator.specs.inside.Unnamed.{is_named, unnamed}
 
 module _ (alive : AliveDecides) (book : BookSeen) (marks : List Fact) (a : ℕ) where
@@ -159,3 +163,36 @@ carried same_floors same_dead leave alive book marks mid new k a rows next carri
       (acts.others j apart.1))
       (others j apart.1) (stand j lt)
 ]
+
+-- all aircraft are settled, while activities are given to their only carriers: where none was found, those below a have none
+pub record AreCarrying (book : BookSeen) (old new : MarksSeen) (listed listing : List Fact) (rows : List FloorRowSeen) (found : Bool) (a : ℕ) : Type 0 where
+  pub settling : AreSettling book (aircraft book) old new listed listing rows
+  pub fewer : unnamed book new.facts ≤ unnamed book old.facts
+  pub some : found ≡ true → unnamed book new.facts < unnamed book old.facts
+  pub none : found ≡ false → (k c : ℕ) → c < a → ¬ IsOnlyCarrier book new.facts k c
+
+-- one was found at a, and given its activity
+pub carry_found : (book : BookSeen) (old mid new : MarksSeen) (listed half listing : List Fact) (rows next : List FloorRowSeen) (was some : Bool) (a : ℕ)
+    → AreCarrying book old mid listed half rows was a → AreMarksOf book new → GrowInTurn book mid.facts new.facts half listing → AreRowsOf book next
+    → StandBelow book new.facts next (aircraft book) → unnamed book new.facts < unnamed book mid.facts → some ≡ true → AreCarrying book old new listed listing next some (a + 1)
+carry_found book old mid new listed half listing rows next was some a so_far marks grows room stand less is = record {
+  settling = record {
+    marks = marks;
+    grows = grow_both book old.facts mid.facts new.facts listed half listing so_far.settling.grows grows;
+    room = room;
+    stand = stand;
+  };
+  fewer = (let up_to = so_far.fewer in omega (arith, less, up_to));
+  some = λ _. (let up_to = so_far.fewer in omega (arith, less, up_to));
+  none = λ off. absurd (both_ways some off is);
+}
+
+-- there is none at a
+pub carry_none : (book : BookSeen) (old new : MarksSeen) (listed listing : List Fact) (rows : List FloorRowSeen) (some : Bool) (a : ℕ)
+    → AreCarrying book old new listed listing rows some a → ((k : ℕ) → ¬ IsOnlyCarrier book new.facts k a) → AreCarrying book old new listed listing rows some (a + 1)
+carry_none book old new listed listing rows some a so_far none = record {
+  settling = so_far.settling;
+  fewer = so_far.fewer;
+  some = so_far.some;
+  none = λ off k c lt. below_more (λ (x : ℕ). ¬ IsOnlyCarrier book new.facts k x) a (so_far.none off k) (none k) c lt;
+}

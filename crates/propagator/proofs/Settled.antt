@@ -1,14 +1,21 @@
 -- Settling one aircraft after the other: what is done for one stands while the others are settled.
 use Rattle.std.specs.Prelude.{◌≢◌}
-use Rattle.std.proofs.Common.{◌≡◌, ◌∙◌, ℕ, ◌+◌, List, sym, arith, below_more}
+use Rattle.std.proofs.Common.{◌≡◌, ◌∙◌, ℕ, ℤ, ◌<◌, ◌≤◌, ◌+◌, List, [], ◌∷◌, ◌++◌, Option, None, Some, length, take, sym, ap, subst, arith, below_more}
+use Rattle.std.proofs.lemmas.List.{take-append-le, length-append}
+use Rattle.std.proofs.Math.Seq.{take-length}
 use Rattle.tail_book.specs.Seen.{BookSeen}
+use Rattle.tail_book.specs.Lookup.{aircraft}
 use Rattle.branch_marks.specs.declared.fact.Fact.{Fact}
+use Rattle.branch_marks.specs.declared.fact.Fact.TheVariants.{Bar}
+use Rattle.branch_marks.specs.Floors.{floors}
 use Rattle.branch_marks.specs.MarksSeen.{MarksSeen}
 use Rattle.branch_marks.specs.inside.MarkTables.{AreMarksOf}
 use Rattle.propagator.specs.inside.FloorRow.{FloorRowSeen, floors_in, AreRowsOf, ChangesOnly}
 use Rattle.propagator.specs.InTurn.{GrowInTurn}
 use Rattle.propagator.specs.inside.SameFor.{SameFor, SameFloors, SameDead}
-use Rattle.propagator.specs.inside.Settling.{ActsOn, StandsFor, StandBelow}
+use Rattle.propagator.specs.Keeping.{KeepsSeen}
+use Rattle.propagator.specs.inside.Settling.{ActsOn, IsSettledFor, StandsFor, StandBelow}
+use Rattle.propagator.specs.inside.Touching.{IsReadyFor}
 use Rattle.propagator.proofs.InTurn.{grow_both}
 
 -- the aircraft below n have been settled
@@ -37,3 +44,50 @@ settle_next same_floors same_dead book n a b c l m o rows next so_far marks grow
       (λ k lt. let apart : k ≢ n = omega (arith, lt) in
       stands_on same_floors same_dead book k b.facts c.facts rows next (acts.others k apart) (others k apart) (so_far.stand k lt)) stands;
 }
+
+-- what was ready is so still once more facts are there
+pub ready_on : (book : BookSeen) (facts more : List Fact) (k : ℕ) (listed : List (Option (List ℤ))) (seen : Option ℕ) → IsReadyFor book facts k listed seen
+    → IsReadyFor book (facts ++ more) k listed seen
+ready_on book facts more k listed None ready = tt
+ready_on book facts more k listed (Some n) ready =
+    let (few, settled, are) = ready in
+    let same : take n (facts ++ more) ≡ take n facts = take-append-le n facts more few in (
+      (let all = length-append facts more in omega (arith, few, all)),
+      subst (λ (z : List Fact). IsSettledFor book z k) (sym same) settled,
+      are ∙ ap (λ (z : List Fact). floors book z k) (sym same),
+    )
+
+-- at first all aircraft are ready
+pub ready_first : (book : BookSeen) (facts : List Fact) (rows : List FloorRowSeen) (seen : Option ℕ) → KeepsSeen book facts rows seen
+    → (k : ℕ) → k < aircraft book → IsReadyFor book facts k (floors_in rows k) seen
+ready_first book facts rows None keeps k lt = tt
+ready_first book facts rows (Some n) keeps k lt = (keeps.few, (λ a less dead. keeps.shut (Bar k a) (lt, less) dead), keeps.floors k lt)
+
+-- and those from n on are, while those below it are settled
+abbrev pub AreReadyFrom : BookSeen → ℕ → List Fact → List FloorRowSeen → Option ℕ → Type 0
+AreReadyFrom book n facts rows seen = (k : ℕ) → n ≤ k → k < aircraft book → IsReadyFor book facts k (floors_in rows k) seen
+
+pub ready_next : (book : BookSeen) (n : ℕ) (old new listed listing : List Fact) (rows next : List FloorRowSeen) (seen : Option ℕ) → GrowInTurn book old new listed listing
+    → ChangesOnly n rows next → AreReadyFrom book n old rows seen → AreReadyFrom book (n + 1) new next seen
+ready_next book n old new listed listing rows next seen grows others ready k le lt =
+    let apart : k ≢ n = omega (arith, le) in
+    subst (λ (floors : List (Option (List ℤ))). IsReadyFor book new k floors seen) (sym (others k apart))
+    (subst (λ (z : List Fact). IsReadyFor book z k (floors_in rows k) seen) (sym grows.marks)
+    (ready_on book old grows.added k (floors_in rows k) seen (ready k (omega (arith, le)) lt)))
+
+-- an aircraft that is settled is ready for one fact more
+pub ready_again : (book : BookSeen) (marks : List Fact) (fact : Fact) (new : List Fact) (k n : ℕ) (rows : List FloorRowSeen) → n ≡ length marks → new ≡ marks ++ fact ∷ []
+    → StandsFor book marks rows k → IsReadyFor book new k (floors_in rows k) (Some n)
+ready_again book marks fact new k n rows count is stands =
+    subst (λ (z : List Fact). IsReadyFor book z k (floors_in rows k) (Some n)) (sym is)
+    (ready_on book marks (fact ∷ []) k (floors_in rows k) (Some n) all_seen)
+  where
+    whole : take n marks ≡ marks
+    whole = ap (λ (i : ℕ). take i marks) count ∙ take-length marks
+
+    all_seen : IsReadyFor book marks k (floors_in rows k) (Some n)
+    all_seen = (
+      omega (arith, count),
+      subst (λ (z : List Fact). IsSettledFor book z k) (sym whole) stands.settled,
+      stands.floors ∙ ap (λ (z : List Fact). floors book z k) (sym whole),
+    )

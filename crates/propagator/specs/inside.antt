@@ -5,5 +5,9 @@ pub mod OneMore
 pub mod FloorRow
 pub mod Neighbours
 pub mod Settling
+pub mod Touching
+pub mod Moves
+pub mod Suspects
+pub mod Work
 pub mod Unnamed
 pub mod Cutting

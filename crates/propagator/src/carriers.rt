@@ -1,10 +1,11 @@
 //! Only carriers: an activity that is alive for one aircraft alone is given to it.
 //!
 //! A Must of an only carrier changes nothing for any other aircraft: the activity was not alive for them. So its own
-//! floors alone are made anew, and it is settled before the next Must is looked for. Each Must names an activity that
-//! none named, so there are at most as many as activities. To look at an activity costs the words of its bit row.
+//! floors alone are made anew, and it is settled before the next Must is looked for, from the next activity on. The
+//! activities are gone over until one round finds none; each round but the last names an activity that no Must named. To
+//! look at an activity costs the words of its bit row.
 
-ghost use Rattle.std.specs.Prelude.{◌≡◌, ◌<◌, ℕ, IfSome, IfNone, OnOk, length};
+ghost use Rattle.std.specs.Prelude.{◌≡◌, ◌<◌, ℕ, true, false, IfSome, IfNone, IfOk, OnOk};
 ghost use Rattle.tail_book.specs.Lookup.{activities, aircraft};
 ghost use Rattle.maint_counters.specs.inside.StepTable.{IsStepTableOf};
 ghost use Rattle.connection_net.specs.Net.{net_of};
@@ -12,13 +13,16 @@ ghost use Rattle.branch_marks.specs.inside.MarkTables.{AreMarksOf};
 ghost use Rattle.branch_marks.specs.Following.{IsOnlyCarrier};
 ghost use Rattle.propagator.specs.inside.FloorRow.{AreRowsOf};
 ghost use Rattle.propagator.specs.InTurn.{GrowInTurn};
+ghost use Rattle.propagator.specs.inside.Moves.{MovesAll};
 ghost use Rattle.propagator.specs.inside.Settling.{StandBelow};
 ghost use Rattle.propagator.specs.inside.Unnamed.{unnamed};
+ghost use Rattle.propagator.specs.inside.Work.{IsWorkOf};
 
 use crate::adding::add_next;
 use crate::floor_row::FloorRow;
 use crate::laws::{musts_leave_others, same_dead, same_floors};
 use crate::settling::settle_at;
+use crate::work::Work;
 use branch_marks::laws::{alive_decides, has_fact_decides};
 use branch_marks::{Fact, Marks};
 use connection_net::Net;
@@ -48,20 +52,6 @@ fn carrier_at(book: &Book, marks: &Marks, a: u32) -> Option<u32>
     Some(k)
 }
 
-// An aircraft and an activity of which it is the only carrier, if there are such.
-fn find_carrier(book: &Book, marks: &Marks) -> Option<(u32, u32)>
-    requires { AreMarksOf book.now marks.now }
-    ensures some { IfSome result (λ pair. IsOnlyCarrier book.now marks.now.facts pair.0 pair.1) }
-    ensures none { IfNone result ((k a : ℕ) → ¬ IsOnlyCarrier book.now marks.now.facts k a) }
-{
-    for a in 0..book.activities.len() as u32 {
-        if let Some(k) = carrier_at(book, marks, a) {
-            return Some((k, a));
-        }
-    }
-    None
-}
-
 // Gives an activity to its only carrier, and settles that aircraft.
 fn carry(
     book: &Book,
@@ -72,7 +62,7 @@ fn carry(
     k: u32,
     a: u32,
     rows: &mut [FloorRow],
-    values: &mut [i64],
+    work: &mut Work,
 ) -> Result<(), Memory>
     requires net { net.now ≡ net_of book.now }
     requires steps { IsStepTableOf book.now steps.now }
@@ -80,10 +70,12 @@ fn carry(
     requires carrier { IsOnlyCarrier book.now marks.old.facts k a }
     requires rows { AreRowsOf book.now rows.old }
     requires stand { StandBelow book.now marks.old.facts rows.old (aircraft book.now) }
-    requires width { length values.old ≡ length book.now.rules.counters }
+    requires work { IsWorkOf book.now work.old }
     ensures marks { AreMarksOf book.now marks.new }
     ensures grows { GrowInTurn book.now marks.old.facts marks.new.facts facts.old.items facts.new.items }
     ensures rows { AreRowsOf book.now rows.new }
+    ensures work { IsWorkOf book.now work.new }
+    ensures moves { MovesAll work.old.leave.items work.new.leave.items rows.old rows.new }
     ensures stand { OnOk result (StandBelow book.now marks.new.facts rows.new (aircraft book.now)) }
     ensures fewer { OnOk result (unnamed book.now marks.new.facts < unnamed book.now marks.old.facts) }
 {
@@ -92,8 +84,44 @@ fn carry(
     musts_leave_others();
     same_floors();
     same_dead();
+    let seen = marks.facts().len();
     add_next(book, marks, facts, Fact::Must(k, a))?;
-    settle_at(book, net, steps, marks, facts, k, rows, values)
+    settle_at(book, net, steps, marks, facts, Some(seen), k, rows, work)
+}
+
+// Goes over the activities once and gives each to its only carrier; answers whether there was one.
+fn carry_each(
+    book: &Book,
+    net: &Net,
+    steps: &StepTable,
+    marks: &mut Marks,
+    facts: &mut Vec<Fact>,
+    rows: &mut [FloorRow],
+    work: &mut Work,
+) -> Result<bool, Memory>
+    requires net { net.now ≡ net_of book.now }
+    requires steps { IsStepTableOf book.now steps.now }
+    requires marks { AreMarksOf book.now marks.old }
+    requires rows { AreRowsOf book.now rows.old }
+    requires stand { StandBelow book.now marks.old.facts rows.old (aircraft book.now) }
+    requires work { IsWorkOf book.now work.old }
+    ensures marks { AreMarksOf book.now marks.new }
+    ensures grows { GrowInTurn book.now marks.old.facts marks.new.facts facts.old.items facts.new.items }
+    ensures rows { AreRowsOf book.now rows.new }
+    ensures work { IsWorkOf book.now work.new }
+    ensures moves { MovesAll work.old.leave.items work.new.leave.items rows.old rows.new }
+    ensures stand { OnOk result (StandBelow book.now marks.new.facts rows.new (aircraft book.now)) }
+    ensures some { IfOk result (λ some. some ≡ true → unnamed book.now marks.new.facts < unnamed book.now marks.old.facts) }
+    ensures none { IfOk result (λ some. some ≡ false → (k a : ℕ) → ¬ IsOnlyCarrier book.now marks.new.facts k a) }
+{
+    let mut some = false;
+    for a in 0..book.activities.len() as u32 {
+        if let Some(k) = carrier_at(book, marks, a) {
+            carry(book, net, steps, marks, facts, k, a, rows, work)?;
+            some = true;
+        }
+    }
+    Ok(some)
 }
 
 /// Gives each activity to its only carrier, and settles the aircraft, until there is none left.
@@ -104,22 +132,22 @@ pub fn carry_all(
     marks: &mut Marks,
     facts: &mut Vec<Fact>,
     rows: &mut [FloorRow],
-    values: &mut [i64],
+    work: &mut Work,
 ) -> Result<(), Memory>
     requires net { net.now ≡ net_of book.now }
     requires steps { IsStepTableOf book.now steps.now }
     requires marks { AreMarksOf book.now marks.old }
     requires rows { AreRowsOf book.now rows.old }
     requires stand { StandBelow book.now marks.old.facts rows.old (aircraft book.now) }
-    requires width { length values.old ≡ length book.now.rules.counters }
+    requires work { IsWorkOf book.now work.old }
     ensures marks { AreMarksOf book.now marks.new }
     ensures grows { GrowInTurn book.now marks.old.facts marks.new.facts facts.old.items facts.new.items }
     ensures rows { AreRowsOf book.now rows.new }
+    ensures work { IsWorkOf book.now work.new }
+    ensures moves { MovesAll work.old.leave.items work.new.leave.items rows.old rows.new }
     ensures stand { OnOk result (StandBelow book.now marks.new.facts rows.new (aircraft book.now)) }
     ensures none { OnOk result ((k a : ℕ) → ¬ IsOnlyCarrier book.now marks.new.facts k a) }
 {
-    while let Some((k, a)) = find_carrier(book, marks) {
-        carry(book, net, steps, marks, facts, k, a, rows, values)?;
-    }
+    while carry_each(book, net, steps, marks, facts, rows, work)? {}
     Ok(())
 }

@@ -1,28 +1,31 @@
-//! Dead ends: activities where an aircraft can come, but neither end its route nor go on.
+//! What is dead for an aircraft: activities that are alive for it, where it never comes, or can neither end its route nor
+//! go on.
 //!
 //! What goes on from an activity leads to larger numbers, so one pass from the last activity to the first finds them all:
-//! a Bar may make an end of what led there, and what led there comes later in the pass. Each activity takes a step for
-//! each of its successors until one goes on.
+//! with a Bar at most what led there is dead too, and that comes later in the pass. Only what is to be asked is looked at,
+//! and takes a step for each of its successors until one goes on.
 
-ghost use Rattle.std.specs.Prelude.{◌≡◌, ◌<◌, ◌≤◌, ◌↔◌, ℕ, ℤ, List, Some, IsTrue, true, OnOk, is_some, length};
+ghost use Rattle.std.specs.Prelude.{◌≡◌, ◌<◌, ◌+◌, ◌↔◌, ℕ, ℤ, List, Some, IsTrue, None, OnOk, length};
 ghost use Rattle.tail_book.specs.Lookup.{activities, aircraft};
 ghost use Rattle.maint_counters.specs.inside.StepTable.{IsStepTableOf};
 ghost use Rattle.connection_net.specs.Net.{net_of};
-ghost use Rattle.branch_marks.specs.inside.MarkTests.{is_alive};
 ghost use Rattle.branch_marks.specs.inside.MarkTables.{AreMarksOf};
 ghost use Rattle.branch_marks.specs.Floors.{floors};
 ghost use Rattle.branch_marks.specs.Following.{IsDead};
 ghost use Rattle.propagator.specs.inside.FloorRow.{floor_in, IsRowOf};
 ghost use Rattle.propagator.specs.InTurn.{GrowInTurn};
-ghost use Rattle.propagator.specs.inside.LeastOver.{floor_of};
 ghost use Rattle.propagator.specs.inside.Neighbours.{goes_on_from, goes_on_to};
-ghost use Rattle.propagator.specs.inside.Settling.{ActsOn, ComesBelow, IsSettledFor};
+ghost use Rattle.propagator.specs.inside.Settling.{ActsOn, IsSettledFor};
+ghost use Rattle.propagator.specs.inside.Moves.{LosesFloors};
+ghost use Rattle.propagator.specs.inside.Touching.{IsAskedBelow};
 
 use crate::adding::add_bar;
+use crate::flags::set_all;
 use crate::floor_row::FloorRow;
 use crate::floors::goes_on_to;
 use crate::laws::{
-    bars_kill_nothing_later, bars_take_one_floor, successors_are_of_book, successors_tell,
+    bars_kill_nothing_later, bars_kill_predecessors, bars_take_one_floor, predecessors_are_of_book,
+    successors_are_of_book, successors_tell,
 };
 use branch_marks::laws::{alive_decides, floors_count};
 use branch_marks::{Fact, Marks};
@@ -62,8 +65,8 @@ fn goes_on(
     false
 }
 
-// Whether an activity is dead for an aircraft that comes to all that is alive for it.
-// Where the aircraft may end is asked first, since it takes no step.
+// Whether an activity is dead for an aircraft.
+// Where the aircraft may end is asked before where it may go on, since it takes no step.
 fn is_dead(
     book: &Book,
     net: &Net,
@@ -81,7 +84,6 @@ fn is_dead(
     requires activity { a < activities book.now }
     requires row { IsRowOf book.now row.now }
     requires floors { row.now.floors ≡ floors book.now marks.now.facts k }
-    requires comes { is_alive book.now marks.now.facts k a ≡ true → is_some (floor_of book.now marks.now.facts k a) ≡ true }
     requires width { length values.old ≡ length book.now.rules.counters }
     ensures { IsTrue result ↔ IsDead book.now marks.now.facts k a }
 {
@@ -89,14 +91,17 @@ fn is_dead(
     if !marks.alive(book, k, a) {
         return false;
     }
+    if !row.has(a as usize) {
+        return true;
+    }
     if marks.may_end(book, k, Place::After(a)) {
         return false;
     }
     !goes_on(book, net, steps, marks, k, a, row, values)
 }
 
-// Bars an aircraft from an activity that is a dead end, and takes its floor.
-fn bar_end(
+// Bars an aircraft from an activity that is dead, and takes its floor.
+fn bar_if_dead(
     book: &Book,
     net: &Net,
     steps: &StepTable,
@@ -105,6 +110,7 @@ fn bar_end(
     k: u32,
     a: u32,
     row: &mut FloorRow,
+    ask: &mut [bool],
     values: &mut [i64],
 ) -> Result<(), Memory>
     requires net { net.now ≡ net_of book.now }
@@ -114,32 +120,39 @@ fn bar_end(
     requires activity { a < activities book.now }
     requires row { IsRowOf book.now row.old }
     requires floors { row.old.floors ≡ floors book.now marks.old.facts k }
-    requires comes { ComesBelow book.now marks.old.facts k (activities book.now) }
+    requires ask { length ask.old ≡ activities book.now }
+    requires asked { IsAskedBelow book.now marks.old.facts k (a + 1) ask.old }
     requires width { length values.old ≡ length book.now.rules.counters }
     ensures marks { AreMarksOf book.now marks.new }
     ensures grows { GrowInTurn book.now marks.old.facts marks.new.facts facts.old.items facts.new.items }
     ensures acts { ActsOn book.now k marks.old.facts marks.new.facts }
     ensures width { row.new.width ≡ row.old.width }
+    ensures loses { LosesFloors row.old row.new }
     ensures floors { row.new.floors ≡ floors book.now marks.new.facts k }
-    ensures comes { ComesBelow book.now marks.new.facts k (activities book.now) }
-    ensures ended { OnOk result (¬ IsDead book.now marks.new.facts k a) }
-    ensures later { (x : ℕ) → a < x → IsDead book.now marks.new.facts k x → IsDead book.now marks.old.facts k x }
+    ensures asked { OnOk result (IsAskedBelow book.now marks.new.facts k a ask.new) }
 {
     every_book_is_sound(book);
     floors_count();
     alive_decides();
+    rows_for_each();
+    predecessors_are_of_book();
     bars_take_one_floor();
     bars_kill_nothing_later();
+    bars_kill_predecessors();
+    if !ask[a as usize] {
+        return Ok(());
+    }
     if !is_dead(book, net, steps, marks, k, a, row, values) {
         return Ok(());
     }
     add_bar(book, marks, facts, k, a)?;
     row.clear(a as usize);
+    set_all(net.predecessors(a), ask);
     Ok(())
 }
 
-/// Bars an aircraft that comes to all that is alive for it from each dead end, and takes their floors.
-pub fn bar_ends(
+/// Bars an aircraft from each activity that is dead for it, and takes their floors.
+pub fn bar_dead(
     book: &Book,
     net: &Net,
     steps: &StepTable,
@@ -147,6 +160,7 @@ pub fn bar_ends(
     facts: &mut Vec<Fact>,
     k: u32,
     row: &mut FloorRow,
+    ask: &mut [bool],
     values: &mut [i64],
 ) -> Result<(), Memory>
     requires net { net.now ≡ net_of book.now }
@@ -155,18 +169,20 @@ pub fn bar_ends(
     requires aircraft { k < aircraft book.now }
     requires row { IsRowOf book.now row.old }
     requires floors { row.old.floors ≡ floors book.now marks.old.facts k }
-    requires comes { ComesBelow book.now marks.old.facts k (activities book.now) }
+    requires ask { length ask.old ≡ activities book.now }
+    requires asked { IsAskedBelow book.now marks.old.facts k (activities book.now) ask.old }
     requires width { length values.old ≡ length book.now.rules.counters }
     ensures marks { AreMarksOf book.now marks.new }
     ensures grows { GrowInTurn book.now marks.old.facts marks.new.facts facts.old.items facts.new.items }
     ensures acts { ActsOn book.now k marks.old.facts marks.new.facts }
     ensures width { row.new.width ≡ row.old.width }
+    ensures loses { LosesFloors row.old row.new }
     ensures floors { row.new.floors ≡ floors book.now marks.new.facts k }
     ensures settled { OnOk result (IsSettledFor book.now marks.new.facts k) }
 {
     floors_count();
     for a in (0..book.activities.len() as u32).rev() {
-        bar_end(book, net, steps, marks, facts, k, a, row, values)?;
+        bar_if_dead(book, net, steps, marks, facts, k, a, row, ask, values)?;
     }
     Ok(())
 }

@@ -1,10 +1,10 @@
 //! Dead connections: links that some aircraft may use, and over which none can go on.
 //!
 //! A Cut of such a link leaves all floors, and nothing follows from it that did not follow before. So one pass over the
-//! links of the network finds them all, each judged once. For most links the first aircraft that may use it goes on over
-//! it, and the question is answered by one step.
+//! links of the network finds them all. Each that is suspect is judged, once. Only aircraft that are alive at both ends are asked, and place and
+//! time before a step is taken. For most links the first of them goes on, and the question is answered by one step.
 
-ghost use Rattle.std.specs.Prelude.{◌≡◌, ◌<◌, ◌↔◌, ℕ, IsTrue, OnOk, length};
+ghost use Rattle.std.specs.Prelude.{◌≡◌, ◌<◌, ◌↔◌, ℕ, false, IsTrue, OnOk, length};
 ghost use Rattle.tail_book.specs.Lookup.{activities, aircraft};
 ghost use Rattle.maint_counters.specs.inside.StepTable.{IsStepTableOf};
 ghost use Rattle.connection_net.specs.Net.{net_of};
@@ -12,13 +12,15 @@ ghost use Rattle.branch_marks.specs.inside.MarkTables.{AreMarksOf};
 ghost use Rattle.branch_marks.specs.Following.{IsDeadConnection, IsShutForFloors};
 ghost use Rattle.propagator.specs.inside.FloorRow.{AreRowsOf};
 ghost use Rattle.propagator.specs.InTurn.{GrowInTurn};
+ghost use Rattle.propagator.specs.inside.Suspects.{is_suspect};
 ghost use Rattle.propagator.specs.inside.Cutting.{AreFloorsOf, NothingNewFollows};
 
 use crate::adding::add_next;
 use crate::floor_row::FloorRow;
-use crate::floors::goes_on_to;
+use crate::floors::goes_on_over;
+use crate::suspects::is_suspect;
 use crate::laws::{cuts_make_nothing_follow, cuts_take_no_floor, successors_are_of_book};
-use branch_marks::laws::{floors_count, usable_decides};
+use branch_marks::laws::{alive_decides, floors_count, usable_decides};
 use branch_marks::{Fact, Marks};
 use connection_net::Net;
 use connection_net::laws::{rows_for_each, successors_are_links};
@@ -45,6 +47,7 @@ fn is_dead_link(
     requires width { length values.old ≡ length book.now.rules.counters }
     ensures { IsTrue result ↔ IsDeadConnection book.now marks.now.facts a b }
 {
+    alive_decides();
     usable_decides();
     limits_decide();
     marks.facts_are_of_book(book);
@@ -52,13 +55,15 @@ fn is_dead_link(
         return false;
     }
     let mut used = false;
-    for k in 0..book.tails.len() as u32 {
+    let mut k = marks.next_alive(book, a, 0);
+    while (k as usize) < book.tails.len() {
         if marks.usable(book, k, Place::After(a), b) {
-            if goes_on_to(book, steps, marks, k, a, b, &rows[k as usize], values) {
+            if goes_on_over(book, steps, k, a, b, &rows[k as usize], values) {
                 return false;
             }
             used = true;
         }
+        k = marks.next_alive(book, a, k + 1);
     }
     used
 }
@@ -97,6 +102,44 @@ fn cut_link(
     add_next(book, marks, facts, Fact::Cut(a, b))
 }
 
+// Cuts a link where it is suspect, and a dead connection.
+fn cut_suspect(
+    book: &Book,
+    steps: &StepTable,
+    marks: &mut Marks,
+    facts: &mut Vec<Fact>,
+    a: u32,
+    b: u32,
+    leave: &[bool],
+    arrive: &[bool],
+    pass: &[u32],
+    rows: &[FloorRow],
+    values: &mut [i64],
+) -> Result<(), Memory>
+    requires steps { IsStepTableOf book.now steps.now }
+    requires marks { AreMarksOf book.now marks.old }
+    requires from { a < activities book.now }
+    requires to { b < activities book.now }
+    requires rows { AreRowsOf book.now rows.now }
+    requires floors { AreFloorsOf book.now marks.old.facts rows.now }
+    requires shut { IsShutForFloors book.now marks.old.facts }
+    requires leave { length leave.now ≡ activities book.now }
+    requires arrive { length arrive.now ≡ activities book.now }
+    requires pass { length pass.now ≡ activities book.now }
+    requires others { is_suspect leave.now arrive.now pass.now a b ≡ false → ¬ IsDeadConnection book.now marks.old.facts a b }
+    requires width { length values.old ≡ length book.now.rules.counters }
+    ensures marks { AreMarksOf book.now marks.new }
+    ensures grows { GrowInTurn book.now marks.old.facts marks.new.facts facts.old.items facts.new.items }
+    ensures floors { AreFloorsOf book.now marks.new.facts rows.now }
+    ensures nothing { NothingNewFollows book.now marks.old.facts marks.new.facts }
+    ensures cut { OnOk result (¬ IsDeadConnection book.now marks.new.facts a b) }
+{
+    if !is_suspect(a, b, leave, arrive, pass) {
+        return Ok(());
+    }
+    cut_link(book, steps, marks, facts, a, b, rows, values)
+}
+
 // Cuts each dead connection from an activity.
 fn cut_links_of(
     book: &Book,
@@ -105,6 +148,9 @@ fn cut_links_of(
     marks: &mut Marks,
     facts: &mut Vec<Fact>,
     a: u32,
+    leave: &[bool],
+    arrive: &[bool],
+    pass: &[u32],
     rows: &[FloorRow],
     values: &mut [i64],
 ) -> Result<(), Memory>
@@ -115,6 +161,10 @@ fn cut_links_of(
     requires rows { AreRowsOf book.now rows.now }
     requires floors { AreFloorsOf book.now marks.old.facts rows.now }
     requires shut { IsShutForFloors book.now marks.old.facts }
+    requires leave { length leave.now ≡ activities book.now }
+    requires arrive { length arrive.now ≡ activities book.now }
+    requires pass { length pass.now ≡ activities book.now }
+    requires others { (b : ℕ) → is_suspect leave.now arrive.now pass.now a b ≡ false → ¬ IsDeadConnection book.now marks.old.facts a b }
     requires width { length values.old ≡ length book.now.rules.counters }
     ensures marks { AreMarksOf book.now marks.new }
     ensures grows { GrowInTurn book.now marks.old.facts marks.new.facts facts.old.items facts.new.items }
@@ -126,18 +176,23 @@ fn cut_links_of(
     successors_are_of_book();
     successors_are_links();
     for b in net.successors(a) {
-        cut_link(book, steps, marks, facts, a, *b, rows, values)?;
+        cut_suspect(
+            book, steps, marks, facts, a, *b, leave, arrive, pass, rows, values,
+        )?;
     }
     Ok(())
 }
 
-/// Cuts each dead connection.
+/// Cuts each dead connection, where none is that is not suspect.
 pub fn cut_links(
     book: &Book,
     net: &Net,
     steps: &StepTable,
     marks: &mut Marks,
     facts: &mut Vec<Fact>,
+    leave: &[bool],
+    arrive: &[bool],
+    pass: &[u32],
     rows: &[FloorRow],
     values: &mut [i64],
 ) -> Result<(), Memory>
@@ -147,14 +202,21 @@ pub fn cut_links(
     requires rows { AreRowsOf book.now rows.now }
     requires floors { AreFloorsOf book.now marks.old.facts rows.now }
     requires shut { IsShutForFloors book.now marks.old.facts }
+    requires leave { length leave.now ≡ activities book.now }
+    requires arrive { length arrive.now ≡ activities book.now }
+    requires pass { length pass.now ≡ activities book.now }
+    requires others { (a b : ℕ) → is_suspect leave.now arrive.now pass.now a b ≡ false → ¬ IsDeadConnection book.now marks.old.facts a b }
     requires width { length values.old ≡ length book.now.rules.counters }
     ensures marks { AreMarksOf book.now marks.new }
     ensures grows { GrowInTurn book.now marks.old.facts marks.new.facts facts.old.items facts.new.items }
+    ensures floors { AreFloorsOf book.now marks.new.facts rows.now }
     ensures nothing { NothingNewFollows book.now marks.old.facts marks.new.facts }
     ensures cut { OnOk result ((a b : ℕ) → ¬ IsDeadConnection book.now marks.new.facts a b) }
 {
     for a in 0..book.activities.len() as u32 {
-        cut_links_of(book, net, steps, marks, facts, a, rows, values)?;
+        cut_links_of(
+            book, net, steps, marks, facts, a, leave, arrive, pass, rows, values,
+        )?;
     }
     Ok(())
 }

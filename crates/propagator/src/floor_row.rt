@@ -74,6 +74,20 @@ fn read_row(width: usize, known: &[bool], values: &[i64], x: usize, into: &mut [
     true
 }
 
+// Whether the floor of a number has these values.
+fn is_row(width: usize, known: &[bool], values: &[i64], x: usize, row: &[i64]) -> bool
+    requires row { IsFloorRow width known.now values.now }
+    requires place { x < length known.now }
+    requires width { length row.now ≡ width }
+    ensures { IsTrue result → slice_index_or (kept_floors width known.now values.now) x None ≡ Some row.now }
+{
+    if !known[x] {
+        return false;
+    }
+    let from = x * width;
+    &values[from..from + width] == row
+}
+
 // Lowers the floor of a number to these values, or makes them its floor.
 fn lower_row(width: usize, known: &mut [bool], values: &mut [i64], b: usize, row: &[i64])
     requires row { IsFloorRow width known.old values.old }
@@ -149,6 +163,15 @@ impl FloorRow {
         ensures range { IsTrue result → AreCounts into.new }
     {
         read_row(self.width, &self.known, &self.values, x, into)
+    }
+
+    /// Whether the floor at an activity has these values.
+    pub fn is(&self, x: usize, values: &[i64]) -> bool
+        requires place { x < length self.now.floors }
+        requires width { length values.now ≡ self.now.width }
+        ensures { IsTrue result → slice_index_or self.now.floors x None ≡ Some values.now }
+    {
+        is_row(self.width, &self.known, &self.values, x, values)
     }
 
     /// Takes the floor at an activity away.

@@ -7,6 +7,7 @@
 ghost use Rattle.std.specs.Prelude.{◌≡◌, ◌<◌, ◌&&◌, ℕ, ℤ, List, false, IsTrue, None, Some, if◌then◌else◌, length};
 ghost use Rattle.tail_book.specs.Lookup.{activities, aircraft};
 ghost use Rattle.tail_book.specs.inside.Place.{IsPlaceOf};
+ghost use Rattle.tail_book.specs.declared.place.Place.TheVariants.{After as PlaceAfter};
 ghost use Rattle.tail_book.specs.Counters.{step};
 ghost use Rattle.tail_book.specs.inside.Tests.{within_limits};
 ghost use Rattle.branch_marks.specs.inside.MarkTests.{is_usable};
@@ -21,8 +22,7 @@ ghost use Rattle.propagator.specs.inside.Neighbours.{goes_on_to};
 
 use crate::floor_row::FloorRow;
 use crate::laws::{
-    floors_are_least, links_leave_time, no_floor_without, predecessors_bring_all,
-    predecessors_come_before,
+    floors_are_least, no_floor_without, predecessors_bring_all, predecessors_come_before,
 };
 use branch_marks::Marks;
 use branch_marks::laws::floors_count;
@@ -31,6 +31,7 @@ use connection_net::laws::rows_for_each;
 use maint_counters::{StepTable, start, step_by};
 use tail_book::laws::every_book_is_sound;
 use tail_book::{Book, Place};
+use turn_rules::laws::links_leave_time;
 
 /// Writes the counters after an activity, and answers whether the link to it is usable and all stay within their limits.
 pub fn goes_to(
@@ -80,6 +81,28 @@ pub fn goes_on_to(
     ensures none { floor_in row.now a ≡ None → result ≡ false }
 {
     row.read(a as usize, values) && goes_to(book, steps, marks, k, Place::After(a), b, values)
+}
+
+/// Whether an aircraft can go on over a link that it may use, by its floor at the first activity.
+pub fn goes_on_over(
+    book: &Book,
+    steps: &StepTable,
+    k: u32,
+    a: u32,
+    b: u32,
+    row: &FloorRow,
+    values: &mut [i64],
+) -> bool
+    requires steps { IsStepTableOf book.now steps.now }
+    requires aircraft { k < aircraft book.now }
+    requires place { a < activities book.now }
+    requires activity { b < activities book.now }
+    requires row { IsRowOf book.now row.now }
+    requires width { length values.old ≡ length book.now.rules.counters }
+    ensures some { (low : List ℤ) → floor_in row.now a ≡ Some low → result ≡ within_limits book.now.rules.counters (step book.now k (PlaceAfter a) b low) }
+    ensures none { floor_in row.now a ≡ None → result ≡ false }
+{
+    row.read(a as usize, values) && step_by(book, steps, k, Place::After(a), b, values)
 }
 
 // Lowers the floor at an activity to what the carry-in brings there.
@@ -163,8 +186,8 @@ fn come_on(
     }
 }
 
-// Writes the floor at an activity, where those before it are written.
-fn put_floor(
+/// Writes the floor at an activity, where those before it are written.
+pub fn put_floor(
     book: &Book,
     net: &Net,
     steps: &StepTable,
@@ -189,30 +212,5 @@ fn put_floor(
     if marks.alive(book, k, b) {
         come_first(book, steps, marks, k, b, row, values);
         come_on(book, net, steps, marks, k, b, row, values);
-    }
-}
-
-/// Writes the floors of an aircraft.
-pub fn put_floors(
-    book: &Book,
-    net: &Net,
-    steps: &StepTable,
-    marks: &Marks,
-    k: u32,
-    row: &mut FloorRow,
-    values: &mut [i64],
-)
-    requires net { net.now ≡ net_of book.now }
-    requires steps { IsStepTableOf book.now steps.now }
-    requires marks { AreMarksOf book.now marks.now }
-    requires aircraft { k < aircraft book.now }
-    requires row { IsRowOf book.now row.old }
-    requires width { length values.old ≡ length book.now.rules.counters }
-    ensures width { row.new.width ≡ row.old.width }
-    ensures floors { row.new.floors ≡ floors book.now marks.now.facts k }
-{
-    floors_count();
-    for b in 0..book.activities.len() as u32 {
-        put_floor(book, net, steps, marks, k, b, row, values);
     }
 }

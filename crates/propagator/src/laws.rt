@@ -2,8 +2,9 @@
 
 ghost use Rattle.propagator.specs.inside.LeastOver.{FloorsAreLeast, LeastAreFloors, NoFloorWithout};
 ghost use Rattle.propagator.specs.inside.SameFor.{SameFloors, SameDead, BarsLeaveOthers, MustsLeaveOthers};
-ghost use Rattle.propagator.specs.inside.OneMore.{BarsTakeOneFloor, BarsKillNothingLater, CutsTakeNoFloor, CutsMakeNothingFollow};
-ghost use Rattle.propagator.specs.inside.Neighbours.{LinksLeaveTime, PredecessorsComeBefore, PredecessorsBringAll, SuccessorsAreOfBook, SuccessorsTell};
+ghost use Rattle.propagator.specs.inside.OneMore.{BarsTakeOneFloor, BarsKillNothingLater, BarsKillPredecessors, CutsTakeNoFloor, CutsMakeNothingFollow};
+ghost use Rattle.propagator.specs.inside.Neighbours.{PredecessorsComeBefore, PredecessorsBringAll, SuccessorsAreOfBook, PredecessorsAreOfBook, SuccessorsTell};
+ghost use Rattle.propagator.specs.Keeping.{KeptForMore};
 ghost use Rattle.tail_book.specs.Seen.{BookSeen};
 ghost use Rattle.std.specs.Prelude.{ℕ, ℤ, List};
 ghost use Rattle.branch_marks.specs.declared.fact.Fact.{Fact as MarkFact};
@@ -69,6 +70,17 @@ pub fn bars_kill_nothing_later()
     may_end_decides();
 }
 
+/// And but for the activity itself, only its predecessors may be dead that were not.
+pub fn bars_kill_predecessors()
+    ensures { BarsKillPredecessors }
+{
+    bars_take_one_floor();
+    predecessors_are_links();
+    alive_decides();
+    usable_decides();
+    may_end_decides();
+}
+
 /// A Cut that follows leaves all floors.
 pub fn cuts_take_no_floor()
     ensures { CutsTakeNoFloor }
@@ -88,11 +100,6 @@ pub fn cuts_make_nothing_follow()
     usable_decides();
     may_end_decides();
 }
-
-/// Where there is a link, the aircraft is free in time.
-pub fn links_leave_time()
-    ensures { LinksLeaveTime }
-{}
 
 /// Predecessors have smaller numbers.
 pub fn predecessors_come_before()
@@ -120,6 +127,13 @@ pub fn successors_are_of_book()
     rows_rise();
 }
 
+/// Predecessors are of the book.
+pub fn predecessors_are_of_book()
+    ensures { PredecessorsAreOfBook }
+{
+    rows_rise();
+}
+
 /// Successors tell whether an aircraft can go on.
 pub fn successors_tell()
     ensures { (book : BookSeen) (marks : List MarkFact) (k a : ℕ) (values : List ℤ) → SuccessorsTell book marks k a values }
@@ -136,3 +150,8 @@ pub fn no_floor_without()
 {
     floors_are_least();
 }
+
+/// A propagator that is kept for marks is kept for them with more facts behind theirs.
+pub fn kept_for_more()
+    ensures { KeptForMore }
+{}

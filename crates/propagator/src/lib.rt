@@ -2,19 +2,24 @@
 #![tactic(auto)]
 
 mod adding;
-mod arrivals;
 mod carriers;
 mod closing;
 mod dead_ends;
 mod dead_links;
+mod flags;
 mod floor_row;
 mod floors;
 mod hole;
+mod keeping;
 pub mod laws;
+mod renewing;
 mod settling;
+mod suspects;
+mod touching;
+mod work;
 
-pub use closing::close;
 pub use hole::Closed;
+pub use keeping::{Propagator, close};
 
 #[cfg(test)]
 mod tests;

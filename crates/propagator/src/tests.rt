@@ -247,7 +247,8 @@ fn ends_are_dead_where_more_must_come(rt: HostRuntime) -> Result<(), Fail> {
 }
 
 // Back after the hour's flight passes the limit, and after that of half an hour it does not: so the one connection is cut,
-// for both aircraft. Where one of them must fly the long one, it cannot come back.
+// for both aircraft. Where one of them must fly the long one, it cannot come back: the way back is dead for it before the
+// other flight is, since the last come first.
 #[test]
 fn connections_that_nobody_can_use_are_cut(rt: HostRuntime) -> Result<(), Fail> {
     let book = two_ways(rt.alloc())?;
@@ -257,8 +258,8 @@ fn connections_that_nobody_can_use_are_cut(rt: HostRuntime) -> Result<(), Fail> 
         (
             [Fact::Must(0, 0)].as_slice(),
             [
-                Fact::Bar(0, 1),
                 Fact::Bar(0, 2),
+                Fact::Bar(0, 1),
                 Fact::Must(1, 1),
                 Fact::Must(1, 2),
             ]

@@ -1,25 +1,18 @@
 -- What the network tells of an aircraft's links: those to an activity come from its predecessors, those from it lead to its
--- successors, and each leaves time.
+-- successors.
 use Rattle.std.specs.Prelude.{ℕ, ℤ, ◌≡◌, ◌<◌, ◌&&◌, List, Bool, true, false, Option, All}
 use Rattle.std.specs.List.{list_any, range_with_len}
 use Rattle.tail_book.specs.Seen.{BookSeen}
-use Rattle.tail_book.specs.declared.place.Place.{Place}
 use Rattle.tail_book.specs.declared.place.Place.TheVariants.{After}
 use Rattle.tail_book.specs.Lookup.{activities}
 use Rattle.tail_book.specs.Counters.{step}
-use Rattle.tail_book.specs.Link.{IsLink}
 use Rattle.tail_book.specs.inside.Sound.{IsBook}
 use Rattle.tail_book.specs.inside.Tests.{within_limits}
-use Rattle.turn_rules.specs.inside.FreeBefore.{IsFreeBefore}
 use Rattle.connection_net.specs.Net.{net_of, predecessors_in, successors_in}
 use Rattle.branch_marks.specs.declared.fact.Fact.{Fact}
 use Rattle.branch_marks.specs.inside.MarkTests.{is_usable}
 use Rattle.branch_marks.specs.Following.{NoneGoesOn}
 use Rattle.propagator.specs.inside.LeastOver.{least_over, brought}
-
--- where there is a link, the aircraft is free in time
-abbrev pub LinksLeaveTime : Type 0
-LinksLeaveTime = (book : BookSeen) → IsBook book → (k : ℕ) (x : Place) (b : ℕ) → IsLink book k x b → IsFreeBefore book k x b
 
 -- predecessors have smaller numbers
 abbrev pub PredecessorsComeBefore : Type 0
@@ -42,7 +35,11 @@ goes_on_from book marks k a values = list_any (goes_on_to book marks k a values)
 abbrev pub SuccessorsAreOfBook : Type 0
 SuccessorsAreOfBook = (book : BookSeen) (a : ℕ) → All (λ b. b < activities book) (successors_in (net_of book) a)
 
--- they tell whether the aircraft can go on at all
+-- and so are predecessors
+abbrev pub PredecessorsAreOfBook : Type 0
+PredecessorsAreOfBook = (book : BookSeen) (b : ℕ) → All (λ a. a < activities book) (predecessors_in (net_of book) b)
+
+-- successors tell whether the aircraft can go on at all
 pub record SuccessorsTell (book : BookSeen) (marks : List Fact) (k a : ℕ) (values : List ℤ) : Type 0 where
   pub goes : goes_on_from book marks k a values ≡ true → ¬ NoneGoesOn book marks k a values
   pub none : goes_on_from book marks k a values ≡ false → NoneGoesOn book marks k a values

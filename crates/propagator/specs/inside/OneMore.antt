@@ -1,7 +1,9 @@
 -- What a fact that follows changes once it is among the marks.
-use Rattle.std.specs.Prelude.{ℕ, ◌≡◌, ◌<◌, ◌++◌, List, [], ◌∷◌, None, if◌then◌else◌, nat_eq}
+use Rattle.std.specs.Prelude.{ℕ, ◌≡◌, ◌≢◌, ◌<◌, ◌++◌, List, [], ◌∷◌, false, None, if◌then◌else◌, nat_eq}
 use Rattle.tail_book.specs.Seen.{BookSeen}
 use Rattle.tail_book.specs.Lookup.{activities}
+use Rattle.tail_book.specs.Numbers.{contains}
+use Rattle.connection_net.specs.Net.{net_of, predecessors_in}
 use Rattle.tail_book.specs.inside.Sound.{IsBook}
 use Rattle.branch_marks.specs.declared.fact.Fact.{Fact}
 use Rattle.branch_marks.specs.declared.fact.Fact.TheVariants.{Bar, Cut}
@@ -17,6 +19,11 @@ BarsTakeOneFloor = (book : BookSeen) (marks : List Fact) (k c : ℕ) → IsDead 
 abbrev pub BarsKillNothingLater : Type 0
 BarsKillNothingLater = (book : BookSeen) → IsBook book → (marks : List Fact) (k c : ℕ) → IsDead book marks k c
     → (a : ℕ) → c < a → IsDead book (marks ++ Bar k c ∷ []) k a → IsDead book marks k a
+
+-- and so was what is dead after it and no predecessor of its activity, nor this itself
+abbrev pub BarsKillPredecessors : Type 0
+BarsKillPredecessors = (book : BookSeen) (marks : List Fact) (k c : ℕ) → IsDead book marks k c
+    → (a : ℕ) → a ≢ c → contains (predecessors_in (net_of book) c) a ≡ false → IsDead book (marks ++ Bar k c ∷ []) k a → IsDead book marks k a
 
 -- a Cut that follows leaves all floors
 abbrev pub CutsTakeNoFloor : Type 0

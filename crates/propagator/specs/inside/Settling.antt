@@ -1,5 +1,5 @@
 -- What is told of marks while the facts are added that follow for one aircraft from its floors.
-use Rattle.std.specs.Prelude.{ℕ, ◌≡◌, ◌≢◌, ◌<◌, true, List, is_some}
+use Rattle.std.specs.Prelude.{ℕ, ◌≡◌, ◌≢◌, ◌<◌, true, List}
 use Rattle.tail_book.specs.Seen.{BookSeen}
 use Rattle.tail_book.specs.Lookup.{activities}
 use Rattle.branch_marks.specs.declared.fact.Fact.{Fact}
@@ -7,17 +7,12 @@ use Rattle.branch_marks.specs.inside.MarkTests.{is_alive}
 use Rattle.branch_marks.specs.Following.{IsDead}
 use Rattle.branch_marks.specs.Floors.{floors}
 use Rattle.propagator.specs.inside.FloorRow.{FloorRowSeen, floors_in}
-use Rattle.propagator.specs.inside.LeastOver.{floor_of}
 use Rattle.propagator.specs.inside.SameFor.{SameFor}
 
 -- new marks that leave all but aircraft k the same, and make nothing alive for k
 pub record ActsOn (book : BookSeen) (k : ℕ) (old new : List Fact) : Type 0 where
   pub others : (j : ℕ) → j ≢ k → SameFor book j old new
   pub fewer : (a : ℕ) → is_alive book new k a ≡ true → is_alive book old k a ≡ true
-
--- aircraft k comes to each activity below n that is alive for it: nothing there is dead on arrival
-abbrev pub ComesBelow : BookSeen → List Fact → ℕ → ℕ → Type 0
-ComesBelow book marks k n = (a : ℕ) → a < n → is_alive book marks k a ≡ true → is_some (floor_of book marks k a) ≡ true
 
 -- nothing is dead for aircraft k
 abbrev pub IsSettledFor : BookSeen → List Fact → ℕ → Type 0

@@ -1,50 +1,38 @@
 //! Books and marks by chance, beside a plain and slow program: each fact that is added follows in its turn, those about all
 //! aircraft wait for the floors, nothing is left, and no legal plan that keeps the marks is lost.
 
-ghost use Rattle.std.specs.Prelude.{◌<◌};
+ghost use Rattle.std.specs.Prelude.{◌≡◌, ◌<◌};
+ghost use Rattle.connection_net.specs.Net.{net_of};
+ghost use Rattle.branch_marks.specs.inside.MarkTables.{AreMarksOf};
+ghost use Rattle.propagator.specs.Keeping.{IsKeptFor};
 
 use super::{closed, flight, is_of, rules, tail};
-use crate::Closed;
-use branch_marks::Fact;
+use crate::laws::kept_for_more;
+use crate::{Closed, Propagator, close};
+use branch_marks::{Fact, Marks};
+use connection_net::Net;
+use dice::Dice;
 use std::alloc::Global;
 use std::test::Fail;
 use tail_book::*;
 use turn_rules::{allowed, link};
 
-// Numbers that look like chance, the same ones for the same seed.
-#[derive(Drop)]
-struct Dice {
-    state: u64,
+// A fact, of which some are not of the book.
+fn fact_by(dice: &mut Dice) -> Fact {
+    match dice.below(6) {
+        0 => Fact::Bar(dice.below(3), dice.below(6)),
+        1 | 2 => Fact::Must(dice.below(3), dice.below(6)),
+        3 => Fact::Tie(dice.below(6), dice.below(6)),
+        _ => Fact::Cut(dice.below(6), dice.below(6)),
+    }
 }
 
-impl Dice {
-    fn below(&mut self, n: u32) -> u32
-        requires { 0 < n }
-        ensures { result < n }
-    {
-        self.state = self
-            .state
-            .wrapping_mul(6_364_136_223_846_793_005)
-            .wrapping_add(1_442_695_040_888_963_407);
-        (self.state >> 32) as u32 % n
+fn facts_by(alloc: Global, dice: &mut Dice) -> Result<Vec<Fact>, Memory> {
+    let mut facts = Vec::new(alloc);
+    for _ in 0..dice.below(4) {
+        facts.push(fact_by(dice))?;
     }
-
-    fn fact(&mut self) -> Fact {
-        match self.below(6) {
-            0 => Fact::Bar(self.below(3), self.below(6)),
-            1 | 2 => Fact::Must(self.below(3), self.below(6)),
-            3 => Fact::Tie(self.below(6), self.below(6)),
-            _ => Fact::Cut(self.below(6), self.below(6)),
-        }
-    }
-
-    fn facts(&mut self, alloc: Global) -> Result<Vec<Fact>, Memory> {
-        let mut facts = Vec::new(alloc);
-        for _ in 0..self.below(4) {
-            facts.push(self.fact())?;
-        }
-        Ok(facts)
-    }
+    Ok(facts)
 }
 
 // Minutes flown and landings, cleared by stops at ARN, and at both airports.
@@ -523,7 +511,7 @@ impl Seen {
 #[test]
 fn closed_as_the_rules_say(rt: HostRuntime) -> Result<(), Fail> {
     let (mut dice, mut seen) = (
-        Dice { state: 3 },
+        Dice::new(3),
         Seen {
             bars: 0,
             musts: 0,
@@ -534,7 +522,7 @@ fn closed_as_the_rules_say(rt: HostRuntime) -> Result<(), Fail> {
     );
     for round in 0..300 {
         let book = book_by_chance(rt.alloc(), &mut dice)?;
-        let facts = of_book(rt.alloc(), &book, &dice.facts(rt.alloc())?)?;
+        let facts = of_book(rt.alloc(), &book, &facts_by(rt.alloc(), &mut dice)?)?;
         let (added, answer) = closed(rt.alloc(), &book, &facts)?;
         assert!(rt;
             is_closed(rt.alloc(), &book, &facts, &added)?,
@@ -559,5 +547,74 @@ fn closed_as_the_rules_say(rt: HostRuntime) -> Result<(), Fail> {
         seen.plans > 20 && seen.fixed > 20 && seen.fixed < 280,
         "{seen:?}"
     );
+    Ok(())
+}
+
+// Adds a fact to marks, if it is of the book.
+fn add(book: &Book, marks: &mut Marks, kept: &Propagator, fact: Fact) -> Result<(), Memory>
+    requires marks { AreMarksOf book.now marks.old }
+    requires kept { IsKeptFor book.now marks.old.facts kept.now }
+    ensures marks { AreMarksOf book.now marks.new }
+    ensures kept { IsKeptFor book.now marks.new.facts kept.now }
+{
+    kept_for_more();
+    if is_of(book, fact) {
+        marks.add(book, fact)?;
+    }
+    Ok(())
+}
+
+// What follows by a propagator that is kept, and what follows anew from the same facts.
+fn followed(
+    alloc: Global,
+    book: &Book,
+    net: &Net,
+    marks: &mut Marks,
+    kept: &mut Propagator,
+) -> Result<((Vec<Fact>, Closed), (Vec<Fact>, Closed)), Memory>
+    requires net { net.now ≡ net_of book.now }
+    requires marks { AreMarksOf book.now marks.old }
+    requires kept { IsKeptFor book.now marks.old.facts kept.old }
+    ensures marks { AreMarksOf book.now marks.new }
+    ensures kept { IsKeptFor book.now marks.new.facts kept.new }
+{
+    let (mut same, mut list, mut anew) = (marks.copy()?, Vec::new(alloc), Vec::new(alloc));
+    let answer = kept.close(book, net, marks, &mut list)?;
+    let told = close(alloc, book, net, &mut same, &mut anew)?;
+    Ok(((list, answer), (anew, told)))
+}
+
+fn are_same(facts: &[Fact], others: &[Fact]) -> bool {
+    facts.len() == others.len() && facts.iter().all(|fact| others.contains(fact))
+}
+
+// Facts that come one at a time: how many follow by a propagator that is kept, and whether ever something else followed
+// than anew, or than the rules say.
+fn follow_each(alloc: Global, book: &Book, dice: &mut Dice) -> Result<(usize, bool), Memory> {
+    let net = Net::new(alloc, book)?;
+    let (mut marks, mut kept) = (Marks::new(alloc, book)?, Propagator::new(alloc, book)?);
+    let (mut many, mut other) = (0usize, false);
+    for _ in 0..6 {
+        add(book, &mut marks, &kept, fact_by(dice))?;
+        let before = Vec::from_slice(alloc, marks.facts())?;
+        let ((list, answer), (anew, told)) = followed(alloc, book, &net, &mut marks, &mut kept)?;
+        other |= answer != told || !are_same(&list, &anew);
+        other |= !is_closed(alloc, book, &before, &list)?;
+        many = many.saturating_add(list.len());
+    }
+    Ok((many, other))
+}
+
+// 200 books, with up to six facts that come one at a time: what follows is what follows anew, and what the rules say.
+#[test]
+fn kept_is_as_made_anew(rt: HostRuntime) -> Result<(), Fail> {
+    let (mut dice, mut many) = (Dice::new(11), 0usize);
+    for round in 0..200 {
+        let book = book_by_chance(rt.alloc(), &mut dice)?;
+        let (more, other) = follow_each(rt.alloc(), &book, &mut dice)?;
+        assert!(rt; !other, "{round}");
+        many = many.saturating_add(more);
+    }
+    assert!(rt; many > 1000, "{many}");
     Ok(())
 }

@@ -29,3 +29,7 @@ returns-clause-cut c a b dead =
     let lt : a < activities c.args.book.now = dead.of_book.0 in
     let within : a < c.loop-a.a = omega (arith, lt, ap (λ (b : BookSeen). length b.activities) c.book.view_is) in
     c.loop-a.invariant.1 a within b dead
+
+pub cut_links_of-requires-clause-others : goal.cut_links_of-requires-clause-others
+cut_links_of-requires-clause-others c = λ b off.
+    never_new c.args.book.now c.args.marks.now.facts c.loop-a.marks.facts c.loop-a.a b c.loop-a.invariant.0.nothing (c.requires.others c.loop-a.a b off)

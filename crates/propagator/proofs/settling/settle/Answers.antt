@@ -1,14 +1,7 @@
-use Rattle.propagator.proofs.Arriving.{acts_on}
-use Rattle.propagator.proofs.InTurn.{grow_both}
+use Rattle.propagator.proofs.MovedFloors.{moves_losing}
 use Rattle.propagator.proofs.settling.settle.Goals as goal
 
--- first the arrivals, then the ends
-pub returns-clause-grows : goal.returns-clause-grows
-returns-clause-grows c =
-    grow_both c.args.book.now c.args.marks.now.facts c.bar_arrivals.new.marks.facts c.bar_ends.new.marks.facts
-    c.args.facts.now.items c.bar_arrivals.new.facts.items c.bar_ends.new.facts.items c.bar_arrivals.ensures.grows c.bar_ends.ensures.grows
-
-pub returns-clause-acts : goal.returns-clause-acts
-returns-clause-acts c =
-    acts_on c.args.book.now c.args.k c.args.marks.now.facts c.bar_arrivals.new.marks.facts c.bar_ends.new.marks.facts
-    c.bar_arrivals.ensures.acts c.bar_ends.ensures.acts
+pub returns-clause-moves : goal.returns-clause-moves
+returns-clause-moves c =
+    moves_losing c.args.moved.now c.renew_floors.new.moved c.args.row.now c.touch_since.new.row c.renew_floors.new.row c.bar_dead.new.row
+    c.touch_since.ensures.loses c.renew_floors.ensures.moves c.bar_dead.ensures.loses

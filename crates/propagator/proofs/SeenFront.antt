@@ -1,0 +1,40 @@
+-- A front of some facts is a front of these with more behind them.
+use Rattle.std.proofs.Common.{◌≡◌, ℕ, List, ◌++◌, length, take, arith, sym, subst, Option, None, Some}
+use Rattle.std.proofs.lemmas.List.{take-append-le, length-append}
+use Rattle.std.proofs.Math.Seq.{take-length}
+use Rattle.tail_book.specs.Seen.{BookSeen}
+use Rattle.branch_marks.specs.declared.fact.Fact.{Fact}
+use Rattle.branch_marks.specs.Following.{IsShut}
+use Rattle.propagator.specs.KeptSeen.{PropagatorSeen}
+use Rattle.propagator.specs.inside.FloorRow.{FloorRowSeen}
+use Rattle.propagator.specs.inside.Cutting.{AreFloorsOf}
+use Rattle.propagator.specs.Keeping.{KeepsFront, KeepsSeen, IsKeptFor}
+
+module _ (book : BookSeen) (facts more : List Fact) where
+  pub front_on : (rows : List FloorRowSeen) (n : ℕ) → KeepsFront book facts rows n → KeepsFront book (facts ++ more) rows n
+  front_on rows n keeps =
+      let few = keeps.few in
+      let same : take n (facts ++ more) ≡ take n facts = take-append-le n facts more keeps.few in
+      record {
+        few = (let all = length-append facts more in omega (arith, few, all));
+        shut = subst (λ (z : List Fact). IsShut book z) (sym same) keeps.shut;
+        floors = subst (λ (z : List Fact). AreFloorsOf book z rows) (sym same) keeps.floors;
+      }
+
+  pub seen_on : (rows : List FloorRowSeen) (seen : Option ℕ) → KeepsSeen book facts rows seen → KeepsSeen book (facts ++ more) rows seen
+  seen_on rows None right = tt
+  seen_on rows (Some n) right = front_on rows n right
+
+  pub kept_on : (kept : PropagatorSeen) → IsKeptFor book facts kept → IsKeptFor book (facts ++ more) kept
+  kept_on kept is = record { made = is.made; right = seen_on kept.rows kept.seen is.right }
+
+-- all facts, once they are shut, are such a front
+pub all_seen : (book : BookSeen) (facts : List Fact) (rows : List FloorRowSeen) (n : ℕ) → n ≡ length facts → IsShut book facts → AreFloorsOf book facts rows
+    → KeepsFront book facts rows n
+all_seen book facts rows n count shut floors =
+    let whole : facts ≡ take (length facts) facts = sym (take-length facts) in
+    subst (λ (i : ℕ). KeepsFront book facts rows i) (sym count) (record {
+      few = omega arith;
+      shut = subst (λ (z : List Fact). IsShut book z) whole shut;
+      floors = subst (λ (z : List Fact). AreFloorsOf book z rows) whole floors;
+    })

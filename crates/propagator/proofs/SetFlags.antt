@@ -1,0 +1,52 @@
+-- Setting flags: one that is not set was not set before, and is none of those that were set.
+use Rattle.std.specs.Prelude.{◌≢◌, ◌||◌}
+use Rattle.std.proofs.Common.{◌≡◌, ◌∙◌, ℕ, ◌<◌, ◌≤◌, ◌+◌, Bool, true, false, inl, inr, arith, List, [], ◌∷◌, length, get_or, refl, sym, ap, subst, below_more, None}
+use Rattle.std.proofs.Math.ListN.{set}
+use Rattle.std.proofs.lemmas.Bool.{both_ways, false_from_ne_true, ne_eqb}
+use Rattle.std.proofs.lemmas.Bool.Decides.{eqb_tells}
+use Rattle.std.proofs.lemmas.List.{get_or-set_other, length-set}
+use Rattle.std.proofs.lemmas.Grind.{get_or-set_at}
+use Rattle.tail_book.specs.Numbers.{contains}
+use Rattle.propagator.specs.inside.FloorRow.{FloorRowSeen, floor_in, IsSetAt}
+use Rattle.propagator.specs.inside.Touching.{is_set, AreSetToo}
+use Rattle.propagator.proofs.DeadLinks.{stands_at}
+
+-- what is not set after one flag is set
+pub set_one : (flags : List Bool) (j i : ℕ) → j < length flags → is_set (set flags j true) i ≡ false → (is_set flags i ≡ false) × (j ≢ i)
+set_one flags j i lt e = elim (eqb_tells i j) [
+  | inl here ↦ absurd (both_ways (is_set (set flags j true) i) e (get_or-set_at flags j i true false here.1 lt))
+  | inr other ↦ (sym (get_or-set_other flags j i true false other.1) ∙ e, λ same. other.1 (sym same))
+]
+
+pub one_set : (flags : List Bool) (j : ℕ) → j < length flags → AreSetToo (j ∷ []) flags (set flags j true)
+one_set flags j lt i e =
+    let (was, apart) = set_one flags j i lt e in
+    (was, ap (λ (t : Bool). t || false) (ne_eqb i j (λ same. apart (sym same))))
+
+-- the first n of the numbers are set
+abbrev pub AreSetBelow : List ℕ → ℕ → List Bool → List Bool → Type 0
+AreSetBelow numbers n old new = (i : ℕ) → is_set new i ≡ false → (is_set old i ≡ false) × ((j : ℕ) → j < n → get_or numbers j 0 ≢ i)
+
+pub set_next : (numbers : List ℕ) (n : ℕ) (old flags : List Bool) → get_or numbers n 0 < length flags → AreSetBelow numbers n old flags
+    → AreSetBelow numbers (n + 1) old (set flags (get_or numbers n 0) true)
+set_next numbers n old flags lt below i e =
+    let (was, apart) = set_one flags (get_or numbers n 0) i lt e in
+    let (first, rest) = below i was in
+    (first, below_more (λ (j : ℕ). get_or numbers j 0 ≢ i) n rest apart)
+
+pub all_set : (numbers : List ℕ) (n : ℕ) (old new : List Bool) → length numbers ≤ n → AreSetBelow numbers n old new → AreSetToo numbers old new
+all_set numbers n old new le below i e =
+    let (was, none) = below i e in
+    (was, false_from_ne_true (contains numbers i) (λ t. let (j, lt, at) = stands_at numbers i t in none j (omega (arith, le, lt)) at))
+
+pub set_by : (numbers others : List ℕ) (old new : List Bool) → numbers ≡ others → AreSetToo numbers old new → AreSetToo others old new
+set_by numbers others old new e are = subst (λ (xs : List ℕ). AreSetToo xs old new) e are
+
+-- a row from which a floor is taken away
+pub cleared : (row next : FloorRowSeen) (b : ℕ) → b < length row.floors → next ≡ record row { floors = set row.floors b None } → IsSetAt b None row next
+cleared row next b lt e = record {
+  width = ap (λ (r : FloorRowSeen). r.width) e;
+  count = ap (λ (r : FloorRowSeen). length r.floors) e ∙ length-set row.floors b None;
+  here = ap (λ (r : FloorRowSeen). floor_in r b) e ∙ get_or-set_at row.floors b b None None refl lt;
+  others = λ a ne. ap (λ (r : FloorRowSeen). floor_in r a) e ∙ get_or-set_other row.floors b a None None ne;
+}

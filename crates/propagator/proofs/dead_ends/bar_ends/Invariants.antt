@@ -1,6 +1,0 @@
-use Rattle.propagator.proofs.DeadEnds.{IsEnding}
-use Rattle.propagator.proofs.dead_ends.bar_ends.Given as goal
-
--- the dead ends from a on are barred
-abbrev pub invariant-loop-a : goal.invariant-loop-a
-invariant-loop-a l = IsEnding l.book l.k l.a l.initial.marks l.marks l.initial.facts.items l.facts.items l.initial.row l.row

@@ -1,0 +1,145 @@
+//! Renewing the floors of an aircraft that are due, in order of the activities.
+//!
+//! A floor that comes out as it was leaves all behind it alone. Where one is another, those of its successors are due: they
+//! have larger numbers, so their turn is still to come. And it is to be asked whether the aircraft can still go on from it.
+
+ghost use Rattle.std.specs.Prelude.{◌≡◌, ◌<◌, ◌+◌, ℕ, false, true, length};
+ghost use Rattle.tail_book.specs.Lookup.{activities, aircraft};
+ghost use Rattle.maint_counters.specs.inside.StepTable.{IsStepTableOf};
+ghost use Rattle.connection_net.specs.Net.{net_of};
+ghost use Rattle.branch_marks.specs.inside.MarkTables.{AreMarksOf};
+ghost use Rattle.branch_marks.specs.Floors.{floors};
+ghost use Rattle.propagator.specs.inside.FloorRow.{floor_in, IsSetAt, IsRowOf};
+ghost use Rattle.propagator.specs.inside.LeastOver.{floor_of};
+ghost use Rattle.propagator.specs.inside.Moves.{MovesFloors};
+ghost use Rattle.propagator.specs.inside.Touching.{IsAskedBelow, IsRenewing, IsTouched};
+
+use crate::flags::{set, set_all};
+use crate::floor_row::FloorRow;
+use crate::floors::put_floor;
+use crate::laws::{floors_are_least, successors_are_of_book};
+use branch_marks::Marks;
+use branch_marks::laws::{alive_decides, floors_count, may_end_decides, usable_decides};
+use connection_net::Net;
+use connection_net::laws::{predecessors_are_links, rows_for_each, successors_are_links};
+use maint_counters::StepTable;
+use tail_book::Book;
+
+// Writes the floor at an activity, and answers whether it may be another than before.
+fn rewrite(
+    book: &Book,
+    net: &Net,
+    steps: &StepTable,
+    marks: &Marks,
+    k: u32,
+    b: u32,
+    row: &mut FloorRow,
+    values: &mut [i64],
+    before: &mut [i64],
+) -> bool
+    requires net { net.now ≡ net_of book.now }
+    requires steps { IsStepTableOf book.now steps.now }
+    requires marks { AreMarksOf book.now marks.now }
+    requires aircraft { k < aircraft book.now }
+    requires activity { b < activities book.now }
+    requires row { IsRowOf book.now row.old }
+    requires below { (a : ℕ) → a < b → floor_in row.old a ≡ floor_of book.now marks.now.facts k a }
+    requires width { length values.old ≡ length book.now.rules.counters }
+    requires before { length before.old ≡ length book.now.rules.counters }
+    ensures set { IsSetAt b (floor_of book.now marks.now.facts k b) row.old row.new }
+    ensures same { result ≡ false → floor_in row.new b ≡ floor_in row.old b }
+{
+    let had = row.read(b as usize, before);
+    put_floor(book, net, steps, marks, k, b, row, values);
+    if had {
+        !row.is(b as usize, before)
+    } else {
+        row.has(b as usize)
+    }
+}
+
+// Renews the floor at an activity where it is due, and flags what this touches.
+fn renew_floor(
+    book: &Book,
+    net: &Net,
+    steps: &StepTable,
+    marks: &Marks,
+    k: u32,
+    b: u32,
+    row: &mut FloorRow,
+    due: &mut [bool],
+    ask: &mut [bool],
+    moved: &mut [bool],
+    values: &mut [i64],
+    before: &mut [i64],
+)
+    requires net { net.now ≡ net_of book.now }
+    requires steps { IsStepTableOf book.now steps.now }
+    requires marks { AreMarksOf book.now marks.now }
+    requires aircraft { k < aircraft book.now }
+    requires activity { b < activities book.now }
+    requires due { length due.old ≡ activities book.now }
+    requires ask { length ask.old ≡ activities book.now }
+    requires moved { length moved.old ≡ activities book.now }
+    requires renewing { IsRenewing book.now marks.now.facts k b row.old due.old ask.old }
+    requires width { length values.old ≡ length book.now.rules.counters }
+    requires before { length before.old ≡ length book.now.rules.counters }
+    ensures renewing { IsRenewing book.now marks.now.facts k (b + 1) row.new due.new ask.new }
+    ensures moves { MovesFloors moved.old moved.new row.old row.new }
+{
+    rows_for_each();
+    successors_are_of_book();
+    successors_are_links();
+    predecessors_are_links();
+    usable_decides();
+    may_end_decides();
+    floors_are_least();
+    if !due[b as usize] {
+        return;
+    }
+    if !rewrite(book, net, steps, marks, k, b, row, values, before) {
+        return;
+    }
+    set_all(net.successors(b), due);
+    set(b, ask);
+    set(b, moved);
+}
+
+/// Renews the floors of an aircraft that are due, and flags what may be dead by them, and which are others now.
+pub fn renew_floors(
+    book: &Book,
+    net: &Net,
+    steps: &StepTable,
+    marks: &Marks,
+    k: u32,
+    row: &mut FloorRow,
+    due: &mut [bool],
+    ask: &mut [bool],
+    moved: &mut [bool],
+    values: &mut [i64],
+    before: &mut [i64],
+)
+    requires net { net.now ≡ net_of book.now }
+    requires steps { IsStepTableOf book.now steps.now }
+    requires marks { AreMarksOf book.now marks.now }
+    requires aircraft { k < aircraft book.now }
+    requires row { IsRowOf book.now row.old }
+    requires due { length due.old ≡ activities book.now }
+    requires ask { length ask.old ≡ activities book.now }
+    requires moved { length moved.old ≡ activities book.now }
+    requires touched { IsTouched book.now marks.now.facts k row.old due.old ask.old }
+    requires width { length values.old ≡ length book.now.rules.counters }
+    requires before { length before.old ≡ length book.now.rules.counters }
+    ensures row { IsRowOf book.now row.new }
+    ensures moves { MovesFloors moved.old moved.new row.old row.new }
+    ensures floors { row.new.floors ≡ floors book.now marks.now.facts k }
+    ensures asked { IsAskedBelow book.now marks.now.facts k (activities book.now) ask.new }
+{
+    floors_count();
+    alive_decides();
+    for b in 0..book.activities.len() as u32 {
+        renew_floor(
+            book, net, steps, marks, k, b, row, due, ask, moved, values, before,
+        );
+    }
+}
