@@ -1,7 +1,7 @@
 -- The labels of all buckets as one list: what holds of the rows of each bucket holds of each label, and what a bucket covers
 -- some label covers. So buckets that are done are a closed family, and a least end among them is least of all.
-use Rattle.std.proofs.Common.{◌≡◌, ℕ, zero, suc, ℤ, pos, ◌≤ℤ◌, ◌<◌, arith, refl, List, [], ◌∷◌, length, Option, None, Some, sym, ◌∙◌, ap, subst}
-use Rattle.std.specs.Prelude.{All, map, slice_index_or}
+use Rattle.std.proofs.Common.{◌≡◌, ℕ, zero, suc, ℤ, ◌≤ℤ◌, ◌<◌, arith, refl, List, [], ◌∷◌, length, Option, None, Some, sym, ◌∙◌, ap, subst}
+use Rattle.std.specs.Prelude.{All, slice_index_or}
 use Rattle.std.specs.List.{Contains, concat}
 use Rattle.std.proofs.lemmas.Int.{ints}
 use Rattle.std.proofs.lemmas.List.{get_or-map, length-map}
@@ -19,12 +19,12 @@ use Rattle.branch_marks.specs.declared.fact.Fact.{Fact}
 use Rattle.branch_marks.specs.inside.Fitting.{FitsIsUsableToItsEnd}
 use Rattle.branch_marks.specs.DeadEnds.{IsStuck}
 use Rattle.branch_marks.specs.Marks.{IsAlive, MayEnd}
-use Rattle.branch_marks.specs.Labels.{Label, Covers, IsCoveredBy}
+use Rattle.branch_marks.specs.Labels.{Label, IsCoveredBy}
 use Rattle.branch_marks.specs.Families.{GoesOn, IsClosedFamily, ClosedFamiliesBound, EndlessFamiliesStick}
 use Rattle.branch_marks.specs.Weights.{IsLeastWeight, IsRouteOfWeight}
 use Rattle.label_store.specs.Seen.{StoreSeen}
 use Rattle.label_store.specs.Buckets.{row_at}
-use Rattle.label_store.specs.Store.{node_of, bucket_of, IsStore, IsRowOf}
+use Rattle.label_store.specs.Store.{bucket_of, IsStore, IsRowOf}
 use Rattle.label_store.specs.inside.Laws.{IsCoveredAt}
 use Rattle.pricing.specs.declared.end.End.{End}
 use Rattle.pricing.specs.Rows.{weight_of, counters_of, label_of, labels_of, route_to}

@@ -17,7 +17,7 @@ use Rattle.pricing.proofs.Families.{row_of_bucket}
 use Rattle.pricing.proofs.Growing.{tried_stays}
 
 module _ (table : CostTableSeen) (book : BookSeen) (marks : List Fact) (k : ℕ) (duals : List ℤ) where
-  reached_stays : (first old new : StoreSeen) (x c b : ℕ) → Grows b old new
+  pub reached_stays : (first old new : StoreSeen) (x c b : ℕ) → Grows b old new
       → IsReached table book marks k duals first x c old → IsReached table book marks k duals first x c new
   reached_stays first old new x c b grows reached usable j has =
       tried_stays book k old new (arc_weight table book k duals (After x) c) (After x) c b (row_at first.rows j) grows (reached usable j has)

@@ -1,15 +1,10 @@
 -- Stores that grow: what holds of a bucket that is done and what was tried stay so.
-use Rattle.std.proofs.Common.{◌≡◌, ◌≢◌, ℕ, ℤ, ◌+◌, ◌<◌, ◌≤◌, arith, refl, inl, inr, List, [], ◌∷◌, length, get_or, sym, ◌∙◌, ap, subst}
-use Rattle.std.specs.List.{Contains}
+use Rattle.std.proofs.Common.{◌≡◌, ℕ, ℤ, ◌+◌, ◌<◌, arith, refl, inl, inr, List, get_or, ◌∙◌, subst}
 use Rattle.std.proofs.lemmas.Bool.{cases_lt}
 use Rattle.tail_book.specs.Seen.{BookSeen}
-use Rattle.tail_book.specs.inside.Seen.{CostTableSeen}
 use Rattle.tail_book.specs.declared.place.Place.{Place}
-use Rattle.tail_book.specs.declared.place.Place.TheVariants.{After}
 use Rattle.label_store.specs.Seen.{StoreSeen}
 use Rattle.label_store.specs.Buckets.{row_at}
-use Rattle.label_store.specs.Store.{bucket_of}
-use Rattle.label_store.specs.inside.Laws.{KeepsRows}
 use Rattle.pricing.specs.inside.Truth.{row_after}
 use Rattle.pricing.specs.inside.Growth.{Grows, IsAsWide, Tried}
 

@@ -5,3 +5,11 @@ mod Families
 mod Growing
 mod Predecessors
 mod Filling
+mod Ahead
+mod KeyLemmas
+mod Waiters
+mod Standing
+mod Staying
+mod Reaching
+mod Opening
+mod Busy

@@ -1,6 +1,6 @@
 -- Each row is true: it stays so while rows come, and a row that is offered over a usable link and within the limits is true
 -- as it enters, since the route to it is that to its parent with one activity more.
-use Rattle.std.proofs.Common.{◌≡◌, ℕ, ℤ, ◌+ℤ◌, ◌<◌, ◌+◌, inl, inr, arith, refl, List, [], ◌∷◌, ◌++◌, length, Option, None, Some, sym, ◌∙◌, ap, subst}
+use Rattle.std.proofs.Common.{◌≡◌, ℕ, ℤ, ◌<◌, ◌+◌, inl, inr, arith, List, [], ◌∷◌, ◌++◌, length, Option, None, Some, sym, ◌∙◌, ap, subst}
 use Rattle.std.proofs.lemmas.Bool.{cases_lt}
 use Rattle.std.proofs.lemmas.List.{length-append}
 use Rattle.tail_book.specs.Seen.{BookSeen}
@@ -13,11 +13,10 @@ use Rattle.tail_book.specs.inside.Route.{counters_after}
 use Rattle.maint_counters.specs.inside.Counts.{AreCounts}
 use Rattle.branch_marks.specs.declared.fact.Fact.{Fact}
 use Rattle.branch_marks.specs.inside.Fitting.{UsableWithOneMore}
-use Rattle.branch_marks.specs.Weights.{weight, arc_weight, WeightWithOneMore}
+use Rattle.branch_marks.specs.Weights.{weight, WeightWithOneMore}
 use Rattle.label_store.specs.declared.offered.Offered.TheVariants.{Kept, Covered}
 use Rattle.label_store.specs.Seen.{StoreSeen}
-use Rattle.label_store.specs.Store.{parent_of, node_of, IsStore, with_row}
-use Rattle.label_store.specs.Offers.{Offers}
+use Rattle.label_store.specs.Store.{node_of, IsStore}
 use Rattle.label_store.specs.inside.Laws.{KeepsRows, IsEntered, OffersKeepRows, KeptRowsAreOffered}
 use Rattle.pricing.specs.Rows.{counters_of, route_to}
 use Rattle.pricing.specs.inside.Truth.{place_of, row_of, IsTrueRoute, IsTrueAt, AreTrue, IsKept, IsNext}

@@ -20,8 +20,7 @@ ghost use Rattle.pricing.specs.inside.Truth.{AreTrue};
 ghost use Rattle.pricing.specs.inside.Growth.{IsAsWide};
 
 use crate::end::{least_end, spelled};
-use crate::fill::fill_all;
-use crate::{Priced, laws};
+use crate::{Priced, Pricer, laws};
 use branch_marks::Marks;
 use connection_net::Net;
 use label_store::Store;
@@ -53,44 +52,12 @@ pub fn price(
     ensures spelled { IfOk result (λ _. AreSpelled table.now book.now marks.now.facts k duals.now.values store.new) }
     ensures wide { IsAsWide store.old store.new }
 {
-    fill_from_empty(alloc, book, table, net, marks, duals, k, store)?;
-    let answer = priced(alloc, book, table, marks, duals, k, store)?;
-    Ok(answer)
+    let mut pricer = Pricer::new(alloc, book, table)?;
+    pricer.price(book, table, net, marks, duals, k, store)
 }
 
-// Lets the store's rows go, and fills all its buckets.
-fn fill_from_empty(
-    alloc: Global,
-    book: &Book,
-    table: &CostTable,
-    net: &Net,
-    marks: &Marks,
-    duals: &Duals,
-    k: u32,
-    store: &mut Store,
-) -> Result<(), Memory>
-    requires table { IsTableFor book.now table.now }
-    requires net { net.now ≡ net_of book.now }
-    requires marks { AreMarksOf book.now marks.now }
-    requires duals { AreDuals table.now book.now duals.now.values }
-    requires aircraft { k < aircraft book.now }
-    requires nodes { length store.old.buckets ≡ activities book.now }
-    requires width { store.old.width ≡ 1 + length book.now.rules.counters }
-    ensures truths { IfOk result (λ _. AreTrue table.now book.now marks.now.facts k duals.now.values store.new) }
-    ensures closed { IfOk result (λ _. IsClosedFamily table.now book.now marks.now.facts k duals.now.values (labels_of store.new)) }
-    ensures wide { IsAsWide store.old store.new }
-{
-    every_book_is_sound(book);
-    laws::filled_stores_are_closed();
-    store.clear();
-    let mut row = vec![in alloc; 0i64; 1 + book.rules.counters.len()]?;
-    fill_all(book, table, net, marks, duals, k, &mut row, store)?;
-    every_store_is_sound(store);
-    Ok(())
-}
-
-// The answer, from buckets that are a closed family.
-fn priced(
+/// The answer, from buckets that are a closed family.
+pub fn priced(
     alloc: Global,
     book: &Book,
     table: &CostTable,

@@ -20,11 +20,12 @@ ghost use Rattle.branch_marks.specs.Weights.{arc_weight};
 ghost use Rattle.label_store.specs.Store.{bucket_of, IsStore};
 ghost use Rattle.label_store.specs.inside.Laws.{IsCoveredAt};
 ghost use Rattle.pricing.specs.inside.Truth.{place_of, first_row, row_of, IsTrueAt, AreTrue, IsKept, IsNext};
+ghost use Rattle.pricing.specs.inside.Asked.{IsAsked, IsUnderWay};
 ghost use Rattle.pricing.specs.inside.Growth.{Grows, IsAsWide, Tried};
 ghost use Rattle.pricing.specs.inside.Filled.{AreTried, IsReached, IsBegun, IsFilled, AreFilled};
 
 use crate::laws;
-use crate::step::{arc_weight, every_table_is_sound, links_leave_free, stepped};
+use crate::step::{arc_weight, links_leave_free, stepped};
 use branch_marks::Marks;
 use connection_net::Net;
 use connection_net::laws::{predecessors_are_links, rows_for_each, rows_rise};
@@ -33,8 +34,10 @@ use label_store::laws::{
     every_store_is_sound, offered_rows_are_covered, offers_keep_covered, offers_keep_rows,
     others_stay,
 };
-use maint_counters::start;
-use tail_book::laws::{every_book_is_sound, links_rise, rising_routes_are_below};
+use maint_counters::{StepTable, start};
+use tail_book::laws::{
+    every_book_is_sound, every_cost_table_is_sound, links_rise, rising_routes_are_below,
+};
 use tail_book::{Book, CostTable, Duals, Memory, Place};
 
 // Offers the row after an activity.
@@ -71,12 +74,13 @@ fn put(
     Ok(())
 }
 
-// Tries a row on the way to an activity: what is within the limits is offered.
-fn try_row(
+/// Tries a row on the way to an activity: what is within the limits is offered.
+pub fn try_row(
     book: &Book,
     table: &CostTable,
     marks: &Marks,
     duals: &Duals,
+    steps: &StepTable,
     k: u32,
     from: Place,
     arc: i64,
@@ -85,33 +89,28 @@ fn try_row(
     row: &mut [i64],
     store: &mut Store,
 ) -> Result<(), Memory>
-    requires table { IsTableFor book.now table.now }
-    requires duals { AreDuals table.now book.now duals.now.values }
-    requires aircraft { k < aircraft book.now }
+    requires asked { IsAsked table.now book.now steps.now marks.now k duals.now.values }
+    requires state { IsUnderWay table.now book.now marks.now.facts k duals.now.values store.old (length row.old) }
     requires place { IsPlaceOf book.now from }
     requires activity { b < activities book.now }
     requires arc { arc ≡ arc_weight table.now book.now k duals.now.values from b }
     requires arc_range { IsWithin (pos 0 -ℤ pos (2 ^ 62)) (pos (2 ^ 62)) arc }
-    requires node { b < length store.old.buckets }
-    requires width { length row.old ≡ 1 + length book.now.rules.counters }
-    requires same_width { store.old.width ≡ length row.old }
-    requires truths { AreTrue table.now book.now marks.now.facts k duals.now.values store.old }
     requires kept { IsKept store.old parent }
     requires truth { IsTrueAt table.now book.now marks.now.facts k duals.now.values store.old parent }
     requires from { from ≡ place_of store.old parent }
     requires row { row.old ≡ row_of book.now k store.old parent }
     requires usable { IsUsable book.now marks.now.facts k from b }
     requires free { IsFreeBefore book.now k from b }
-    ensures truths { IfOk result (λ _. AreTrue table.now book.now marks.now.facts k duals.now.values store.new) }
+    ensures state { IfOk result (λ _. IsUnderWay table.now book.now marks.now.facts k duals.now.values store.new (length row.new)) }
     ensures grows { IfOk result (λ _. Grows b store.old store.new) }
     ensures tried { IfOk result (λ _. Tried book.now k store.new arc from b row.old) }
     ensures wide { IsAsWide store.old store.new }
     ensures length { length row.new ≡ length row.old }
 {
     every_book_is_sound(book);
-    every_table_is_sound(table);
+    every_cost_table_is_sound(table);
     laws::true_rows_are_small();
-    if !stepped(book, k, arc, from, b, row) {
+    if !stepped(book, steps, k, arc, from, b, row) {
         return Ok(());
     }
     put(book, table, marks, duals, k, b, parent, row, store)
@@ -123,6 +122,7 @@ fn try_bucket(
     table: &CostTable,
     marks: &Marks,
     duals: &Duals,
+    steps: &StepTable,
     k: u32,
     x: u32,
     arc: i64,
@@ -130,23 +130,18 @@ fn try_bucket(
     row: &mut [i64],
     store: &mut Store,
 ) -> Result<(), Memory>
-    requires table { IsTableFor book.now table.now }
-    requires duals { AreDuals table.now book.now duals.now.values }
-    requires aircraft { k < aircraft book.now }
+    requires asked { IsAsked table.now book.now steps.now marks.now k duals.now.values }
+    requires state { IsUnderWay table.now book.now marks.now.facts k duals.now.values store.old (length row.old) }
     requires place { x < activities book.now }
     requires activity { b < activities book.now }
     requires later { x < b }
     requires arc { arc ≡ arc_weight table.now book.now k duals.now.values (After x) b }
     requires arc_range { IsWithin (pos 0 -ℤ pos (2 ^ 62)) (pos (2 ^ 62)) arc }
-    requires nodes { length store.old.buckets ≡ activities book.now }
-    requires width { length row.old ≡ 1 + length book.now.rules.counters }
-    requires same_width { store.old.width ≡ length row.old }
-    requires truths { AreTrue table.now book.now marks.now.facts k duals.now.values store.old }
     requires usable { IsUsable book.now marks.now.facts k (After x) b }
     requires free { IsFreeBefore book.now k (After x) b }
-    ensures truths { IfOk result (λ _. AreTrue table.now book.now marks.now.facts k duals.now.values store.new) }
+    ensures state { IfOk result (λ _. IsUnderWay table.now book.now marks.now.facts k duals.now.values store.new (length row.new)) }
     ensures grows { IfOk result (λ _. Grows b store.old store.new) }
-    ensures tried { IfOk result (λ _. AreTried book.now k store.old (bucket_of store.old x) arc x b store.new) }
+    ensures reached { IfOk result (λ _. IsReached table.now book.now marks.now.facts k duals.now.values store.old x b store.new) }
     ensures wide { IsAsWide store.old store.new }
     ensures length { length row.new ≡ length row.old }
 {
@@ -161,6 +156,7 @@ fn try_bucket(
             table,
             marks,
             duals,
+            steps,
             k,
             from,
             arc,
@@ -173,42 +169,40 @@ fn try_bucket(
     Ok(())
 }
 
-// Tries the rows of an activity on the way to a later one, where the link is usable.
-fn try_link(
+/// Tries the rows of an activity on the way to a later one, where the link is usable.
+pub fn try_link(
     book: &Book,
     table: &CostTable,
     marks: &Marks,
     duals: &Duals,
+    steps: &StepTable,
     k: u32,
     x: u32,
     b: u32,
     row: &mut [i64],
     store: &mut Store,
 ) -> Result<(), Memory>
-    requires table { IsTableFor book.now table.now }
-    requires marks { AreMarksOf book.now marks.now }
-    requires duals { AreDuals table.now book.now duals.now.values }
-    requires aircraft { k < aircraft book.now }
+    requires asked { IsAsked table.now book.now steps.now marks.now k duals.now.values }
+    requires state { IsUnderWay table.now book.now marks.now.facts k duals.now.values store.old (length row.old) }
     requires place { x < activities book.now }
     requires activity { b < activities book.now }
     requires later { x < b }
-    requires nodes { length store.old.buckets ≡ activities book.now }
-    requires width { length row.old ≡ 1 + length book.now.rules.counters }
-    requires same_width { store.old.width ≡ length row.old }
-    requires truths { AreTrue table.now book.now marks.now.facts k duals.now.values store.old }
-    ensures truths { IfOk result (λ _. AreTrue table.now book.now marks.now.facts k duals.now.values store.new) }
+    ensures state { IfOk result (λ _. IsUnderWay table.now book.now marks.now.facts k duals.now.values store.new (length row.new)) }
     ensures grows { IfOk result (λ _. Grows b store.old store.new) }
     ensures reached { IfOk result (λ _. IsReached table.now book.now marks.now.facts k duals.now.values store.old x b store.new) }
     ensures wide { IsAsWide store.old store.new }
     ensures length { length row.new ≡ length row.old }
 {
+    if store.count(x as usize) == 0 {
+        return Ok(());
+    }
     let from = Place::After(x);
     if !marks.usable(book, k, from, b) {
         return Ok(());
     }
     links_leave_free(book, k, from, b);
     let arc = arc_weight(book, table, duals, k, from, b);
-    try_bucket(book, table, marks, duals, k, x, arc, b, row, store)
+    try_bucket(book, table, marks, duals, steps, k, x, arc, b, row, store)
 }
 
 // Tries the rows of each activity before an activity.
@@ -218,22 +212,17 @@ fn try_links(
     net: &Net,
     marks: &Marks,
     duals: &Duals,
+    steps: &StepTable,
     k: u32,
     b: u32,
     row: &mut [i64],
     store: &mut Store,
 ) -> Result<(), Memory>
-    requires table { IsTableFor book.now table.now }
+    requires asked { IsAsked table.now book.now steps.now marks.now k duals.now.values }
+    requires state { IsUnderWay table.now book.now marks.now.facts k duals.now.values store.old (length row.old) }
     requires net { net.now ≡ net_of book.now }
-    requires marks { AreMarksOf book.now marks.now }
-    requires duals { AreDuals table.now book.now duals.now.values }
-    requires aircraft { k < aircraft book.now }
     requires activity { b < activities book.now }
-    requires nodes { length store.old.buckets ≡ activities book.now }
-    requires width { length row.old ≡ 1 + length book.now.rules.counters }
-    requires same_width { store.old.width ≡ length row.old }
-    requires truths { AreTrue table.now book.now marks.now.facts k duals.now.values store.old }
-    ensures truths { IfOk result (λ _. AreTrue table.now book.now marks.now.facts k duals.now.values store.new) }
+    ensures state { IfOk result (λ _. IsUnderWay table.now book.now marks.now.facts k duals.now.values store.new (length row.new)) }
     ensures grows { IfOk result (λ _. Grows b store.old store.new) }
     ensures reached { IfOk result (λ _. (x : ℕ) → x < b → IsReached table.now book.now marks.now.facts k duals.now.values store.old x b store.new) }
     ensures wide { IsAsWide store.old store.new }
@@ -246,34 +235,34 @@ fn try_links(
     rising_routes_are_below();
     every_book_is_sound(book);
     every_store_is_sound(store);
+    if !marks.alive(book, k, b) {
+        return Ok(());
+    }
     let before = net.predecessors(b);
     for i in 0..before.len() {
-        try_link(book, table, marks, duals, k, before[i], b, row, store)?;
+        try_link(
+            book, table, marks, duals, steps, k, before[i], b, row, store,
+        )?;
     }
     Ok(())
 }
 
-// Tries the carry-in on the way to an activity, where the link is usable.
-fn try_first(
+/// Tries the carry-in on the way to an activity, where the link is usable.
+pub fn try_first(
     book: &Book,
     table: &CostTable,
     marks: &Marks,
     duals: &Duals,
+    steps: &StepTable,
     k: u32,
     b: u32,
     row: &mut [i64],
     store: &mut Store,
 ) -> Result<(), Memory>
-    requires table { IsTableFor book.now table.now }
-    requires marks { AreMarksOf book.now marks.now }
-    requires duals { AreDuals table.now book.now duals.now.values }
-    requires aircraft { k < aircraft book.now }
+    requires asked { IsAsked table.now book.now steps.now marks.now k duals.now.values }
+    requires state { IsUnderWay table.now book.now marks.now.facts k duals.now.values store.old (length row.old) }
     requires activity { b < activities book.now }
-    requires nodes { length store.old.buckets ≡ activities book.now }
-    requires width { length row.old ≡ 1 + length book.now.rules.counters }
-    requires same_width { store.old.width ≡ length row.old }
-    requires truths { AreTrue table.now book.now marks.now.facts k duals.now.values store.old }
-    ensures truths { IfOk result (λ _. AreTrue table.now book.now marks.now.facts k duals.now.values store.new) }
+    ensures state { IfOk result (λ _. IsUnderWay table.now book.now marks.now.facts k duals.now.values store.new (length row.new)) }
     ensures grows { IfOk result (λ _. Grows b store.old store.new) }
     ensures begun { IfOk result (λ _. IsBegun table.now book.now marks.now.facts k duals.now.values b store.new) }
     ensures wide { IsAsWide store.old store.new }
@@ -286,7 +275,9 @@ fn try_first(
     links_leave_free(book, k, from, b);
     let arc = arc_weight(book, table, duals, k, from, b);
     write_first(book, k, row);
-    try_row(book, table, marks, duals, k, from, arc, b, None, row, store)
+    try_row(
+        book, table, marks, duals, steps, k, from, arc, b, None, row, store,
+    )
 }
 
 // Writes the row at the carry-in.
@@ -300,37 +291,32 @@ fn write_first(book: &Book, k: u32, row: &mut [i64])
     row[0] = 0;
 }
 
-// Fills the bucket of an activity.
-fn fill(
+/// Fills the bucket of an activity.
+pub fn fill(
     book: &Book,
     table: &CostTable,
     net: &Net,
     marks: &Marks,
     duals: &Duals,
+    steps: &StepTable,
     k: u32,
     b: u32,
     row: &mut [i64],
     store: &mut Store,
 ) -> Result<(), Memory>
-    requires table { IsTableFor book.now table.now }
+    requires asked { IsAsked table.now book.now steps.now marks.now k duals.now.values }
+    requires state { IsUnderWay table.now book.now marks.now.facts k duals.now.values store.old (length row.old) }
     requires net { net.now ≡ net_of book.now }
-    requires marks { AreMarksOf book.now marks.now }
-    requires duals { AreDuals table.now book.now duals.now.values }
-    requires aircraft { k < aircraft book.now }
     requires activity { b < activities book.now }
-    requires nodes { length store.old.buckets ≡ activities book.now }
-    requires width { length row.old ≡ 1 + length book.now.rules.counters }
-    requires same_width { store.old.width ≡ length row.old }
-    requires truths { AreTrue table.now book.now marks.now.facts k duals.now.values store.old }
-    ensures truths { IfOk result (λ _. AreTrue table.now book.now marks.now.facts k duals.now.values store.new) }
+    ensures state { IfOk result (λ _. IsUnderWay table.now book.now marks.now.facts k duals.now.values store.new (length row.new)) }
     ensures grows { IfOk result (λ _. Grows b store.old store.new) }
     ensures filled { IfOk result (λ _. IsFilled table.now book.now marks.now.facts k duals.now.values store.new b) }
     ensures wide { IsAsWide store.old store.new }
     ensures length { length row.new ≡ length row.old }
 {
-    try_first(book, table, marks, duals, k, b, row, store)?;
+    try_first(book, table, marks, duals, steps, k, b, row, store)?;
     every_store_is_sound(store);
-    try_links(book, table, net, marks, duals, k, b, row, store)?;
+    try_links(book, table, net, marks, duals, steps, k, b, row, store)?;
     Ok(())
 }
 
@@ -341,27 +327,22 @@ pub fn fill_all(
     net: &Net,
     marks: &Marks,
     duals: &Duals,
+    steps: &StepTable,
     k: u32,
     row: &mut [i64],
     store: &mut Store,
 ) -> Result<(), Memory>
-    requires table { IsTableFor book.now table.now }
+    requires asked { IsAsked table.now book.now steps.now marks.now k duals.now.values }
+    requires state { IsUnderWay table.now book.now marks.now.facts k duals.now.values store.old (length row.old) }
     requires net { net.now ≡ net_of book.now }
-    requires marks { AreMarksOf book.now marks.now }
-    requires duals { AreDuals table.now book.now duals.now.values }
-    requires aircraft { k < aircraft book.now }
-    requires nodes { length store.old.buckets ≡ activities book.now }
-    requires width { length row.old ≡ 1 + length book.now.rules.counters }
-    requires same_width { store.old.width ≡ length row.old }
-    requires truths { AreTrue table.now book.now marks.now.facts k duals.now.values store.old }
-    ensures truths { IfOk result (λ _. AreTrue table.now book.now marks.now.facts k duals.now.values store.new) }
+    ensures state { IfOk result (λ _. IsUnderWay table.now book.now marks.now.facts k duals.now.values store.new (length row.new)) }
     ensures filled { IfOk result (λ _. AreFilled table.now book.now marks.now.facts k duals.now.values store.new (activities book.now)) }
     ensures wide { IsAsWide store.old store.new }
 {
     every_book_is_sound(book);
     for b in 0..book.activities.len() as u32 {
         every_store_is_sound(store);
-        fill(book, table, net, marks, duals, k, b, row, store)?;
+        fill(book, table, net, marks, duals, steps, k, b, row, store)?;
     }
     Ok(())
 }

@@ -4,27 +4,22 @@ ghost use Rattle.std.specs.Prelude.{◌≡◌, ◌<◌, ◌≤◌, ◌+◌, ◌*
 ghost use Rattle.tail_book.specs.Lookup.{activities, aircraft};
 ghost use Rattle.tail_book.specs.Counters.{step, WithinLimits};
 ghost use Rattle.tail_book.specs.Link.{IsLink};
-ghost use Rattle.tail_book.specs.inside.CostTable.{IsCostTable, IsTableFor, activity_cost_in, connection_cost_in, box_end};
+ghost use Rattle.tail_book.specs.inside.CostTable.{IsTableFor, activity_cost_in, connection_cost_in, box_end};
 ghost use Rattle.tail_book.specs.inside.Place.{IsPlaceOf};
 ghost use Rattle.tail_book.specs.inside.Sound.{IsWithin};
 ghost use Rattle.turn_rules.specs.inside.FreeBefore.{IsFreeBefore};
 ghost use Rattle.maint_counters.specs.inside.Counts.{AreCounts};
+ghost use Rattle.maint_counters.specs.inside.StepTable.{IsStepTableOf};
 ghost use Rattle.branch_marks.specs.Settled.{AreDuals};
 ghost use Rattle.branch_marks.specs.Weights.{arc_weight};
 ghost use Rattle.pricing.specs.Rows.{weight_of, counters_of};
 ghost use Rattle.pricing.specs.inside.Truth.{row_after};
 
-use maint_counters::step;
+use maint_counters::{StepTable, step_by};
+use tail_book::laws::{every_book_is_sound, every_cost_table_is_sound};
 use tail_book::{Book, COST_UNIT, CostTable, Duals, Place};
-use turn_rules::{gap, turn};
-
-/// Every table keeps its maxima, and no sum of its costs and duals passes 2^61.
-pub fn every_table_is_sound(table: &CostTable)
-    ensures { IsCostTable table.now }
-{
-    // A look at a field brings out what every table keeps.
-    let _ = &table.fly;
-}
+use turn_rules::connection_cost;
+use turn_rules::laws::links_leave_time;
 
 /// One activity's costs, and a dual, are small in thousandths of a cost unit.
 fn costs_are_small(table: &CostTable)
@@ -32,32 +27,16 @@ fn costs_are_small(table: &CostTable)
     ensures costs { 1000 * (table.now.fly_max + table.now.band_max) ≤ 2 ^ 61 }
     ensures duals { box_end table.now ≤ 2 ^ 61 }
 {
-    every_table_is_sound(table);
+    every_cost_table_is_sound(table);
 }
 
-/// A link leaves an aircraft free before the activity starts.
+/// A link leaves an aircraft free before the activity starts: the law for one link.
 pub fn links_leave_free(book: &Book, k: u32, from: Place, b: u32)
-    requires aircraft { k < aircraft book.now }
-    requires place { IsPlaceOf book.now from }
-    requires activity { b < activities book.now }
     requires link { IsLink book.now k from b }
     ensures { IsFreeBefore book.now k from b }
 {
-    let _ = turn(book, k, from, b);
-}
-
-// What a connection costs.
-fn connection_cost(book: &Book, table: &CostTable, k: u32, from: Place, b: u32) -> u64
-    requires aircraft { k < aircraft book.now }
-    requires place { IsPlaceOf book.now from }
-    requires activity { b < activities book.now }
-    ensures value { result ≡ connection_cost_in table.now book.now k from b }
-    ensures most { result ≤ table.now.band_max }
-{
-    match from {
-        Place::Carry => 0,
-        Place::After(_) => table.connection_cost(gap(book, k, from, b)),
-    }
+    every_book_is_sound(book);
+    links_leave_time();
 }
 
 // What an activity and the connection to it cost.
@@ -70,7 +49,7 @@ fn arc_cost(book: &Book, table: &CostTable, k: u32, from: Place, b: u32) -> u64
     ensures most { 1000 * result ≤ 2 ^ 61 }
 {
     costs_are_small(table);
-    table.activity_cost(k, b) + connection_cost(book, table, k, from, b)
+    table.activity_cost(k, b) + connection_cost(book, &table.bands, k, from, b)
 }
 
 /// What an activity after a place adds to a weight.
@@ -88,7 +67,16 @@ pub fn arc_weight(book: &Book, table: &CostTable, duals: &Duals, k: u32, from: P
 }
 
 /// Writes the row after an activity that adds so much, and answers whether its counters are within their limits.
-pub fn stepped(book: &Book, k: u32, arc: i64, from: Place, b: u32, row: &mut [i64]) -> bool
+pub fn stepped(
+    book: &Book,
+    steps: &StepTable,
+    k: u32,
+    arc: i64,
+    from: Place,
+    b: u32,
+    row: &mut [i64],
+) -> bool
+    requires steps { IsStepTableOf book.now steps.now }
     requires aircraft { k < aircraft book.now }
     requires place { IsPlaceOf book.now from }
     requires activity { b < activities book.now }
@@ -103,5 +91,5 @@ pub fn stepped(book: &Book, k: u32, arc: i64, from: Place, b: u32, row: &mut [i6
     ensures length { length row.new ≡ length row.old }
 {
     row[0] += arc;
-    step(book, k, from, b, &mut row[1..])
+    step_by(book, steps, k, from, b, &mut row[1..])
 }

@@ -1,32 +1,12 @@
 //! Offers by chance: the store holds what a plain list of labels holds that looks at all of them.
 
-ghost use Rattle.std.specs.Prelude.{◌<◌};
-
 use super::{kept, make_offer, numbers};
 use crate::*;
+use dice::Dice;
 use std::alloc::Global;
 use std::process::Abort;
 use std::test::Fail;
 use tail_book::Memory;
-
-// Numbers that look like chance, the same ones for the same seed.
-#[derive(Drop)]
-struct Dice {
-    state: u64,
-}
-
-impl Dice {
-    fn below(&mut self, n: u32) -> u32
-        requires { 0 < n }
-        ensures { result < n }
-    {
-        self.state = self
-            .state
-            .wrapping_mul(6_364_136_223_846_793_005)
-            .wrapping_add(1_442_695_040_888_963_407);
-        (self.state >> 32) as u32 % n
-    }
-}
 
 #[derive(Clone, Copy, Debug)]
 struct Label {
@@ -147,7 +127,7 @@ fn offer_all(
     seed: u64,
     offers: u32,
 ) -> Result<(usize, usize), Memory> {
-    let (mut dice, mut labels) = (Dice { state: seed }, Vec::with_capacity(alloc, 1000)?);
+    let (mut dice, mut labels) = (Dice::new(seed), Vec::with_capacity(alloc, 1000)?);
     for _ in 0..offers {
         let label = a_label(&mut dice, &labels);
         let told = offered_again(rt, alloc, store, &labels, &label)?;

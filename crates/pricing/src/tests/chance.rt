@@ -5,7 +5,7 @@ ghost use Rattle.tail_book.specs.Lookup.{activities, aircraft};
 ghost use Rattle.tail_book.specs.inside.Place.{IsPlaceOf};
 ghost use Rattle.branch_marks.specs.inside.MarkTables.{AreMarksOf};
 
-use super::{Row, book, counters, flight, marks, priced};
+use super::{Row, book, counters, flight, marks, priced, priced_by, weight};
 use crate::Priced;
 use branch_marks::{Fact, Marks};
 use maint_counters::{start, step};
@@ -230,6 +230,26 @@ fn least(
         best = lesser(best, weigh(rt, book, &marks, duals, k, &route, &mut values));
     }
     Ok((best, weigh(rt, book, &marks, duals, k, route, &mut values)))
+}
+
+// Lines and single links give the same weight.
+#[test]
+fn lines_weigh_as_single_links(rt: HostRuntime) -> Result<(), Fail> {
+    for seed in 300..400u64 {
+        let mut dice = Dice { state: seed };
+        let book = dice.book(rt.alloc())?;
+        let (facts, duals) = (dice.facts(rt.alloc())?, dice.duals(rt.alloc())?);
+        for k in 0..2 {
+            let by_lines = priced(rt.alloc(), &book, &facts, &duals, k)?;
+            let by_links = priced_by(rt.alloc(), &book, &facts, &duals, k, false)?;
+            assert_eq!(rt;
+                weight(&by_lines),
+                weight(&by_links),
+                "seed {seed}, aircraft {k}"
+            );
+        }
+    }
+    Ok(())
 }
 
 // Of 300 books some aircraft are stuck, and some fly more than one activity.

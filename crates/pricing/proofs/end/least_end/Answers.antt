@@ -1,4 +1,4 @@
-use Rattle.std.proofs.Common.{◌≡◌, ◌<◌, ℕ, pos, arith, inl, inr, subst}
+use Rattle.std.proofs.Common.{◌≡◌, ℕ, pos, arith, inl, inr, subst}
 use Rattle.std.proofs.lemmas.Bool.{cases_lt}
 use Rattle.label_store.specs.Buckets.{row_at}
 use Rattle.pricing.specs.Rows.{weight_of}

@@ -1,6 +1,6 @@
-use Rattle.std.proofs.Common.{◌≡◌, ◌<◌, ◌++◌, ◌∷◌, [], ◌∙◌, ℕ, Option, rules, arith, length, ap, sym, subst}
+use Rattle.std.proofs.Common.{◌≡◌, ◌<◌, ◌++◌, ◌∷◌, [], ◌∙◌, ℕ, Option, rules, length, ap, sym, subst}
 use Rattle.std.specs.Prelude.{reverse}
-use Rattle.label_store.specs.Store.{node_of, parent_of}
+use Rattle.label_store.specs.Store.{node_of}
 use Rattle.pricing.specs.Rows.{route_to}
 use Rattle.pricing.specs.inside.Truth.{IsKept}
 use Rattle.pricing.proofs.Routes.{passed_one_more, parent_is_kept}

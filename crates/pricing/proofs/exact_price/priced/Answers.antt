@@ -1,4 +1,4 @@
-use Rattle.std.proofs.Common.{◌≡◌, ℤ, ℕ, List, w64, to_z, of_z, FitsSigned, rules, sym, subst}
+use Rattle.std.proofs.Common.{ℤ, ℕ, List, w64, FitsSigned, rules, sym, subst}
 use Rattle.std.proofs.lemmas.Int.{to_z-of_z}
 use Rattle.branch_marks.specs.Weights.{IsLeastWeight, IsRouteOfWeight}
 use Rattle.pricing.proofs.exact_price.priced.Goals as goal

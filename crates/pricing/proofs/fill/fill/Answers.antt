@@ -5,7 +5,7 @@ use Rattle.pricing.proofs.fill.fill.Goals as goal
 
 pub returns-clause-filled : goal.returns-clause-filled
 returns-clause-filled c =
-    let node : c.args.b < length c.try_first.new.store.buckets = omega (arith, c.in_ok-try_first.ensures.wide.nodes, c.requires.nodes, c.requires.activity) in
+    let node : c.args.b < length c.try_first.new.store.buckets = omega (arith, c.in_ok-try_first.ensures.wide.nodes, c.requires.state.nodes, c.requires.activity) in
     filled c.args.table.now c.args.book.now c.args.marks.now.facts c.args.k c.args.duals.now.values c.try_first.new.store c.try_links.new.store c.args.b
     c.every_store_is_sound.ensures node c.in_ok-try_links.ensures.grows c.in_ok-try_first.ensures.begun c.in_ok-try_links.ensures.reached
 

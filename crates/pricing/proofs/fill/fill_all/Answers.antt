@@ -9,10 +9,10 @@ pub loop-b-preserved : goal.loop-b-preserved
 loop-b-preserved c =
     let inv = c.loop-b.invariant in
     let few : c.loop-b.b < activities c.args.book.now = search rules in
-    let node : c.loop-b.b < length c.loop-b.store.buckets = omega (arith, few, inv.wide.nodes, c.requires.nodes) in
+    let node : c.loop-b.b < length c.loop-b.store.buckets = omega (arith, few, inv.wide.nodes, c.requires.state.nodes) in
     let long : length c.fill.new.row ≡ length c.args.row.now = search rules in
     record {
-      truths = c.in_ok-fill.ensures.truths;
+      state = c.in_ok-fill.ensures.state;
       wide = wide_trans c.args.store.now c.loop-b.store c.fill.new.store inv.wide c.in_ok-fill.ensures.wide;
       filled = filled_one_more c.args.table.now c.args.book.now c.args.marks.now.facts c.args.k c.args.duals.now.values c.loop-b.store c.fill.new.store c.loop-b.b
           c.every_store_is_sound.ensures node c.in_ok-fill.ensures.grows inv.filled c.in_ok-fill.ensures.filled;

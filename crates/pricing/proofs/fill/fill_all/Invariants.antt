@@ -1,5 +1,5 @@
 use Rattle.std.proofs.Common.{◌≡◌, length}
-use Rattle.pricing.specs.inside.Truth.{AreTrue}
+use Rattle.pricing.specs.inside.Asked.{IsUnderWay}
 use Rattle.pricing.specs.inside.Growth.{IsAsWide}
 use Rattle.pricing.specs.inside.Filled.{AreFilled}
 use Rattle.pricing.proofs.fill.fill_all.Given as goal
@@ -7,7 +7,7 @@ use Rattle.pricing.proofs.fill.fill_all.Given as goal
 -- the buckets before b are done
 abbrev pub invariant-loop-b : goal.invariant-loop-b
 invariant-loop-b l = record {
-  truths : AreTrue l.table l.book l.marks.facts l.k l.duals.values l.store;
+  state : IsUnderWay l.table l.book l.marks.facts l.k l.duals.values l.store (length l.row);
   wide : IsAsWide l.initial.store l.store;
   filled : AreFilled l.table l.book l.marks.facts l.k l.duals.values l.store l.b;
   row : length l.row ≡ length l.initial.row;

@@ -22,7 +22,7 @@ loop-i-preserved c =
     let later : x < b = c.requires.later in
     let other : x ≢ b = omega (arith, later) in
     let same : bucket_of old x ≡ bucket = inv.grows.others x other in
-    let node : x < length first.buckets = omega (arith, c.requires.nodes, c.requires.place) in
+    let node : x < length first.buckets = omega (arith, c.requires.state.nodes, c.requires.place) in
     let within : i < length bucket = omega arith in
     let read : c.copy_from_slice.new.self ≡ row_at old.rows c.at-j.result = search rules in
     let number : c.at-j.result ≡ get_or (bucket_of old x) i 0 = c.at-j.ensures.number in
@@ -31,7 +31,7 @@ loop-i-preserved c =
     ∙ inv.grows.rows.rows (get_or bucket i 0) (c.every_store_is_sound.ensures.numbers x node i 0 within).kept in
     let long : length c.try_row.new.row ≡ length c.args.row.now = search rules in
     record {
-      truths = c.in_ok-try_row.ensures.truths;
+      state = c.in_ok-try_row.ensures.state;
       grows = Grows-trans b first old new inv.grows c.in_ok-try_row.ensures.grows;
       wide = wide_trans first old new inv.wide c.in_ok-try_row.ensures.wide;
       tried = tried_one_more c.args.book.now c.args.k first old new bucket (to_z w64 (of_z w64 c.args.arc)) (After x) b i c.copy_from_slice.new.self c.in_ok-try_row.ensures.grows
@@ -40,12 +40,12 @@ loop-i-preserved c =
     }
 
 -- each row of the bucket stands at one of its places
-pub returns-clause-tried : goal.returns-clause-tried
-returns-clause-tried c = λ j has.
+pub returns-clause-reached : goal.returns-clause-reached
+returns-clause-reached c = λ usable j has.
     let bucket = bucket_of c.args.store.now c.args.x in
     let (q, lt, is) = has in
     let below : q < c.loop-i.i = omega (arith, lt) in
     let here : get_or bucket q 0 ≡ j = sym (get_or_default bucket q j 0 lt) ∙ is in
-    subst (λ (arc : ℤ). Tried c.args.book.now c.args.k c.loop-i.store arc (After c.args.x) c.args.b (row_at c.args.store.now.rows j)) (to_z-of_z w64 c.args.arc c.ranges.arc)
+    subst (λ (arc : ℤ). Tried c.args.book.now c.args.k c.loop-i.store arc (After c.args.x) c.args.b (row_at c.args.store.now.rows j)) (to_z-of_z w64 c.args.arc c.ranges.arc ∙ c.requires.arc)
     (subst (λ (m : ℕ). Tried c.args.book.now c.args.k c.loop-i.store (to_z w64 (of_z w64 c.args.arc)) (After c.args.x) c.args.b (row_at c.args.store.now.rows m)) here
     (c.loop-i.invariant.tried q below))

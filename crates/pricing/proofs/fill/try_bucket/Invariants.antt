@@ -2,14 +2,14 @@ use Rattle.std.proofs.Common.{◌≡◌, ◌<◌, ℕ, length, get_or}
 use Rattle.tail_book.specs.declared.place.Place.TheVariants.{After}
 use Rattle.label_store.specs.Buckets.{row_at}
 use Rattle.label_store.specs.Store.{bucket_of}
-use Rattle.pricing.specs.inside.Truth.{AreTrue}
+use Rattle.pricing.specs.inside.Asked.{IsUnderWay}
 use Rattle.pricing.specs.inside.Growth.{Grows, IsAsWide, Tried}
 use Rattle.pricing.proofs.fill.try_bucket.Given as goal
 
 -- the rows before place i were tried
 abbrev pub invariant-loop-i : goal.invariant-loop-i
 invariant-loop-i l = record {
-  truths : AreTrue l.table l.book l.marks.facts l.k l.duals.values l.store;
+  state : IsUnderWay l.table l.book l.marks.facts l.k l.duals.values l.store (length l.row);
   grows : Grows l.b l.initial.store l.store;
   wide : IsAsWide l.initial.store l.store;
   tried : (q : ℕ) → q < l.i → Tried l.book l.k l.store l.arc (After l.x) l.b (row_at l.initial.store.rows (get_or (bucket_of l.initial.store l.x) q 0));

@@ -1,4 +1,4 @@
-use Rattle.std.proofs.Common.{◌≡◌, ◌<◌, ◌∙◌, ℕ, List, rules, arith, length, get_or, ap, sym, subst}
+use Rattle.std.proofs.Common.{◌≡◌, ◌<◌, ℕ, rules, arith, length, get_or, subst}
 use Rattle.pricing.specs.inside.Filled.{IsReached}
 use Rattle.pricing.proofs.Growing.{Grows-trans, wide_trans}
 use Rattle.pricing.proofs.Predecessors.{predecessor, place_of_predecessor}
@@ -30,10 +30,10 @@ loop-i-preserved c =
     let bounds = predecessor c.predecessors_are_links.ensures c.args.book.now c.args.net.now c.requires.net c.args.b there c.predecessors-before.ensures
     c.rising_routes_are_below.ensures (c.rows_rise.ensures c.args.book.now) c.links_rise.ensures c.every_book_is_sound.ensures c.requires.activity i (omega arith) in
     let later : x < c.args.b = bounds.1 in
-    let place : x < length first.buckets = omega (arith, later, c.requires.activity, c.requires.nodes) in
+    let place : x < length first.buckets = omega (arith, later, c.requires.activity, c.requires.state.nodes) in
     let long : length c.try_link.new.row ≡ length c.args.row.now = search rules in
     record {
-      truths = c.in_ok-try_link.ensures.truths;
+      state = c.in_ok-try_link.ensures.state;
       grows = Grows-trans c.args.b first old new inv.grows c.in_ok-try_link.ensures.grows;
       wide = wide_trans first old new inv.wide c.in_ok-try_link.ensures.wide;
       reached = reached_one_more c.args.table.now c.args.book.now c.args.marks.now.facts c.args.k c.args.duals.now.values first old new there c.args.b i
@@ -47,7 +47,7 @@ loop-i-preserved c =
 pub returns-clause-reached : goal.returns-clause-reached
 returns-clause-reached c = λ x before usable.
     let (q, lt, here) = place_of_predecessor c.predecessors_are_links.ensures c.args.book.now c.args.net.now c.requires.net c.args.b
-    c.predecessors-before.result.now c.predecessors-before.ensures c.args.k x c.requires.aircraft usable.link in
+    c.predecessors-before.result.now c.predecessors-before.ensures c.args.k x c.requires.asked.aircraft usable.link in
     let below : q < c.loop-i.i = omega (arith, lt) in
     subst (λ (y : ℕ). IsReached c.args.table.now c.args.book.now c.args.marks.now.facts c.args.k c.args.duals.now.values c.args.store.now y c.args.b c.loop-i.store) here
     (c.loop-i.invariant.reached q below) usable

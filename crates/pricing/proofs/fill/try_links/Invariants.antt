@@ -1,5 +1,5 @@
 use Rattle.std.proofs.Common.{◌≡◌, ◌<◌, ℕ, length, get_or}
-use Rattle.pricing.specs.inside.Truth.{AreTrue}
+use Rattle.pricing.specs.inside.Asked.{IsUnderWay}
 use Rattle.pricing.specs.inside.Growth.{Grows, IsAsWide}
 use Rattle.pricing.specs.inside.Filled.{IsReached}
 use Rattle.pricing.proofs.fill.try_links.Given as goal
@@ -7,7 +7,7 @@ use Rattle.pricing.proofs.fill.try_links.Given as goal
 -- the activities at places before i were tried
 abbrev pub invariant-loop-i : goal.invariant-loop-i
 invariant-loop-i l = record {
-  truths : AreTrue l.table l.book l.marks.facts l.k l.duals.values l.store;
+  state : IsUnderWay l.table l.book l.marks.facts l.k l.duals.values l.store (length l.row);
   grows : Grows l.b l.initial.store l.store;
   wide : IsAsWide l.initial.store l.store;
   reached : (q : ℕ) → q < l.i → IsReached l.table l.book l.marks.facts l.k l.duals.values l.initial.store (get_or l.before q 0) l.b l.store;

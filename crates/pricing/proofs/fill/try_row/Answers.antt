@@ -1,4 +1,4 @@
-use Rattle.std.proofs.Common.{◌≡◌, ◌∙◌, ℤ, pos, ◌-ℤ◌, ◌^◌, List, rules, w64, ap, sym, subst}
+use Rattle.std.proofs.Common.{◌∙◌, ℤ, pos, ◌-ℤ◌, ◌^◌, List, rules, w64, ap, sym, subst}
 use Rattle.std.specs.Prelude.{IsTrue}
 use Rattle.std.proofs.lemmas.Int.{to_z-of_z}
 use Rattle.tail_book.specs.declared.place.Place.{Place}
@@ -12,7 +12,7 @@ pub stepped-requires-clause-light : goal.stepped-requires-clause-light
 stepped-requires-clause-light c =
     subst (λ (r : List ℤ). IsWithin (pos 0 -ℤ pos (2 ^ 61)) (pos (2 ^ 61)) (weight_of r)) (sym c.requires.row)
     (c.true_rows_are_small.ensures c.args.table.now c.args.book.now c.args.marks.now.facts c.args.k c.args.duals.now.values c.args.store.now c.args.parent
-    c.every_book_is_sound.ensures c.every_table_is_sound.ensures c.requires.table c.requires.duals c.requires.truth)
+    c.every_book_is_sound.ensures c.every_cost_table_is_sound.ensures c.requires.asked.table c.requires.asked.duals c.requires.truth)
 
 -- the step was within the limits
 pub put-requires-clause-next : goal.put-requires-clause-next

@@ -5,11 +5,11 @@ use Rattle.pricing.proofs.Steps.{behind_weight, countable}
 use Rattle.pricing.proofs.step.stepped.Goals as goal
 
 -- the counters are those behind the old weight
-pub step-requires-clause-range : goal.step-requires-clause-range
-step-requires-clause-range c =
+pub step_by-requires-clause-range : goal.step_by-requires-clause-range
+step_by-requires-clause-range c =
     subst AreCountable (sym (behind_weight c.args.row.now _)) (countable _ c.requires.counts)
 
 pub returns-clause-counts : goal.returns-clause-counts
 returns-clause-counts c = λ within.
-    subst AreCounts (c.step.ensures.steps ∙ ap (step c.args.book.now c.args.k c.args.from c.args.b) (behind_weight c.args.row.now _))
-    (c.step.ensures.range c.requires.free within)
+    subst AreCounts (c.step_by.ensures.steps ∙ ap (step c.args.book.now c.args.k c.args.from c.args.b) (behind_weight c.args.row.now _))
+    (c.step_by.ensures.range c.requires.free within)

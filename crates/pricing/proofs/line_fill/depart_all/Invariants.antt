@@ -1,0 +1,16 @@
+use Rattle.std.proofs.Common.{◌≡◌, ◌<◌, ℕ, length}
+use Rattle.pricing.specs.inside.Asked.{IsUnderWay}
+use Rattle.pricing.specs.inside.Growth.{Grows, IsAsWide}
+use Rattle.pricing.specs.inside.Waiting.{AreTriedIn, IsWaiting}
+use Rattle.pricing.proofs.line_fill.depart_all.Given as goal
+
+-- the lines before that of window i were tried
+abbrev pub invariant-loop-i : goal.invariant-loop-i
+invariant-loop-i l = record {
+  state : IsUnderWay l.table l.book l.marks.facts l.k l.duals.values l.store (length l.row);
+  grows : Grows l.b l.initial.store l.store;
+  wide : IsAsWide l.initial.store l.store;
+  row : length l.row ≡ length l.initial.row;
+  waiting : IsWaiting l.book l.marks.facts l.stand l.windows l.store l.waiting;
+  tried : (v : ℕ) → v < l.i → AreTriedIn l.table l.book l.k l.duals.values l.initial.store l.store l.windows l.b l.waiting v;
+}
