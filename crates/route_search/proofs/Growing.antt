@@ -1,0 +1,168 @@
+-- Stores that grow: what was tried stays tried, and buckets that are done, with their rows, stay as they were.
+use Rattle.std.proofs.Common.{◌≡◌, ℕ, ℤ, ◌+ℤ◌, ◌-ℤ◌, ◌≤ℤ◌, ◌<ℤ◌, suc, ◌+◌, ◌<◌, ◌≤◌, ◌⊎◌, arith, refl, inl, inr, List, [], ◌∷◌, length, get_or, Option, None, Some, sym, ◌∙◌, ap, subst}
+use Rattle.std.specs.Prelude.{pos}
+use Rattle.std.specs.List.{Contains}
+use Rattle.std.proofs.lemmas.Bool.{cases_lt}
+use Rattle.std.proofs.lemmas.Int.{ints}
+use Rattle.std.proofs.lemmas.List.Elements.{All-contains}
+use Rattle.tail_book.specs.Seen.{BookSeen}
+use Rattle.tail_book.specs.inside.Seen.{CostTableSeen}
+use Rattle.tail_book.specs.declared.place.Place.{Place}
+use Rattle.tail_book.specs.declared.place.Place.TheVariants.{Carry, After}
+use Rattle.branch_marks.specs.declared.fact.Fact.{Fact}
+use Rattle.branch_marks.specs.Marks.{IsUsable, FitsFrom}
+use Rattle.branch_marks.specs.Weights.{arc_weight, weight_from}
+use Rattle.label_store.specs.Seen.{StoreSeen}
+use Rattle.label_store.specs.Buckets.{row_at}
+use Rattle.label_store.specs.Store.{bucket_of, IsStore, IsRowOf}
+use Rattle.pricing.specs.Rows.{weight_of}
+use Rattle.pricing.specs.inside.Truth.{first_row, row_after}
+use Rattle.route_search.specs.declared.completion.Way.{Way}
+use Rattle.route_search.specs.inside.Completion.{IsWay}
+use Rattle.route_search.specs.inside.Reach.{IsPast, IsTried, GoesOn, AreTried, IsDone, AreDone, Grows, IsAsWide}
+
+pub Grows-refl : (m : ℕ) (store : StoreSeen) → Grows m store store
+Grows-refl m store = record {
+  rows = record { longer = omega arith; rows = λ i lt. refl; parents = λ i lt. refl; nodes = λ i lt. refl };
+  covered = λ v row covered. covered;
+  others = λ v other. refl;
+}
+
+pub Grows-trans : (m : ℕ) (one two three : StoreSeen) → Grows m one two → Grows m two three → Grows m one three
+Grows-trans m one two three first next =
+    let longer = first.rows.longer in
+    let longer_yet = next.rows.longer in
+    record {
+      rows = record {
+        longer = omega (arith, longer, longer_yet);
+        rows = λ i lt. next.rows.rows i (omega (arith, lt, longer)) ∙ first.rows.rows i lt;
+        parents = λ i lt. next.rows.parents i (omega (arith, lt, longer)) ∙ first.rows.parents i lt;
+        nodes = λ i lt. next.rows.nodes i (omega (arith, lt, longer)) ∙ first.rows.nodes i lt;
+      };
+      covered = λ v row covered. next.covered v row (first.covered v row covered);
+      others = λ v other. next.others v other ∙ first.others v other;
+    }
+
+-- what leaves more buckets as they are leaves fewer as they are
+pub Grows-less : (m n : ℕ) (old new : StoreSeen) → m ≤ n → Grows n old new → Grows m old new
+Grows-less m n old new le grows = record { rows = grows.rows; covered = grows.covered; others = λ v lt. grows.others v (omega (arith, lt, le)) }
+
+pub wide_refl : (store : StoreSeen) → IsAsWide store store
+wide_refl store = record { width = refl; nodes = refl }
+
+pub wide_trans : (one two three : StoreSeen) → IsAsWide one two → IsAsWide two three → IsAsWide one three
+wide_trans one two three first next = record { width = next.width ∙ first.width; nodes = next.nodes ∙ first.nodes }
+
+-- a row of a bucket is kept, and has its node
+pub row_of_bucket : (store : StoreSeen) → IsStore store → (b j : ℕ) → b < length store.buckets → Contains (bucket_of store b) j → IsRowOf store b j
+row_of_bucket store sound b j lt has = All-contains (IsRowOf store b) (bucket_of store b) j (sound.numbers b lt) has
+
+module _ (table : CostTableSeen) (book : BookSeen) (marks : List Fact) (k : ℕ) (duals : List ℤ) where
+  past_lower : (limit lower : ℤ) (b : ℕ) (w : ℤ) → lower ≤ℤ limit → IsPast table book marks k duals limit b w → IsPast table book marks k duals lower b w
+  past_lower limit lower b w le past rest fits =
+      let h = past rest fits in
+      below_yet lower limit (w +ℤ weight_from table book k duals (After b) rest) le h
+    where
+      below_yet : (lower limit all : ℤ) → lower ≤ℤ limit → limit <ℤ all → lower <ℤ all
+      below_yet lower limit all le lt = omega (arith, ints, le, lt)
+
+  -- what was tried stays tried, also where the limit falls
+  pub tried_stays : (limit lower : ℤ) (m : ℕ) (old new : StoreSeen) (x : Place) (row : List ℤ) (b : ℕ) → lower ≤ℤ limit → Grows m old new
+      → IsTried table book marks k duals limit old x row b → IsTried table book marks k duals lower new x row b
+  tried_stays limit lower m old new x row b le grows tried within = elim (tried within) [
+    | inl covered ↦ inl (grows.covered b (row_after book k (arc_weight table book k duals x b) x b row) covered)
+    | inr past ↦ inr (past_lower limit lower b (weight_of row +ℤ arc_weight table book k duals x b) le past)
+  ]
+
+  below_itself : (z : ℤ) → z ≤ℤ z
+  below_itself z = omega (arith, ints)
+
+  -- one row more of a bucket was tried
+  pub tried_one_more : (limit : ℤ) (m : ℕ) (first old new : StoreSeen) (there : List ℕ) (x : Place) (b i : ℕ) → Grows m old new
+      → ((q : ℕ) → q < i → IsTried table book marks k duals limit old x (row_at first.rows (get_or there q 0)) b)
+      → IsTried table book marks k duals limit new x (row_at first.rows (get_or there i 0)) b
+      → (q : ℕ) → q < i + 1 → IsTried table book marks k duals limit new x (row_at first.rows (get_or there q 0)) b
+  tried_one_more limit m first old new there x b i grows before tried q lt = elim (cases_lt q i) [
+    | inl less ↦ tried_stays limit limit m old new x (row_at first.rows (get_or there q 0)) b (below_itself limit) grows (before q less)
+    | inr more ↦ let at : i ≡ q = omega (arith, lt, more) in
+        subst (λ (m : ℕ). IsTried table book marks k duals limit new x (row_at first.rows (get_or there m 0)) b) at tried
+  ]
+
+  -- where there is no way through b, whatever b gives is past any limit
+  pub no_way_is_tried : (limit : ℤ) (store : StoreSeen) (x : Place) (row : List ℤ) (b : ℕ) → ((rest : List ℕ) → ¬ FitsFrom book marks k x (b ∷ rest))
+      → IsUsable book marks k x b → IsTried table book marks k duals limit store x row b
+  no_way_is_tried limit store x row b none usable within = inr (λ rest fits. absurd (none rest (usable, fits)))
+
+  over : (w arc least rest limit room : ℤ) → least ≤ℤ (arc +ℤ rest) → room ≡ limit -ℤ least → room <ℤ w → limit <ℤ ((w +ℤ arc) +ℤ rest)
+  over w arc least rest limit room le is lt = omega (arith, ints, le, is, lt)
+
+  -- a row that has no room on the way is past the limit there
+  pub past_on_way : (limit room : ℤ) (store : StoreSeen) (x : Place) (row : List ℤ) (b : ℕ) (way : Way) → IsWay table book marks k duals x b way
+      → room ≡ limit -ℤ way.least → room <ℤ weight_of row → IsTried table book marks k duals limit store x row b
+  past_on_way limit room store x row b way on_way is lt within = inr (λ rest fits.
+      over (weight_of row) (arc_weight table book k duals x b) way.least (weight_from table book k duals (After b) rest) limit room (on_way.least rest fits) is lt)
+
+  first_over : (arc least rest limit : ℤ) → least ≤ℤ (arc +ℤ rest) → limit <ℤ least → limit <ℤ ((pos 0 +ℤ arc) +ℤ rest)
+  first_over arc least rest limit le lt = omega (arith, ints, le, lt)
+
+  pub past_at_first : (limit : ℤ) (store : StoreSeen) (b : ℕ) (way : Way) → IsWay table book marks k duals Carry b way → limit <ℤ way.least
+      → IsTried table book marks k duals limit store Carry (first_row book k) b
+  past_at_first limit store b way on_way lt within = inr (λ rest fits.
+      first_over (arc_weight table book k duals Carry b) way.least (weight_from table book k duals (After b) rest) limit (on_way.least rest fits) lt)
+
+  -- activities at whose places all were tried, and one more
+  pub reached_one_more : (limit : ℤ) (m : ℕ) (first old new : StoreSeen) (there : List ℕ) (x i : ℕ) → Grows m old new
+      → ((q : ℕ) → q < i → AreTried table book marks k duals limit first x old (get_or there q 0))
+      → AreTried table book marks k duals limit first x new (get_or there i 0)
+      → (q : ℕ) → q < i + 1 → AreTried table book marks k duals limit first x new (get_or there q 0)
+  reached_one_more limit m first old new there x i grows before here q lt = elim (cases_lt q i) [
+    | inl less ↦ λ usable j has. tried_stays limit limit m old new (After x) (row_at first.rows j) (get_or there q 0) (below_itself limit) grows (before q less usable j has)
+    | inr more ↦ let at : i ≡ q = omega (arith, lt, more) in
+        subst (λ (m : ℕ). AreTried table book marks k duals limit first x new (get_or there m 0)) at here
+  ]
+
+  -- what the rows of x were when they were tried, they are still
+  pub reached_here : (limit : ℤ) (first old new : StoreSeen) (x b : ℕ) → IsStore first → x < length first.buckets → Grows (suc x) first old
+      → AreTried table book marks k duals limit old x new b → AreTried table book marks k duals limit first x new b
+  reached_here limit first old new x b sound lt grows reached usable j has =
+      subst (λ (r : List ℤ). IsTried table book marks k duals limit new (After x) r b)
+      (grows.rows.rows j (row_of_bucket first sound x j lt has).kept)
+      (reached usable j (subst (λ (bucket : List ℕ). Contains bucket j) (sym (grows.others x (omega arith))) has))
+
+  -- so it is done where all that may come next was tried
+  pub done : (limit : ℤ) (old new : StoreSeen) (x : ℕ) → IsStore old → x < length old.buckets → Grows (suc x) old new
+      → ((b : ℕ) → AreTried table book marks k duals limit old x new b) → IsDone table book marks k duals limit new x
+  done limit old new x sound lt grows tried j has b usable =
+      let there : Contains (bucket_of old x) j = subst (λ (bucket : List ℕ). Contains bucket j) (grows.others x (omega arith)) has in
+      subst (λ (r : List ℤ). IsTried table book marks k duals limit new (After x) r b)
+      (sym (grows.rows.rows j (row_of_bucket old sound x j lt there).kept)) (tried b usable j there)
+
+  done_stays : (limit lower : ℤ) (m : ℕ) (old new : StoreSeen) (x : ℕ) → IsStore old → x < length old.buckets → x < m → lower ≤ℤ limit → Grows m old new
+      → IsDone table book marks k duals limit old x → IsDone table book marks k duals lower new x
+  done_stays limit lower m old new x sound lt below le grows was j has b usable =
+      let there : Contains (bucket_of old x) j = subst (λ (bucket : List ℕ). Contains bucket j) (grows.others x below) has in
+      subst (λ (r : List ℤ). IsTried table book marks k duals lower new (After x) r b)
+      (sym (grows.rows.rows j (row_of_bucket old sound x j lt there).kept))
+      (tried_stays limit lower m old new (After x) (row_at old.rows j) b le grows (was j there b usable))
+
+  -- one bucket more is done
+  pub done_one_more : (limit lower : ℤ) (old new : StoreSeen) (x : ℕ) → IsStore old → x < length old.buckets → lower ≤ℤ limit → Grows (suc x) old new
+      → AreDone table book marks k duals limit old x → IsDone table book marks k duals lower new x → AreDone table book marks k duals lower new (x + 1)
+  done_one_more limit lower old new x sound lt le grows were here = record {
+    first = λ b usable. tried_stays limit lower (suc x) old new Carry (first_row book k) b le grows (were.first b usable);
+    next = λ y below. elim (cases_lt y x) [
+      | inl less ↦ done_stays limit lower (suc x) old new y sound (omega (arith, less, lt)) (omega (arith, less)) le grows (were.next y less)
+      | inr more ↦ let at : x ≡ y = omega (arith, below, more) in subst (λ (a : ℕ). IsDone table book marks k duals lower new a) at here
+    ];
+  }
+
+  -- one activity more was tried from the carry-in
+  pub first_one_more : (limit : ℤ) (m : ℕ) (old new : StoreSeen) (there : List ℕ) (i : ℕ) → Grows m old new
+      → ((q : ℕ) → q < i → IsUsable book marks k Carry (get_or there q 0) → IsTried table book marks k duals limit old Carry (first_row book k) (get_or there q 0))
+      → (IsUsable book marks k Carry (get_or there i 0) → IsTried table book marks k duals limit new Carry (first_row book k) (get_or there i 0))
+      → (q : ℕ) → q < i + 1 → IsUsable book marks k Carry (get_or there q 0) → IsTried table book marks k duals limit new Carry (first_row book k) (get_or there q 0)
+  first_one_more limit m old new there i grows before here q lt = elim (cases_lt q i) [
+    | inl less ↦ λ usable. tried_stays limit limit m old new Carry (first_row book k) (get_or there q 0) (below_itself limit) grows (before q less usable)
+    | inr more ↦ let at : i ≡ q = omega (arith, lt, more) in
+        subst (λ (p : ℕ). IsUsable book marks k Carry (get_or there p 0) → IsTried table book marks k duals limit new Carry (first_row book k) (get_or there p 0)) at here
+  ]

@@ -1,0 +1,9 @@
+mod Steps
+mod Small
+mod Completions
+mod Successors
+mod Routes
+mod Truths
+mod Growing
+mod Bound
+mod Ending

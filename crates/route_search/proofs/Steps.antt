@@ -1,0 +1,16 @@
+-- What a step of a row reads and writes: the counters behind the weight.
+use Rattle.std.proofs.Common.{◌≡◌, ℕ, ℤ, pos, ◌≤ℤ◌, ◌-◌, arith, refl, List, [], ◌∷◌, length, take, drop}
+use Rattle.std.specs.Prelude.{slice_set}
+use Rattle.std.proofs.lemmas.Int.{ints}
+use Rattle.std.proofs.lemmas.List.{take_all}
+use Rattle.maint_counters.specs.inside.Counts.{AreCounts, AreCountable}
+use Rattle.pricing.specs.Rows.{counters_of}
+
+-- what lies behind the weight, whatever the weight becomes
+pub behind_weight : (row : List ℤ) (w : ℤ) → take (length (slice_set row 0 w) - 1) (drop 1 (slice_set row 0 w)) ≡ counters_of row
+behind_weight [] w = refl
+behind_weight (v ∷ values) w = take_all (length (w ∷ values) - 1) values (omega arith)
+
+-- counts can be counted on
+pub countable : (values : List ℤ) → AreCounts values → AreCountable values
+countable values counts i d lt = let count = counts i d lt in record { least = count.least; most = omega (arith, ints, count.most) }

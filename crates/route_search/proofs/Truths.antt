@@ -1,0 +1,89 @@
+-- Each row is true: it stays so while rows come, and a row that is offered over a usable link and within the limits is true
+-- as it enters, since the route to it is that to its parent with one activity more.
+use Rattle.std.proofs.Common.{◌≡◌, ℕ, ℤ, ◌+ℤ◌, ◌<◌, ◌+◌, inl, inr, arith, refl, List, [], ◌∷◌, ◌++◌, length, Option, None, Some, sym, ◌∙◌, ap, subst}
+use Rattle.std.proofs.lemmas.Bool.{cases_lt}
+use Rattle.std.proofs.lemmas.List.{length-append}
+use Rattle.tail_book.specs.Seen.{BookSeen}
+use Rattle.tail_book.specs.inside.Seen.{CostTableSeen}
+use Rattle.tail_book.specs.declared.place.Place.{Place}
+use Rattle.tail_book.specs.declared.place.Place.TheVariants.{Carry, After}
+use Rattle.tail_book.specs.Counters.{step}
+use Rattle.tail_book.specs.inside.OneMore.{end_place, LegalWithOneMore, CountersWithOneMore, PlaceWithOneMore}
+use Rattle.tail_book.specs.inside.Route.{counters_after}
+use Rattle.maint_counters.specs.inside.Counts.{AreCounts}
+use Rattle.branch_marks.specs.declared.fact.Fact.{Fact}
+use Rattle.branch_marks.specs.inside.Fitting.{UsableWithOneMore}
+use Rattle.branch_marks.specs.Weights.{weight, arc_weight, WeightWithOneMore}
+use Rattle.label_store.specs.declared.offered.Offered.TheVariants.{Kept, Covered}
+use Rattle.label_store.specs.Seen.{StoreSeen}
+use Rattle.label_store.specs.Store.{parent_of, node_of, IsStore, with_row}
+use Rattle.label_store.specs.Offers.{Offers}
+use Rattle.label_store.specs.inside.Laws.{KeepsRows, IsEntered, OffersKeepRows, KeptRowsAreOffered}
+use Rattle.pricing.specs.Rows.{counters_of, route_to}
+use Rattle.pricing.specs.inside.Truth.{place_of, row_of, IsTrueRoute, IsTrueAt, AreTrue, IsKept, IsNext}
+use Rattle.route_search.specs.inside.Laws.{OffersKeepTruth}
+use Rattle.route_search.proofs.Routes.{route_of_row, same_route}
+
+module _ (legal_more : LegalWithOneMore) (counters_more : CountersWithOneMore) (place_more : PlaceWithOneMore) (weight_more : WeightWithOneMore) (usable_more : UsableWithOneMore)
+    (table : CostTableSeen) (book : BookSeen) (marks : List Fact) (k : ℕ) (duals : List ℤ) where
+  abbrev here : (List ℕ → List ℤ)
+  here = λ route. weight table book k duals route ∷ counters_after book k route
+
+  -- a route whose end is taken as the place, and whose weight and counters as the row
+  longer_here : (route : List ℕ) (x : Place) (row : List ℤ) (b : ℕ) (next : List ℤ) → IsTrueRoute table book marks k duals route x row
+      → IsNext table book marks k duals (end_place route) (here route) b next → IsTrueRoute table book marks k duals (route ++ b ∷ []) (After b) next
+  longer_here route x row b next truth goes = record {
+    legal = (legal_more book k route b).1 (record { before = truth.legal; link = goes.usable.link; within = goes.within });
+    usable = (usable_more book marks k Carry route b).1 (truth.usable, goes.usable);
+    values = goes.values ∙ ap (λ (w : ℤ). w ∷ step book k (end_place route) b (counters_after book k route)) (sym (weight_more table book k duals route b))
+        ∙ ap (λ (values : List ℤ). weight table book k duals (route ++ b ∷ []) ∷ values) (sym (counters_more book k route b));
+    place = place_more Carry route b;
+    alive = goes.usable.after;
+    counts = subst AreCounts (sym (ap counters_of goes.values)) goes.counts;
+  }
+
+  longer : (route : List ℕ) (x : Place) (row : List ℤ) (b : ℕ) (next : List ℤ) → IsTrueRoute table book marks k duals route x row
+      → IsNext table book marks k duals x row b next → IsTrueRoute table book marks k duals (route ++ b ∷ []) (After b) next
+  longer route x row b next truth goes =
+      longer_here route x row b next truth (subst (λ (y : Place). IsNext table book marks k duals y (here route) b next) (sym truth.place)
+      (subst (λ (r : List ℤ). IsNext table book marks k duals x r b next) truth.values goes))
+
+  stays : (old new : StoreSeen) (row : Option ℕ) → KeepsRows old new → IsStore old → IsKept old row
+      → IsTrueAt table book marks k duals old row → IsTrueAt table book marks k duals new row
+  stays old new None keeps sound kept truth = truth
+  stays old new (Some j) keeps sound kept truth =
+      subst (λ (r : List ℕ). IsTrueRoute table book marks k duals r (place_of new (Some j)) (row_of book k new (Some j))) (sym (same_route old new keeps sound.below (Some j) kept))
+      (subst (λ (a : ℕ). IsTrueRoute table book marks k duals (route_to old (Some j)) (After a) (row_of book k new (Some j))) (sym (keeps.nodes j kept))
+      (subst (λ (r : List ℤ). IsTrueRoute table book marks k duals (route_to old (Some j)) (place_of old (Some j)) r) (sym (keeps.rows j kept)) truth))
+
+  -- the row that entered
+  entered : (old new : StoreSeen) (parent : Option ℕ) (b i : ℕ) (row : List ℤ) → KeepsRows old new → IsStore old → IsStore new → IsKept old parent → i < length new.rows
+      → IsEntered new i b parent row → IsTrueAt table book marks k duals old parent
+      → IsNext table book marks k duals (place_of old parent) (row_of book k old parent) b row → IsTrueAt table book marks k duals new (Some i)
+  entered old new parent b i row keeps sound sound_new kept lt enters truth goes =
+      let route : route_to new (Some i) ≡ route_to old parent ++ b ∷ [] =
+      route_of_row new sound_new.below i lt ∙ ap (λ (p : Option ℕ). route_to new p ++ node_of new i ∷ []) enters.came_from
+      ∙ ap (λ (r : List ℕ). r ++ node_of new i ∷ []) (same_route old new keeps sound.below parent kept)
+      ∙ ap (λ (a : ℕ). route_to old parent ++ a ∷ []) enters.place in
+      subst (λ (r : List ℕ). IsTrueRoute table book marks k duals r (place_of new (Some i)) (row_of book k new (Some i))) (sym route)
+      (subst (λ (a : ℕ). IsTrueRoute table book marks k duals (route_to old parent ++ b ∷ []) (After a) (row_of book k new (Some i))) (sym enters.place)
+      (subst (λ (r : List ℤ). IsTrueRoute table book marks k duals (route_to old parent ++ b ∷ []) (After b) r) (sym enters.values)
+      (longer (route_to old parent) (place_of old parent) (row_of book k old parent) b row truth goes)))
+
+  with_one_more : (old new : StoreSeen) (parent : Option ℕ) (b i : ℕ) (row : List ℤ) → KeepsRows old new → IsStore old → IsStore new → AreTrue table book marks k duals old → IsKept old parent
+      → IsEntered new i b parent row → i ≡ length old.rows → length new.rows ≡ length old.rows + 1 → IsTrueAt table book marks k duals old parent
+      → IsNext table book marks k duals (place_of old parent) (row_of book k old parent) b row → AreTrue table book marks k duals new
+  with_one_more old new parent b i row keeps sound sound_new truths kept enters last count truth goes j lt = elim (cases_lt j (length old.rows)) [
+    | inl less ↦ stays old new (Some j) keeps sound less (truths j less)
+    | inr more ↦ let same : i ≡ j = omega (arith, last, more, lt, count) in
+        subst (λ (m : ℕ). IsTrueAt table book marks k duals new (Some m)) same
+        (entered old new parent b i row keeps sound sound_new kept (omega (arith, last, count)) enters truth goes)
+  ]
+
+pub offers_keep_truth : LegalWithOneMore → CountersWithOneMore → PlaceWithOneMore → WeightWithOneMore → UsableWithOneMore → OffersKeepRows → KeptRowsAreOffered → OffersKeepTruth
+offers_keep_truth legal_more counters_more place_more weight_more usable_more rows_stay enter table book marks k duals old new parent b row (Covered j) sound sound_new truths kept truth goes offers =
+    subst (AreTrue table book marks k duals) (sym offers.1) truths
+offers_keep_truth legal_more counters_more place_more weight_more usable_more rows_stay enter table book marks k duals old new parent b row (Kept i) sound sound_new truths kept truth goes offers =
+    with_one_more legal_more counters_more place_more weight_more usable_more table book marks k duals old new parent b i row
+    (rows_stay old new b parent row (Kept i) sound offers) sound sound_new truths kept (enter old new b parent row i sound offers) offers.1
+    (ap (λ (s : StoreSeen). length s.rows) offers.2 ∙ length-append old.rows (row ∷ [])) truth goes

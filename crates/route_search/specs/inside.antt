@@ -1,0 +1,6 @@
+-- What only proofs, and calls further in, cite.
+pub mod Task
+pub mod Completion
+pub mod Reach
+pub mod Ends
+pub mod Laws

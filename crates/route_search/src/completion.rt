@@ -1,0 +1,158 @@
+//! Completions: the least weight of what can still come behind each activity, counters aside.
+//!
+//! A link leads to a larger number, so from the last activity back each is done when it is asked for. Since counters only
+//! forbid, a legal rest of a route is among the rests that fit, and none of it weighs less than the completion. Each link
+//! is asked for once, and an activity from which no end can be reached ends the question at once.
+
+ghost use Rattle.std.specs.Prelude.{◌≡◌, ◌<◌, ◌≤◌, ◌^◌, ◌-ℤ◌, ◌+ℤ◌, ◌+◌, ℕ, [], pos, length, Option, None, Some, IfSome, slice_index_or};
+ghost use Rattle.tail_book.specs.declared.place.Place.TheVariants.{Carry, After};
+ghost use Rattle.tail_book.specs.Lookup.{activities};
+ghost use Rattle.tail_book.specs.inside.Place.{IsPlaceOf};
+ghost use Rattle.connection_net.specs.Net.{successors_in};
+ghost use Rattle.branch_marks.specs.Marks.{IsAlive, IsUsable};
+ghost use Rattle.route_search.specs.inside.Task.{IsTask};
+ghost use Rattle.route_search.specs.inside.Completion.{AreBehind, AreBehindFrom, IsBehind, IsCompletion, IsLeastAmong, IsBroad, IsSmall, IsWay, IsWayOrNone, least_of, lesser};
+
+use crate::laws;
+use crate::step::arc_weight;
+use crate::task::{Task, every_task_is_sound};
+use connection_net::laws::{rows_for_each, rows_rise, successors_are_links, successors_follow};
+use tail_book::Place;
+use tail_book::laws::rising_routes_are_below;
+
+/// The way through an activity: what it adds to a weight, and the least weight from there to an end with it.
+#[derive(Clone, Copy, Debug)]
+pub struct Way {
+    pub arc: i64,
+    pub least: i64,
+}
+
+// The lesser of two weights, of which either may be missing.
+fn lesser(one: Option<i64>, other: Option<i64>) -> Option<i64>
+    ensures { result ≡ lesser one other }
+{
+    match (one, other) {
+        (Some(low), Some(value)) => Some(low.min(value)),
+        (Some(low), None) => Some(low),
+        (None, _) => other,
+    }
+}
+
+/// The way from a place through an activity, where the link is usable and an end can be reached.
+pub fn way_through(task: &Task, behind: &[Option<i64>], from: Place, b: u32) -> Option<Way>
+    requires task { IsTask task.now }
+    requires place { IsPlaceOf task.now.book.now from }
+    requires activity { b < activities task.now.book.now }
+    requires one_each { length behind.now ≡ activities task.now.book.now }
+    requires behind { IsBehind task.now.table.now task.now.book.now task.now.marks.now.facts task.now.k task.now.duals.now.values b (slice_index_or behind.now b None) }
+    ensures way { IsWayOrNone task.now.table.now task.now.book.now task.now.marks.now.facts task.now.k task.now.duals.now.values from b result }
+    ensures small { IfSome result (λ way. IsSmall way.least) }
+    ensures arc { IfSome result (λ way. IsBroad way.arc) }
+{
+    let rest = behind[b as usize]?;
+    if !task.marks.usable(task.book, task.k, from, b) {
+        return None;
+    }
+    Some(with_rest(task, from, b, rest))
+}
+
+// The way through an activity over a usable link, with the least weight behind it.
+fn with_rest(task: &Task, from: Place, b: u32, rest: i64) -> Way
+    requires task { IsTask task.now }
+    requires place { IsPlaceOf task.now.book.now from }
+    requires activity { b < activities task.now.book.now }
+    requires usable { IsUsable task.now.book.now task.now.marks.now.facts task.now.k from b }
+    requires rest { IsCompletion task.now.table.now task.now.book.now task.now.marks.now.facts task.now.k task.now.duals.now.values (After b) (Some rest) }
+    ensures way { IsWay task.now.table.now task.now.book.now task.now.marks.now.facts task.now.k task.now.duals.now.values from b result }
+    ensures small { IsSmall result.least }
+    ensures arc { IsBroad result.arc }
+{
+    every_task_is_sound(task);
+    laws::fitting_rests_are_small();
+    let arc = arc_weight(task, from, b);
+    let least = sum(arc, rest);
+    Way { arc, least }
+}
+
+// What a link adds, with what comes behind it.
+fn sum(arc: i64, rest: i64) -> i64
+    requires { IsSmall (arc +ℤ rest) }
+    ensures { result ≡ arc +ℤ rest }
+{
+    arc + rest
+}
+
+// Only the least weight of a way.
+fn least_of(way: Option<Way>) -> Option<i64>
+    ensures { result ≡ least_of way }
+{
+    match way {
+        Some(way) => Some(way.least),
+        None => None,
+    }
+}
+
+// What the aircraft has behind it where it ends its route at a place, if it may.
+fn ended(task: &Task, from: Place) -> Option<i64>
+    requires task { IsTask task.now }
+    requires place { IsPlaceOf task.now.book.now from }
+    ensures { IsLeastAmong task.now.table.now task.now.book.now task.now.marks.now.facts task.now.k task.now.duals.now.values from [] 0 result }
+{
+    if task.marks.may_end(task.book, task.k, from) {
+        Some(0)
+    } else {
+        None
+    }
+}
+
+// The least weight behind an activity, where that of each later one is known.
+fn least_behind(task: &Task, behind: &[Option<i64>], x: u32) -> Option<i64>
+    requires task { IsTask task.now }
+    requires activity { x < activities task.now.book.now }
+    requires one_each { length behind.now ≡ activities task.now.book.now }
+    requires behind { AreBehindFrom task.now.table.now task.now.book.now task.now.marks.now.facts task.now.k task.now.duals.now.values (x + 1) behind.now }
+    ensures { IsCompletion task.now.table.now task.now.book.now task.now.marks.now.facts task.now.k task.now.duals.now.values (After x) result }
+{
+    every_task_is_sound(task);
+    successors_are_links();
+    rows_rise();
+    rows_for_each();
+    successors_follow();
+    rising_routes_are_below();
+    let mut least = ended(task, Place::After(x));
+    let next = task.net.successors(x);
+    for i in 0..next.len() {
+        let way = way_through(task, behind, Place::After(x), next[i]);
+        least = lesser(least, least_of(way));
+    }
+    least
+}
+
+// The least weight behind an activity, if it is alive.
+fn behind_alive(task: &Task, behind: &[Option<i64>], x: u32) -> Option<i64>
+    requires task { IsTask task.now }
+    requires activity { x < activities task.now.book.now }
+    requires one_each { length behind.now ≡ activities task.now.book.now }
+    requires behind { AreBehindFrom task.now.table.now task.now.book.now task.now.marks.now.facts task.now.k task.now.duals.now.values (x + 1) behind.now }
+    ensures { IsBehind task.now.table.now task.now.book.now task.now.marks.now.facts task.now.k task.now.duals.now.values x result }
+{
+    if !task.marks.alive(task.book, task.k, x) {
+        return None;
+    }
+    least_behind(task, behind, x)
+}
+
+/// Writes the least weight behind each activity.
+pub fn complete(task: &Task, behind: &mut [Option<i64>])
+    requires task { IsTask task.now }
+    requires one_each { length behind.old ≡ activities task.now.book.now }
+    ensures { AreBehind task.now.table.now task.now.book.now task.now.marks.now.facts task.now.k task.now.duals.now.values behind.new }
+{
+    every_task_is_sound(task);
+    let book = task.book;
+    let n = book.activities.len();
+    for done in 0..n {
+        let x = n - 1 - done;
+        behind[x] = behind_alive(task, behind, x as u32);
+    }
+}

@@ -1,0 +1,366 @@
+//! The rows that can come about as far as a limit, each tried on the way to what may come next.
+//!
+//! From the carry-in, and then from each activity in order, each row is tried over each usable link. A link leads to a
+//! larger number, so when an activity's turn comes its bucket is done. A row goes no further where its weight, with what the
+//! link adds and the least that can come behind, is past the limit: no completion of it is within. That is one comparison,
+//! before the counters are stepped, before anything is copied. Nothing is allocated but what the store grows by.
+
+ghost use Rattle.std.specs.Prelude.{◌≡◌, ◌<◌, ◌≤◌, ◌+◌, ◌^◌, ◌+ℤ◌, ◌-ℤ◌, ◌≤ℤ◌, ◌↔◌, ℕ, ℤ, suc, pos, length, Option, Some, IfOk, Contains};
+ghost use Rattle.tail_book.specs.declared.place.Place.TheVariants.{Carry, After};
+ghost use Rattle.tail_book.specs.Lookup.{activities, carry_of};
+ghost use Rattle.tail_book.specs.inside.Place.{IsPlaceOf};
+ghost use Rattle.maint_counters.specs.inside.Counts.{AreCounts};
+ghost use Rattle.branch_marks.specs.Marks.{IsUsable};
+ghost use Rattle.branch_marks.specs.Weights.{arc_weight};
+ghost use Rattle.label_store.specs.Buckets.{row_at};
+ghost use Rattle.label_store.specs.Store.{IsRowOf};
+ghost use Rattle.label_store.specs.inside.Laws.{IsCoveredAt};
+ghost use Rattle.pricing.specs.Rows.{weight_of, counters_of};
+ghost use Rattle.pricing.specs.inside.Truth.{place_of, first_row, row_of, row_after, IsTrueAt, AreTrue, IsKept, IsNext};
+ghost use Rattle.route_search.specs.inside.Completion.{AreBehind, IsBroad, IsSmall, IsWay};
+ghost use Rattle.route_search.specs.inside.Reach.{IsTried, AreTried, IsDone, GoesOn, Grows, IsAsWide, up_to};
+ghost use Rattle.route_search.specs.inside.Task.{IsTask};
+
+use crate::completion::{Way, way_through};
+use crate::end::weight_of;
+use crate::laws;
+use crate::step::{links_leave_free, stepped};
+use crate::task::{Task, every_task_is_sound};
+use connection_net::laws::{
+    heads_are_links, rows_for_each, rows_rise, successors_are_links, successors_follow,
+};
+use label_store::Store;
+use label_store::laws::{
+    every_store_is_sound, offered_rows_are_covered, offers_keep_covered, offers_keep_rows,
+    others_stay,
+};
+use maint_counters::start;
+use tail_book::laws::rising_routes_are_below;
+use tail_book::{Memory, Place};
+
+// Offers the row after an activity.
+fn put(
+    task: &Task,
+    b: u32,
+    parent: Option<usize>,
+    row: &[i64],
+    store: &mut Store,
+) -> Result<(), Memory>
+    requires node { b < length store.old.buckets }
+    requires later { up_to (place_of store.old parent) ≤ b }
+    requires width { length row.now ≡ store.old.width }
+    requires truths { AreTrue task.now.table.now task.now.book.now task.now.marks.now.facts task.now.k task.now.duals.now.values store.old }
+    requires kept { IsKept store.old parent }
+    requires truth { IsTrueAt task.now.table.now task.now.book.now task.now.marks.now.facts task.now.k task.now.duals.now.values store.old parent }
+    requires next { IsNext task.now.table.now task.now.book.now task.now.marks.now.facts task.now.k task.now.duals.now.values (place_of store.old parent) (row_of task.now.book.now task.now.k store.old parent) b row.now }
+    ensures truths { IfOk result (λ _. AreTrue task.now.table.now task.now.book.now task.now.marks.now.facts task.now.k task.now.duals.now.values store.new) }
+    ensures grows { IfOk result (λ _. Grows (up_to (place_of store.old parent)) store.old store.new) }
+    ensures covered { IfOk result (λ _. IsCoveredAt store.new b row.now) }
+    ensures wide { IsAsWide store.old store.new }
+{
+    laws::offers_keep_truth();
+    offers_keep_rows();
+    offers_keep_covered();
+    offered_rows_are_covered();
+    others_stay();
+    every_store_is_sound(store);
+    let _offered = store.offer(b as usize, parent, row)?;
+    every_store_is_sound(store);
+    Ok(())
+}
+
+// Tries a row on the way to an activity: what is within the counters' limits is offered.
+fn try_row(
+    task: &Task,
+    from: Place,
+    b: u32,
+    arc: i64,
+    parent: Option<usize>,
+    row: &mut [i64],
+    store: &mut Store,
+) -> Result<(), Memory>
+    requires task { IsTask task.now }
+    requires place { IsPlaceOf task.now.book.now from }
+    requires activity { b < activities task.now.book.now }
+    requires later { up_to from ≤ b }
+    requires arc { arc ≡ arc_weight task.now.table.now task.now.book.now task.now.k task.now.duals.now.values from b }
+    requires arc_range { IsBroad arc }
+    requires nodes { length store.old.buckets ≡ activities task.now.book.now }
+    requires width { length row.old ≡ 1 + length task.now.book.now.rules.counters }
+    requires same_width { store.old.width ≡ length row.old }
+    requires truths { AreTrue task.now.table.now task.now.book.now task.now.marks.now.facts task.now.k task.now.duals.now.values store.old }
+    requires kept { IsKept store.old parent }
+    requires truth { IsTrueAt task.now.table.now task.now.book.now task.now.marks.now.facts task.now.k task.now.duals.now.values store.old parent }
+    requires from { from ≡ place_of store.old parent }
+    requires row { row.old ≡ row_of task.now.book.now task.now.k store.old parent }
+    requires usable { IsUsable task.now.book.now task.now.marks.now.facts task.now.k from b }
+    ensures truths { IfOk result (λ _. AreTrue task.now.table.now task.now.book.now task.now.marks.now.facts task.now.k task.now.duals.now.values store.new) }
+    ensures grows { IfOk result (λ _. Grows (up_to from) store.old store.new) }
+    ensures tried { IfOk result (λ _. (limit : ℤ) → IsTried task.now.table.now task.now.book.now task.now.marks.now.facts task.now.k task.now.duals.now.values limit store.new from row.old b) }
+    ensures wide { IsAsWide store.old store.new }
+    ensures length { length row.new ≡ length row.old }
+{
+    every_task_is_sound(task);
+    laws::true_rows_are_small();
+    links_leave_free(task, from, b);
+    if !stepped(task.book, task.steps, task.k, arc, from, b, row) {
+        return Ok(());
+    }
+    put(task, b, parent, row, store)
+}
+
+// The weight above which a row is past the limit on a way.
+fn room(limit: i64, least: i64) -> i64
+    requires limit { IsBroad limit }
+    requires least { IsSmall least }
+    ensures { result ≡ limit -ℤ least }
+{
+    limit - least
+}
+
+// Tries each row of the bucket of an activity on a way, but for those past the limit.
+fn try_bucket(
+    task: &Task,
+    x: u32,
+    b: u32,
+    way: Way,
+    limit: i64,
+    row: &mut [i64],
+    store: &mut Store,
+) -> Result<(), Memory>
+    requires task { IsTask task.now }
+    requires place { x < activities task.now.book.now }
+    requires activity { b < activities task.now.book.now }
+    requires later { x < b }
+    requires way { IsWay task.now.table.now task.now.book.now task.now.marks.now.facts task.now.k task.now.duals.now.values (After x) b way }
+    requires small { IsSmall way.least }
+    requires arc { IsBroad way.arc }
+    requires limit { IsBroad limit }
+    requires nodes { length store.old.buckets ≡ activities task.now.book.now }
+    requires width { length row.old ≡ 1 + length task.now.book.now.rules.counters }
+    requires same_width { store.old.width ≡ length row.old }
+    requires truths { AreTrue task.now.table.now task.now.book.now task.now.marks.now.facts task.now.k task.now.duals.now.values store.old }
+    ensures truths { IfOk result (λ _. AreTrue task.now.table.now task.now.book.now task.now.marks.now.facts task.now.k task.now.duals.now.values store.new) }
+    ensures grows { IfOk result (λ _. Grows (suc x) store.old store.new) }
+    ensures tried { IfOk result (λ _. AreTried task.now.table.now task.now.book.now task.now.marks.now.facts task.now.k task.now.duals.now.values limit store.old x store.new b) }
+    ensures wide { IsAsWide store.old store.new }
+    ensures length { length row.new ≡ length row.old }
+{
+    every_store_is_sound(store);
+    let room = room(limit, way.least);
+    for i in 0..store.count(x as usize) {
+        every_store_is_sound(store);
+        let j = store.at(x as usize, i);
+        try_kept(task, x, b, way, room, j, row, store)?;
+    }
+    Ok(())
+}
+
+// Tries a row of the store on a way, if it has room there.
+fn try_kept(
+    task: &Task,
+    x: u32,
+    b: u32,
+    way: Way,
+    room: i64,
+    j: usize,
+    row: &mut [i64],
+    store: &mut Store,
+) -> Result<(), Memory>
+    requires task { IsTask task.now }
+    requires place { x < activities task.now.book.now }
+    requires activity { b < activities task.now.book.now }
+    requires later { x < b }
+    requires way { IsWay task.now.table.now task.now.book.now task.now.marks.now.facts task.now.k task.now.duals.now.values (After x) b way }
+    requires arc { IsBroad way.arc }
+    requires nodes { length store.old.buckets ≡ activities task.now.book.now }
+    requires width { length row.old ≡ 1 + length task.now.book.now.rules.counters }
+    requires same_width { store.old.width ≡ length row.old }
+    requires truths { AreTrue task.now.table.now task.now.book.now task.now.marks.now.facts task.now.k task.now.duals.now.values store.old }
+    requires kept { IsRowOf store.old x j }
+    ensures truths { IfOk result (λ _. AreTrue task.now.table.now task.now.book.now task.now.marks.now.facts task.now.k task.now.duals.now.values store.new) }
+    ensures grows { IfOk result (λ _. Grows (suc x) store.old store.new) }
+    ensures tried { IfOk result (λ _. (limit : ℤ) → room ≡ limit -ℤ way.least → IsTried task.now.table.now task.now.book.now task.now.marks.now.facts task.now.k task.now.duals.now.values limit store.new (After x) (row_at store.old.rows j) b) }
+    ensures wide { IsAsWide store.old store.new }
+    ensures length { length row.new ≡ length row.old }
+{
+    every_store_is_sound(store);
+    if weight_of(store, j) > room {
+        return Ok(());
+    }
+    row.copy_from_slice(store.row(j));
+    try_row(task, Place::After(x), b, way.arc, Some(j), row, store)
+}
+
+// Tries the rows of an activity on the way to a later one, where there is a way.
+fn try_link(
+    task: &Task,
+    behind: &[Option<i64>],
+    x: u32,
+    b: u32,
+    limit: i64,
+    row: &mut [i64],
+    store: &mut Store,
+) -> Result<(), Memory>
+    requires task { IsTask task.now }
+    requires behind { AreBehind task.now.table.now task.now.book.now task.now.marks.now.facts task.now.k task.now.duals.now.values behind.now }
+    requires place { x < activities task.now.book.now }
+    requires activity { b < activities task.now.book.now }
+    requires later { x < b }
+    requires limit { IsBroad limit }
+    requires nodes { length store.old.buckets ≡ activities task.now.book.now }
+    requires width { length row.old ≡ 1 + length task.now.book.now.rules.counters }
+    requires same_width { store.old.width ≡ length row.old }
+    requires truths { AreTrue task.now.table.now task.now.book.now task.now.marks.now.facts task.now.k task.now.duals.now.values store.old }
+    ensures truths { IfOk result (λ _. AreTrue task.now.table.now task.now.book.now task.now.marks.now.facts task.now.k task.now.duals.now.values store.new) }
+    ensures grows { IfOk result (λ _. Grows (suc x) store.old store.new) }
+    ensures tried { IfOk result (λ _. AreTried task.now.table.now task.now.book.now task.now.marks.now.facts task.now.k task.now.duals.now.values limit store.old x store.new b) }
+    ensures wide { IsAsWide store.old store.new }
+    ensures length { length row.new ≡ length row.old }
+{
+    let Some(way) = way_through(task, behind, Place::After(x), b) else {
+        return Ok(());
+    };
+    try_bucket(task, x, b, way, limit, row, store)
+}
+
+// Tries the rows of an activity on the way to each that may come next.
+fn try_links(
+    task: &Task,
+    behind: &[Option<i64>],
+    x: u32,
+    limit: i64,
+    row: &mut [i64],
+    store: &mut Store,
+) -> Result<(), Memory>
+    requires task { IsTask task.now }
+    requires behind { AreBehind task.now.table.now task.now.book.now task.now.marks.now.facts task.now.k task.now.duals.now.values behind.now }
+    requires place { x < activities task.now.book.now }
+    requires limit { IsBroad limit }
+    requires nodes { length store.old.buckets ≡ activities task.now.book.now }
+    requires width { length row.old ≡ 1 + length task.now.book.now.rules.counters }
+    requires same_width { store.old.width ≡ length row.old }
+    requires truths { AreTrue task.now.table.now task.now.book.now task.now.marks.now.facts task.now.k task.now.duals.now.values store.old }
+    ensures truths { IfOk result (λ _. AreTrue task.now.table.now task.now.book.now task.now.marks.now.facts task.now.k task.now.duals.now.values store.new) }
+    ensures grows { IfOk result (λ _. Grows (suc x) store.old store.new) }
+    ensures done { IfOk result (λ _. IsDone task.now.table.now task.now.book.now task.now.marks.now.facts task.now.k task.now.duals.now.values limit store.new x) }
+    ensures wide { IsAsWide store.old store.new }
+    ensures length { length row.new ≡ length row.old }
+{
+    every_task_is_sound(task);
+    every_store_is_sound(store);
+    successors_are_links();
+    successors_follow();
+    rows_rise();
+    rows_for_each();
+    rising_routes_are_below();
+    let next = task.net.successors(x);
+    for i in 0..next.len() {
+        try_link(task, behind, x, next[i], limit, row, store)?;
+    }
+    Ok(())
+}
+
+/// Goes on from each row of the bucket of an activity.
+pub fn go_on(
+    task: &Task,
+    behind: &[Option<i64>],
+    x: u32,
+    limit: i64,
+    row: &mut [i64],
+    store: &mut Store,
+) -> Result<(), Memory>
+    requires task { IsTask task.now }
+    requires behind { AreBehind task.now.table.now task.now.book.now task.now.marks.now.facts task.now.k task.now.duals.now.values behind.now }
+    requires place { x < activities task.now.book.now }
+    requires limit { IsBroad limit }
+    requires nodes { length store.old.buckets ≡ activities task.now.book.now }
+    requires width { length row.old ≡ 1 + length task.now.book.now.rules.counters }
+    requires same_width { store.old.width ≡ length row.old }
+    requires truths { AreTrue task.now.table.now task.now.book.now task.now.marks.now.facts task.now.k task.now.duals.now.values store.old }
+    ensures truths { IfOk result (λ _. AreTrue task.now.table.now task.now.book.now task.now.marks.now.facts task.now.k task.now.duals.now.values store.new) }
+    ensures grows { IfOk result (λ _. Grows (suc x) store.old store.new) }
+    ensures done { IfOk result (λ _. IsDone task.now.table.now task.now.book.now task.now.marks.now.facts task.now.k task.now.duals.now.values limit store.new x) }
+    ensures wide { IsAsWide store.old store.new }
+    ensures length { length row.new ≡ length row.old }
+{
+    if store.count(x as usize) == 0 {
+        return Ok(());
+    }
+    try_links(task, behind, x, limit, row, store)
+}
+
+// Writes the row at the carry-in.
+fn write_first(task: &Task, row: &mut [i64])
+    requires task { IsTask task.now }
+    requires width { length row.old ≡ 1 + length task.now.book.now.rules.counters }
+    ensures first { row.new ≡ first_row task.now.book.now task.now.k }
+    ensures counts { AreCounts (carry_of task.now.book.now task.now.k) }
+{
+    start(task.book, task.k, &mut row[1..]);
+    row[0] = 0;
+}
+
+// Tries the carry-in on the way to an activity, where there is a way within the limit.
+fn try_first(
+    task: &Task,
+    behind: &[Option<i64>],
+    b: u32,
+    limit: i64,
+    row: &mut [i64],
+    store: &mut Store,
+) -> Result<(), Memory>
+    requires task { IsTask task.now }
+    requires behind { AreBehind task.now.table.now task.now.book.now task.now.marks.now.facts task.now.k task.now.duals.now.values behind.now }
+    requires activity { b < activities task.now.book.now }
+    requires nodes { length store.old.buckets ≡ activities task.now.book.now }
+    requires width { length row.old ≡ 1 + length task.now.book.now.rules.counters }
+    requires same_width { store.old.width ≡ length row.old }
+    requires truths { AreTrue task.now.table.now task.now.book.now task.now.marks.now.facts task.now.k task.now.duals.now.values store.old }
+    ensures truths { IfOk result (λ _. AreTrue task.now.table.now task.now.book.now task.now.marks.now.facts task.now.k task.now.duals.now.values store.new) }
+    ensures grows { IfOk result (λ _. Grows 0 store.old store.new) }
+    ensures tried { IfOk result (λ _. IsUsable task.now.book.now task.now.marks.now.facts task.now.k Carry b → IsTried task.now.table.now task.now.book.now task.now.marks.now.facts task.now.k task.now.duals.now.values limit store.new Carry (first_row task.now.book.now task.now.k) b) }
+    ensures wide { IsAsWide store.old store.new }
+    ensures length { length row.new ≡ length row.old }
+{
+    let Some(way) = way_through(task, behind, Place::Carry, b) else {
+        return Ok(());
+    };
+    if way.least > limit {
+        return Ok(());
+    }
+    write_first(task, row);
+    try_row(task, Place::Carry, b, way.arc, None, row, store)
+}
+
+/// Goes on from the carry-in.
+pub fn begin(
+    task: &Task,
+    behind: &[Option<i64>],
+    limit: i64,
+    row: &mut [i64],
+    store: &mut Store,
+) -> Result<(), Memory>
+    requires task { IsTask task.now }
+    requires behind { AreBehind task.now.table.now task.now.book.now task.now.marks.now.facts task.now.k task.now.duals.now.values behind.now }
+    requires nodes { length store.old.buckets ≡ activities task.now.book.now }
+    requires width { length row.old ≡ 1 + length task.now.book.now.rules.counters }
+    requires same_width { store.old.width ≡ length row.old }
+    requires truths { AreTrue task.now.table.now task.now.book.now task.now.marks.now.facts task.now.k task.now.duals.now.values store.old }
+    ensures truths { IfOk result (λ _. AreTrue task.now.table.now task.now.book.now task.now.marks.now.facts task.now.k task.now.duals.now.values store.new) }
+    ensures begun { IfOk result (λ _. GoesOn task.now.table.now task.now.book.now task.now.marks.now.facts task.now.k task.now.duals.now.values limit store.new Carry (first_row task.now.book.now task.now.k)) }
+    ensures grows { IfOk result (λ _. Grows 0 store.old store.new) }
+    ensures wide { IsAsWide store.old store.new }
+    ensures length { length row.new ≡ length row.old }
+{
+    every_task_is_sound(task);
+    heads_are_links();
+    rows_rise();
+    rows_for_each();
+    rising_routes_are_below();
+    let first = task.net.heads(task.k);
+    for i in 0..first.len() {
+        try_first(task, behind, first[i], limit, row, store)?;
+    }
+    Ok(())
+}
