@@ -1,49 +1,21 @@
 -- A plan is legal where its routes are and each activity is counted once: what is left of a route decides, and counts go up
 -- to 2, so that 1 tells that an activity is flown exactly once.
-use Rattle.std.proofs.Common.{◌≡◌, ◌≢◌, ◌∙◌, sym, refl, ap, arith, subst, true≢false, ℕ, zero, suc, ◌+◌, ◌<◌, ◌≤◌, ℤ, inl, inr, Bool, true, false, ◌&&◌, cond, nat_eq, nat_lt, List, [], ◌∷◌, ◌++◌, length, set, get_or, drop, take, append_assoc, All}
+use Rattle.std.proofs.Common.{◌≡◌, ◌≢◌, ◌∙◌, sym, refl, ap, arith, subst, true≢false, ℕ, zero, suc, ◌+◌, ◌<◌, ◌≤◌, inl, inr, Bool, true, false, ◌&&◌, cond, nat_eq, List, [], ◌∷◌, ◌++◌, length, set, get_or, take, append_assoc, All}
 use Rattle.std.specs.Prelude.{count_by, min, ◌==◌}
 use Rattle.std.specs.List.{flat_map, list_all}
 use Rattle.std.specs.Bool.{one_answer}
 use Rattle.std.proofs.lemmas.Bool.{cases_Bool, eq-eqb, eqb-true}
 use Rattle.std.proofs.lemmas.Bool.Decides.{nat_tests, Decides-eqb, Decides-below_and}
-use Rattle.std.proofs.lemmas.List.{drop_more, take_more, get_or-set_same, get_or-set_other, length-set, get_or_default, append-nil}
+use Rattle.std.proofs.lemmas.List.{take_more, get_or-set_same, get_or-set_other, length-set, get_or_default, append-nil}
 use Rattle.std.proofs.lemmas.List.Concat.{flat_map-append}
 use Rattle.std.proofs.lemmas.List.Sums.{sum_by-cons, sum_by-append, AllPass-from_list_all, list_all-from_AllPass}
 use Rattle.std.proofs.lemmas.List.Elements.{All-from_get_or}
 use Rattle.tail_book.specs.Seen.{BookSeen}
 use Rattle.tail_book.specs.Lookup.{activities}
-use Rattle.tail_book.specs.declared.place.Place.{Place}
-use Rattle.tail_book.specs.declared.place.Place.TheVariants.{After}
-use Rattle.tail_book.specs.Counters.{step}
 use Rattle.tail_book.specs.Plan.{times_flown, route_of}
-use Rattle.tail_book.specs.inside.Tests.{is_link, within_limits, is_legal_from, is_legal_route, are_legal_below, are_flown_once_below}
+use Rattle.tail_book.specs.inside.Tests.{is_legal_route, are_legal_below, are_flown_once_below}
 use Rattle.plan_audit.specs.inside.Times.{AreTimes}
 use Rattle.plan_audit.proofs.Legality.{both}
-
-chain-false : (a b c d r : Bool) → r ≡ (a && (b && c)) → r ≡ false → (a && (b && (c && d))) ≡ false
-chain-false a b c d r e f = grind arith
-
-chain-true : (a b c d r : Bool) → r ≡ (a && (b && c)) → r ≡ true → (a && (b && (c && d))) ≡ d
-chain-true a b c d r e f = grind arith
-
-module _ (book : BookSeen) (k : ℕ) (x : Place) (values : List ℤ) (route : List ℕ) (i b : ℕ) (within : i < length route) (here : b ≡ get_or route i b) where
-  next : drop i route ≡ b ∷ drop (i + 1) route
-  next = drop_more route i b within ∙ ap (λ y. y ∷ drop (i + 1) route) (sym here)
-
-  -- the next activity may not come
-  pub route-refused : (r : Bool) → r ≡ (nat_lt b (activities book) && (is_link book k x b && within_limits book.rules.counters (step book k x b values))) → r ≡ false
-      → is_legal_from book k x values (drop i route) ≡ false
-  route-refused r e f =
-      ap (is_legal_from book k x values) next
-      ∙ chain-false (nat_lt b (activities book)) (is_link book k x b) (within_limits book.rules.counters (step book k x b values)) (is_legal_from book k (After b) (step book k x b values) (drop (i + 1) route)) r e f
-
-  -- it may, and the rest decides
-  pub route-goes_on : (r : Bool) (now : List ℤ) → r ≡ (nat_lt b (activities book) && (is_link book k x b && within_limits book.rules.counters (step book k x b values))) → r ≡ true
-      → now ≡ step book k x b values → is_legal_from book k x values (drop i route) ≡ is_legal_from book k (After b) now (drop (i + 1) route)
-  route-goes_on r now e t steps =
-      ap (is_legal_from book k x values) next
-      ∙ chain-true (nat_lt b (activities book)) (is_link book k x b) (within_limits book.rules.counters (step book k x b values)) (is_legal_from book k (After b) (step book k x b values) (drop (i + 1) route)) r e t
-      ∙ ap (λ v. is_legal_from book k (After b) v (drop (i + 1) route)) (sym steps)
 
 and-false-right : (p q : Bool) → q ≡ false → (p && q) ≡ false
 and-false-right p q e = grind arith

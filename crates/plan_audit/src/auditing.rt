@@ -5,7 +5,7 @@
 
 ghost use Rattle.std.specs.Prelude.{◌≡◌, IfOk, All};
 ghost use Rattle.tail_book.specs.Plan.{IsLegalPlan};
-ghost use Rattle.tail_book.specs.inside.CostTable.{IsCostTable, IsTableFor, plan_cost_in};
+ghost use Rattle.tail_book.specs.inside.CostTable.{IsTableFor, plan_cost_in};
 ghost use Rattle.plan_audit.specs.inside.PlanCost.{IsPlanCost};
 ghost use Rattle.plan_audit.specs.inside.MetNames.{AreMetNamesOf};
 ghost use Rattle.plan_audit.specs.Kept.{legs_met};
@@ -26,8 +26,8 @@ use crate::plan_cost::plan_cost;
 use crate::uncovered::add_uncovered;
 use std::alloc::Global;
 use tail_book::laws::{
-    every_book_is_sound, legal_plan_decides, legal_plans_cost_at_most, legal_plans_cost_at_most_in,
-    legal_plans_fly_the_book,
+    every_book_is_sound, every_cost_table_is_sound, legal_plan_decides, legal_plans_cost_at_most,
+    legal_plans_cost_at_most_in, legal_plans_fly_the_book,
 };
 use tail_book::{Book, CostTable, Memory, Plan, RawPlan};
 
@@ -71,20 +71,13 @@ pub fn audit(alloc: Global, book: &Book, raw: &RawPlan) -> Result<Audit, Memory>
     Ok(Audit::Broken(list))
 }
 
-fn table_is_sound(table: &CostTable)
-    ensures { IsCostTable table.now }
-{
-    // A look at a field brings out what every table keeps.
-    let _ = &table.n;
-}
-
 fn legal_cost(book: &Book, table: &CostTable, plan: &Plan) -> u64
     requires table { IsTableFor book.now table.now }
     requires legal { IsLegalPlan book.now plan.now }
     ensures { result ≡ plan_cost_in table.now book.now plan.now }
 {
     every_book_is_sound(book);
-    table_is_sound(table);
+    every_cost_table_is_sound(table);
     legal_plans_fly_the_book();
     legal_plans_cost_at_most_in();
     plan_cost(book, table, &plan.0)

@@ -9,11 +9,11 @@ ghost use Rattle.tail_book.specs.Cost.{activity_cost};
 ghost use Rattle.plan_audit.specs.inside.Kept.{IsLegOf};
 ghost use Rattle.plan_audit.specs.inside.LegCost.{leg_cost, legs_cost};
 
-use crate::connections::connection_cost;
 use crate::leg::Leg;
 use maint_counters::flown;
 use tail_book::Book;
 use tail_book::laws::{activities_cost_at_most, connections_cost_at_most, every_book_is_sound};
+use turn_rules::connection_cost;
 
 fn activity_cost(book: &Book, k: u32, a: u32) -> u64
     requires aircraft { k < aircraft book.now }

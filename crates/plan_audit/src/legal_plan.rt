@@ -1,57 +1,23 @@
 //! Whether a plan is legal: each route is, and each activity is flown exactly once.
 //!
-//! A plan of numbers may have any numbers, so each is compared with the book before a rule is asked of it. Activities
+//! A plan of numbers may have any numbers, and each route is judged by what steps read of the book, made once. Activities
 //! are counted up to 2, which tells once from more often. It takes a pass over the plan for each of both, a byte for
-//! each activity, and one row of counters.
+//! each activity, that table, and one row of counters.
 
-ghost use Rattle.std.specs.Prelude.{◌≡◌, ◌<◌, ◌++◌, ◌∷◌, [], ◌&&◌, ◌==◌, List, ℕ, length, nat_lt, IfOk, IsTrue, All};
+ghost use Rattle.std.specs.Prelude.{◌≡◌, ◌++◌, ◌∷◌, [], ◌==◌, List, ℕ, length, IfOk, All};
 ghost use Rattle.std.specs.List.{flat_map, list_all};
 ghost use Rattle.tail_book.specs.Lookup.{activities, aircraft};
-ghost use Rattle.tail_book.specs.Counters.{step};
-ghost use Rattle.tail_book.specs.inside.Tests.{is_link, within_limits, is_legal_route, are_legal_below, are_flown_once_below, is_legal_plan};
-ghost use Rattle.tail_book.specs.inside.Place.{IsPlaceOf};
-ghost use Rattle.maint_counters.specs.inside.Counts.{AreCounts};
+ghost use Rattle.tail_book.specs.inside.Tests.{are_legal_below, are_flown_once_below, is_legal_plan};
+ghost use Rattle.maint_counters.specs.inside.StepTable.{IsStepTableOf};
 ghost use Rattle.plan_audit.specs.inside.Times.{AreTimes};
 
-use maint_counters::{start, step};
+use maint_counters::{StepTable, is_legal_route};
 use std::alloc::Global;
 use tail_book::laws::every_book_is_sound;
-use tail_book::{Book, Memory, Place, Plan, Route};
-use turn_rules::link;
+use tail_book::{Book, Memory, Plan, Route};
 
-// Whether an activity may come next in a legal route; its counters are then stepped.
-fn is_legal_next(book: &Book, k: u32, from: Place, b: u32, values: &mut [i64]) -> bool
-    requires aircraft { k < aircraft book.now }
-    requires place { IsPlaceOf book.now from }
-    requires width { length values.old ≡ length book.now.rules.counters }
-    requires range { AreCounts values.old }
-    ensures legal { result ≡ (nat_lt b (activities book.now) && (is_link book.now k from b && within_limits book.now.rules.counters (step book.now k from b values.old))) }
-    ensures steps { IsTrue result → values.new ≡ step book.now k from b values.old }
-    ensures width { length values.new ≡ length book.now.rules.counters }
-    ensures range { IsTrue result → AreCounts values.new }
-{
-    (b as usize) < book.activities.len() && link(book, k, from, b) && step(book, k, from, b, values)
-}
-
-fn is_legal_route(book: &Book, k: u32, route: &[u32], values: &mut [i64]) -> bool
-    requires aircraft { k < aircraft book.now }
-    requires width { length values.old ≡ length book.now.rules.counters }
-    ensures legal { result ≡ is_legal_route book.now k route.now }
-    ensures width { length values.new ≡ length book.now.rules.counters }
-{
-    start(book, k, values);
-    let mut from = Place::Carry;
-    for b in route {
-        let b = *b;
-        if !is_legal_next(book, k, from, b, values) {
-            return false;
-        }
-        from = Place::After(b);
-    }
-    true
-}
-
-fn are_legal_routes(book: &Book, routes: &[Route], values: &mut [i64]) -> bool
+fn are_legal_routes(book: &Book, table: &StepTable, routes: &[Route], values: &mut [i64]) -> bool
+    requires table { IsStepTableOf book.now table.now }
     requires one_each { length routes.now ≡ aircraft book.now }
     requires width { length values.old ≡ length book.now.rules.counters }
     ensures { result ≡ are_legal_below book.now routes.now (aircraft book.now) }
@@ -59,7 +25,7 @@ fn are_legal_routes(book: &Book, routes: &[Route], values: &mut [i64]) -> bool
     every_book_is_sound(book);
     for k in 0..routes.len() {
         let route = &routes[k];
-        if !is_legal_route(book, k as u32, &route.0, values) {
+        if !is_legal_route(book, table, k as u32, &route.0, values) {
             return false;
         }
     }
@@ -124,8 +90,9 @@ pub fn is_legal(alloc: Global, book: &Book, plan: &Plan) -> Result<bool, Memory>
     if routes.len() != book.tails.len() {
         return Ok(false);
     }
+    let table = StepTable::of(alloc, book)?;
     let mut values = vec![in alloc; 0; book.rules.counters.len()]?;
-    if !are_legal_routes(book, routes, &mut values) {
+    if !are_legal_routes(book, &table, routes, &mut values) {
         return Ok(false);
     }
     are_flown_once(alloc, book, routes)

@@ -4,7 +4,6 @@
 mod auditing;
 mod book_names;
 mod broken;
-mod connections;
 mod dropped_names;
 mod kept_plan;
 pub mod laws;

@@ -7,9 +7,9 @@ ghost use Rattle.std.specs.Prelude.{◌≡◌, ◌<◌, ◌^◌, length, All};
 ghost use Rattle.tail_book.specs.Lookup.{activities, aircraft};
 ghost use Rattle.tail_book.specs.inside.CostTable.{IsTableFor, route_cost_in, plan_cost_in};
 
-use crate::connections::connection_cost;
 use tail_book::laws::every_book_is_sound;
 use tail_book::{Book, CostTable, Place, Route};
+use turn_rules::connection_cost;
 
 fn route_cost(book: &Book, table: &CostTable, k: u32, route: &[u32]) -> u64
     requires table { IsTableFor book.now table.now }

@@ -12,7 +12,7 @@ use Rattle.std.proofs.lemmas.List.Elements.{All-take, All-drop, All-append, All-
 use Rattle.std.proofs.Math.Seq.{take-suc-set, take-append_seam, get_or-append_seam}
 use Rattle.std.proofs.Math.Nat.{mul-le-mul_right}
 use Rattle.std.specs.Prelude.{All, nat_eq, slice_set}
-use Rattle.tail_book.specs.declared.limits.TheConstants.{VALUE_LIMIT}
+use Rattle.tail_book.specs.declared.limits.TheConstants.{VALUE_LIMIT, LEG_COST_LIMIT}
 use Rattle.tail_book.specs.Seen.{BookSeen}
 use Rattle.tail_book.specs.declared.place.Place.{Place}
 use Rattle.tail_book.specs.declared.place.Place.TheVariants.{Carry, After}
@@ -25,7 +25,9 @@ use Rattle.plan_enumeration.specs.declared.enumerate.Trial.{Trial}
 use Rattle.plan_enumeration.specs.declared.enumerate.Best.{Best}
 use Rattle.plan_enumeration.specs.declared.enumerate.Advance.{Advance}
 use Rattle.tail_book.specs.Cost.{activity_cost, connection_cost}
-use Rattle.plan_enumeration.specs.inside.Assignment.{route_flown_from, route_flown, IsLegalAssignment, assignment_cost}
+use Rattle.plan_enumeration.specs.inside.Assignment.{IsLegalAssignment, assignment_cost}
+use Rattle.plan_enumeration.proofs.Assigned.{route_flown_from, route_is}
+use Rattle.tail_book.specs.inside.Fliers.{route_by}
 use Rattle.plan_enumeration.specs.inside.Enumeration.{Advances, AgreesBelow, GoesOn, HasRow, HasTried, IsCounterValue, IsPlaceBefore, IsTrial, end_of_route, row_of, values_after, values_at, width_of, with_row}
 use Rattle.tail_book.specs.inside.Place.{IsPlaceOf}
 use Rattle.plan_enumeration.proofs.Extended.{completed, cost_more, counters_push, route_flown-other, route_flown-same, legal_more, place_push}
@@ -44,6 +46,10 @@ end_before k i n x (j ∷ who) before e = elim (cases_Bool (nat_eq j k)) [
     later Carry h = tt
     later (After y) h = omega (arith, h)
 
+end_lies_before : (k n : ℕ) (who : List ℕ) → n ≡ length who → IsPlaceBefore n (end_of_route k who)
+end_lies_before k n who e =
+    subst (λ (r : List ℕ). IsPlaceBefore n (place_after Carry r)) (sym (route_is k who)) (end_before k 0 n Carry who tt (omega (arith, e)))
+
 -- a place before an activity is a place of the book
 pub place_of_book : (book : BookSeen) (a : ℕ) (x : Place) → a < activities book → IsPlaceBefore a x → IsPlaceOf book x
 place_of_book book a Carry lt before = tt
@@ -55,7 +61,7 @@ module _ (book : BookSeen) (a : ℕ) (trial : Trial) (h : IsTrial book a trial) 
   assigned le = let short : a ≤ length trial.fliers.items = omega (arith, h.whole, le) in length-take-le a trial.fliers.items short
 
   pub place_is_before : (k : ℕ) → k < aircraft book → a ≤ activities book → IsPlaceBefore a (get_or trial.places.items k Carry)
-  place_is_before k lt le = rw (h.standing k lt) (end_before k 0 a Carry (take a trial.fliers.items) tt (omega (arith, assigned le)))
+  place_is_before k lt le = rw (h.standing k lt) (end_lies_before k a (take a trial.fliers.items) (omega (arith, assigned le)))
 
   room : a < activities book → a * width_of book + width_of book ≤ length trial.values.items
   room lt = let below = row_below (width_of book) a (activities book) lt in omega (arith, below, h.one_row_each)
@@ -85,11 +91,11 @@ module _ (book : BookSeen) (a : ℕ) (trial : Trial) (h : IsTrial book a trial) 
   goes_on_from k x lt in_book at link limits =
       let n = assigned (omega arith) in
       let there : x ≡ end_of_route k (take a trial.fliers.items) = at ∙ h.standing k lt in
-      let here : step book k x a (values_at book trial.values.items k x) ≡ step book k (end_of_route k (take a trial.fliers.items)) a (counters_after book k (route_flown k (take a trial.fliers.items))) =
+      let here : step book k x a (values_at book trial.values.items k x) ≡ step book k (end_of_route k (take a trial.fliers.items)) a (counters_after book k (route_by (take a trial.fliers.items) k)) =
       ap (λ (y : Place). step book k y a (values_at book trial.values.items k y)) there ∙ ap (step book k (end_of_route k (take a trial.fliers.items)) a) (h.counted k lt) in
       record {
         link = subst (λ (b : ℕ). IsLink book k (end_of_route k (take a trial.fliers.items)) b) (sym n) (subst (λ (y : Place). IsLink book k y a) there link);
-        limits = subst (λ (b : ℕ). WithinLimits book.rules.counters (step book k (end_of_route k (take a trial.fliers.items)) b (counters_after book k (route_flown k (take a trial.fliers.items))))) (sym n)
+        limits = subst (λ (b : ℕ). WithinLimits book.rules.counters (step book k (end_of_route k (take a trial.fliers.items)) b (counters_after book k (route_by (take a trial.fliers.items) k)))) (sym n)
             (subst (WithinLimits book.rules.counters) here limits);
       }
 
@@ -98,11 +104,11 @@ module _ (book : BookSeen) (a : ℕ) (trial : Trial) (h : IsTrial book a trial) 
   goes_on_back k x lt in_book at goes =
       let n = assigned (omega arith) in
       let there : x ≡ end_of_route k (take a trial.fliers.items) = at ∙ h.standing k lt in
-      let here : step book k x a (values_at book trial.values.items k x) ≡ step book k (end_of_route k (take a trial.fliers.items)) a (counters_after book k (route_flown k (take a trial.fliers.items))) =
+      let here : step book k x a (values_at book trial.values.items k x) ≡ step book k (end_of_route k (take a trial.fliers.items)) a (counters_after book k (route_by (take a trial.fliers.items) k)) =
       ap (λ (y : Place). step book k y a (values_at book trial.values.items k y)) there ∙ ap (step book k (end_of_route k (take a trial.fliers.items)) a) (h.counted k lt) in (
         subst (λ (y : Place). IsLink book k y a) (sym there) (subst (λ (b : ℕ). IsLink book k (end_of_route k (take a trial.fliers.items)) b) n goes.link),
         subst (WithinLimits book.rules.counters) (sym here)
-            (subst (λ (b : ℕ). WithinLimits book.rules.counters (step book k (end_of_route k (take a trial.fliers.items)) b (counters_after book k (route_flown k (take a trial.fliers.items))))) n goes.limits),
+            (subst (λ (b : ℕ). WithinLimits book.rules.counters (step book k (end_of_route k (take a trial.fliers.items)) b (counters_after book k (route_by (take a trial.fliers.items) k)))) n goes.limits),
       )
 
 -- a row that is written at a leaves the rows before it
@@ -156,7 +162,7 @@ module _ (book : BookSeen) (a k : ℕ) (old new : Trial) (row : List ℤ) (h : I
       | inl t ↦
           let same : k ≡ j = eqb-true k j t in
           let there : k < length old.places.items = omega (arith, h.one_place_each, lt) in
-          let after : end_of_route k (take a old.fliers.items ++ k ∷ []) ≡ After a = ap (place_after Carry) (route_flown-same k (take a old.fliers.items)) ∙ place_push book k Carry (route_flown k (take a old.fliers.items)) (length (take a old.fliers.items)) ∙ ap After n in
+          let after : end_of_route k (take a old.fliers.items ++ k ∷ []) ≡ After a = ap (place_after Carry) (route_flown-same k (take a old.fliers.items)) ∙ place_push book k Carry (route_by (take a old.fliers.items) k) (length (take a old.fliers.items)) ∙ ap After n in
           subst (λ (i : ℕ). get_or new.places.items i Carry ≡ end_of_route i (take a old.fliers.items ++ k ∷ [])) same
           (ap (λ (ps : List Place). get_or ps k Carry) places ∙ get_or-set_same old.places.items k (After a) Carry there ∙ sym after)
       | inr f ↦
@@ -166,22 +172,22 @@ module _ (book : BookSeen) (a k : ℕ) (old new : Trial) (row : List ℤ) (h : I
           ∙ sym (ap (place_after Carry) (route_flown-other k j (take a old.fliers.items) ne))
     ]
 
-    counted_more : (j : ℕ) → j < aircraft book → values_at book new.values.items j (end_of_route j (take a old.fliers.items ++ k ∷ [])) ≡ counters_after book j (route_flown j (take a old.fliers.items ++ k ∷ []))
+    counted_more : (j : ℕ) → j < aircraft book → values_at book new.values.items j (end_of_route j (take a old.fliers.items ++ k ∷ [])) ≡ counters_after book j (route_by (take a old.fliers.items ++ k ∷ []) j)
     counted_more j below = elim (cases_Bool (nat_eq k j)) [
       | inl t ↦
           let same : k ≡ j = eqb-true k j t in
-          let after : end_of_route k (take a old.fliers.items ++ k ∷ []) ≡ After a = ap (place_after Carry) (route_flown-same k (take a old.fliers.items)) ∙ place_push book k Carry (route_flown k (take a old.fliers.items)) (length (take a old.fliers.items)) ∙ ap After n in
-          let stepped : row ≡ step book k (end_of_route k (take a old.fliers.items)) a (counters_after book k (route_flown k (take a old.fliers.items))) =
+          let after : end_of_route k (take a old.fliers.items ++ k ∷ []) ≡ After a = ap (place_after Carry) (route_flown-same k (take a old.fliers.items)) ∙ place_push book k Carry (route_by (take a old.fliers.items) k) (length (take a old.fliers.items)) ∙ ap After n in
+          let stepped : row ≡ step book k (end_of_route k (take a old.fliers.items)) a (counters_after book k (route_by (take a old.fliers.items) k)) =
           is ∙ ap (λ (x : Place). step book k x a (values_at book old.values.items k x)) (h.standing k lt) ∙ ap (step book k (end_of_route k (take a old.fliers.items)) a) (h.counted k lt) in
-          let counters : counters_after book k (route_flown k (take a old.fliers.items ++ k ∷ [])) ≡ step book k (end_of_route k (take a old.fliers.items)) (length (take a old.fliers.items)) (counters_after book k (route_flown k (take a old.fliers.items))) =
-          ap (counters_after book k) (route_flown-same k (take a old.fliers.items)) ∙ counters_push book k Carry (carry_of book k) (route_flown k (take a old.fliers.items)) (length (take a old.fliers.items)) in
-          subst (λ (i : ℕ). values_at book new.values.items i (end_of_route i (take a old.fliers.items ++ k ∷ [])) ≡ counters_after book i (route_flown i (take a old.fliers.items ++ k ∷ []))) same
+          let counters : counters_after book k (route_by (take a old.fliers.items ++ k ∷ []) k) ≡ step book k (end_of_route k (take a old.fliers.items)) (length (take a old.fliers.items)) (counters_after book k (route_by (take a old.fliers.items) k)) =
+          ap (counters_after book k) (route_flown-same k (take a old.fliers.items)) ∙ counters_push book k Carry (carry_of book k) (route_by (take a old.fliers.items) k) (length (take a old.fliers.items)) in
+          subst (λ (i : ℕ). values_at book new.values.items i (end_of_route i (take a old.fliers.items ++ k ∷ [])) ≡ counters_after book i (route_by (take a old.fliers.items ++ k ∷ []) i)) same
           (ap (values_at book new.values.items k) after ∙ new_row ∙ stepped
-          ∙ sym (counters ∙ ap (λ (b : ℕ). step book k (end_of_route k (take a old.fliers.items)) b (counters_after book k (route_flown k (take a old.fliers.items)))) n))
+          ∙ sym (counters ∙ ap (λ (b : ℕ). step book k (end_of_route k (take a old.fliers.items)) b (counters_after book k (route_by (take a old.fliers.items) k))) n))
       | inr f ↦
           let ne : k ≢ j = λ e. both_ways (nat_eq k j) f (eq-eqb k j e) in
-          let route : route_flown j (take a old.fliers.items ++ k ∷ []) ≡ route_flown j (take a old.fliers.items) = route_flown-other k j (take a old.fliers.items) ne in
-          let before : IsPlaceBefore a (end_of_route j (take a old.fliers.items)) = end_before j 0 a Carry (take a old.fliers.items) tt (omega (arith, n)) in
+          let route : route_by (take a old.fliers.items ++ k ∷ []) j ≡ route_by (take a old.fliers.items) j = route_flown-other k j (take a old.fliers.items) ne in
+          let before : IsPlaceBefore a (end_of_route j (take a old.fliers.items)) = end_lies_before j a (take a old.fliers.items) (omega (arith, n)) in
           ap (λ (r : List ℕ). values_at book new.values.items j (place_after Carry r)) route ∙ kept_values j (end_of_route j (take a old.fliers.items)) before ∙ h.counted j below ∙ sym (ap (counters_after book j) route)
     ]
 
@@ -208,7 +214,7 @@ module _ (book : BookSeen) (a k : ℕ) (old new : Trial) (row : List ℤ) (h : I
 pub advances : (book : BookSeen) (a k : ℕ) (old mid new : Trial) (advance : Advance) → IsTrial book a old → a < activities book → k < aircraft book → GoesOn book (take a old.fliers.items) k
     → mid.fliers.items ≡ old.fliers.items → mid.places.items ≡ old.places.items → HasRow book a k (get_or old.places.items k Carry) old mid
     → new.fliers.items ≡ slice_set mid.fliers.items a k → new.places.items ≡ slice_set mid.places.items k (After a) → new.values.items ≡ mid.values.items
-    → advance.from ≡ get_or mid.places.items k Carry → advance.cost ≡ activity_cost book k a + connection_cost book k advance.from a → advance.cost ≤ 2_000_000
+    → advance.from ≡ get_or mid.places.items k Carry → advance.cost ≡ activity_cost book k a + connection_cost book k advance.from a → advance.cost ≤ LEG_COST_LIMIT
     → Advances book a k old new advance
 advances book a k old mid new advance h in_book lt goes same_fliers same_places row fliers places values from cost most =
     let put_flier : new.fliers.items ≡ slice_set old.fliers.items a k = fliers ∙ ap (λ (l : List ℕ). slice_set l a k) same_fliers in
@@ -243,7 +249,7 @@ returned book a old new le h agrees whole rows = record {
   one_row_each = rows;
   legal = rw agrees.fliers h.legal;
   standing = λ k lt. rw (agrees.places, agrees.fliers) (h.standing k lt);
-  counted = λ k lt. rw agrees.fliers (same k (end_of_route k (take a old.fliers.items)) (end_before k 0 a Carry (take a old.fliers.items) tt (omega (arith, assigned book a old h le))) ∙ h.counted k lt);
+  counted = λ k lt. rw agrees.fliers (same k (end_of_route k (take a old.fliers.items)) (end_lies_before k a (take a old.fliers.items) (omega (arith, assigned book a old h le))) ∙ h.counted k lt);
   small = rw agrees.values h.small;
 }
   where

@@ -9,9 +9,11 @@
 //! way. Costs and permissions come from tables that are made once; turns and counters are judged in each branch.
 
 ghost use Rattle.std.specs.Prelude.{◌≡◌, ◌<◌, ◌≤◌, ◌+◌, ◌*◌, ◌++◌, [], ◌∷◌, ℕ, List, IsTrue, ◌↔◌, IfOk, IfSome, IfNone, length, take, drop, All, ◌^◌, slice_set, slice_index_or};
+ghost use Rattle.tail_book.specs.declared.limits.TheConstants.{LEG_COST_LIMIT};
 ghost use Rattle.tail_book.specs.Lookup.{activities, aircraft, carry_of};
 ghost use Rattle.tail_book.specs.Counters.{step, WithinLimits};
-ghost use Rattle.plan_enumeration.specs.inside.Assignment.{IsLegalAssignment, assignment_cost, route_flown, routes_from};
+ghost use Rattle.tail_book.specs.inside.Fliers.{plan_by, route_by};
+ghost use Rattle.plan_enumeration.specs.inside.Assignment.{IsLegalAssignment, assignment_cost};
 ghost use Rattle.tail_book.specs.Truth.{IsTrueOutcome};
 ghost use Rattle.plan_enumeration.specs.inside.Enumeration.{Advances, AgreesBelow, HasRow, GoesOn, HasTried, IsBest, IsCounterValue, IsNoBetter, IsTrial, KeepsBest, IsPlaceBefore, IsRowBefore, next_cost, row_of, values_at, width_of, with_row};
 ghost use Rattle.plan_enumeration.specs.inside.Decided.{IsDecided};
@@ -202,7 +204,7 @@ fn assign_to(
     requires activity { a < activities book.now }
     requires trial { IsTrial book.now a trial.old }
     requires cost { cost ≡ assignment_cost book.now (take a trial.old.fliers.items) }
-    requires most { cost ≤ 2_000_000 * a }
+    requires most { cost ≤ LEG_COST_LIMIT * a }
     requires best { IsBest book.now best.old }
     ensures best { IsBest book.now best.new }
     ensures kept { KeepsBest book.now best.old best.new }
@@ -232,7 +234,7 @@ fn assign_from(
     requires activity { a ≤ activities book.now }
     requires trial { IsTrial book.now a trial.old }
     requires cost { cost ≡ assignment_cost book.now (take a trial.old.fliers.items) }
-    requires most { cost ≤ 2_000_000 * a }
+    requires most { cost ≤ LEG_COST_LIMIT * a }
     requires best { IsBest book.now best.old }
     ensures best { IsBest book.now best.new }
     ensures kept { KeepsBest book.now best.old best.new }
@@ -274,7 +276,7 @@ fn best_assignment(alloc: Global, book: &Book) -> Result<Best, Memory>
 
 fn route_of(alloc: Global, fliers: &[u32], k: u32) -> Result<Route, Memory>
     requires { length fliers.now < 2 ^ 32 }
-    ensures { IfOk result (λ route. route ≡ route_flown k fliers.now) }
+    ensures { IfOk result (λ route. route ≡ route_by fliers.now k) }
 {
     let mut route = Vec::new(alloc);
     for (a, flier) in fliers.iter().enumerate() {
@@ -287,7 +289,7 @@ fn route_of(alloc: Global, fliers: &[u32], k: u32) -> Result<Route, Memory>
 
 fn plan_of(alloc: Global, fliers: &[u32], count: u32) -> Result<Plan, Memory>
     requires { length fliers.now < 2 ^ 32 }
-    ensures { IfOk result (λ plan. plan ≡ routes_from 0 count fliers.now) }
+    ensures { IfOk result (λ plan. plan ≡ plan_by fliers.now count) }
 {
     let mut routes = Vec::new(alloc);
     for k in 0..count {
@@ -303,8 +305,9 @@ fn outcome_of(alloc: Global, book: &Book, best: &Best) -> Result<Outcome, Memory
     ensures decided { IfOk result IsDecided }
 {
     laws::every_book_is_sound(book);
-    laws::legal_routes_rise();
-    laws::each_is_flown_once();
+    laws::fliers_fly();
+    laws::plans_of_their_fliers();
+    laws::plans_by_fliers_are_legal();
     if !best.found {
         return Ok(Outcome::Infeasible);
     }

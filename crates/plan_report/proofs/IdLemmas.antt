@@ -1,7 +1,7 @@
 -- The ids of a line, part by part: those before the limit are kept, and the others are only tested.
 use Rattle.std.proofs.Common.{◌≡◌, ◌∙◌, ◌<◌, ◌≤◌, ℕ, ◌+◌, Bool, true, false, sym, List, [], ◌∷◌, ◌++◌, Result, Ok, Err, length, length-append, take, refl, arith, nat_lt, nat_le, length-take, append_assoc, ap}
 use Rattle.std.specs.List.{list_all}
-use Rattle.std.proofs.lemmas.Bool.Decides.{nat_tests}
+use Rattle.std.proofs.lemmas.Bool.{le-leb, le-ltb, lt-leb, lt-ltb, ltb-false, ltb-true}
 use Rattle.std.proofs.lemmas.List.{append-nil, take_all, take-append-le}
 use Rattle.std.proofs.lemmas.List.Folds.{list_all-append}
 use Rattle.tail_book.specs.Name.{is_name}
@@ -28,27 +28,12 @@ pub record AreKept (limit : ℕ) (parts left ids : List (List ℕ)) (too_many : 
   pub kept : ids ≡ take limit seen
   pub many : too_many ≡ nat_lt limit (length seen)
 
-few_enough : (n limit : ℕ) → n ≤ limit → nat_lt limit n ≡ false
-few_enough n limit h = grind (arith, nat_tests)
-
-too_few : (n limit : ℕ) → limit < n → true ≡ nat_lt limit n
-too_few n limit h = grind (arith, nat_tests)
-
-over : (n limit : ℕ) → true ≡ nat_lt limit n → nat_le n limit ≡ false
-over n limit h = grind (arith, nat_tests)
-
-under : (n limit : ℕ) → false ≡ nat_lt limit n → n ≤ limit
-under n limit h = grind (arith, nat_tests)
-
-enough_few : (n limit : ℕ) → n ≤ limit → nat_le n limit ≡ true
-enough_few n limit h = grind (arith, nat_tests)
-
 nothing_kept : (limit : ℕ) → [] ≡ take {A = List ℕ} limit []
 nothing_kept limit = sym (take_all limit [] (omega arith))
 
 -- before the first part
 pub AreKept-init : (limit : ℕ) (parts : List (List ℕ)) → AreKept limit parts parts [] false
-AreKept-init limit parts = record { seen = []; split = refl; good = refl; kept = nothing_kept limit; many = sym (few_enough 0 limit (omega arith)) }
+AreKept-init limit parts = record { seen = []; split = refl; good = refl; kept = nothing_kept limit; many = sym (le-ltb limit 0 (omega arith)) }
 
 -- no more are kept than may be
 pub AreKept-few : (limit : ℕ) (parts left ids : List (List ℕ)) (too_many : Bool) → AreKept limit parts left ids too_many → length ids ≤ limit
@@ -80,7 +65,7 @@ module _ (limit : ℕ) (parts left ids : List (List ℕ)) (too_many : Bool) (so_
         split = split_on;
         good = good id e;
         kept = rw (all, before, (named (is_name part) part id refl e).0) refl;
-        many = so_far.many ∙ few_enough (length so_far.seen) limit (omega (arith, n)) ∙ sym (few_enough (length (so_far.seen ++ part ∷ [])) limit (omega (arith, n, longer)));
+        many = so_far.many ∙ le-ltb limit (length so_far.seen) (omega (arith, n)) ∙ sym (le-ltb limit (length (so_far.seen ++ part ∷ [])) (omega (arith, n, longer)));
       }
 
   full : limit ≤ length ids → limit ≤ length so_far.seen
@@ -95,7 +80,7 @@ module _ (limit : ℕ) (parts left ids : List (List ℕ)) (too_many : Bool) (so_
         split = split_on;
         good = good id e;
         kept = so_far.kept ∙ sym (take-append-le limit so_far.seen (part ∷ []) n);
-        many = too_few (length (so_far.seen ++ part ∷ [])) limit (omega (arith, n, longer));
+        many = sym (lt-ltb limit (length (so_far.seen ++ part ∷ [])) (omega (arith, n, longer)));
       }
 
   -- a bad part decides
@@ -113,13 +98,13 @@ module _ (limit : ℕ) (parts left ids : List (List ℕ)) (done : left ≡ []) w
   end-good too_many so_far = rw (whole too_many so_far) so_far.good
 
   pub end-many : AreKept limit parts left ids true → nat_le (length parts) limit ≡ false
-  end-many so_far = rw (whole true so_far) (over (length so_far.seen) limit so_far.many)
+  end-many so_far = rw (whole true so_far) (lt-leb (length so_far.seen) limit (ltb-true limit (length so_far.seen) (sym so_far.many)))
 
   pub end-few : AreKept limit parts left ids false → (nat_le (length parts) limit ≡ true) × (parts ≡ ids)
   end-few so_far =
-      let few = under (length so_far.seen) limit so_far.many in
+      let few = ltb-false limit (length so_far.seen) (sym so_far.many) in
       let all = whole false so_far in
-      (rw all (enough_few (length so_far.seen) limit few), all ∙ sym (so_far.kept ∙ take_all limit so_far.seen few))
+      (rw all (le-leb (length so_far.seen) limit few), all ∙ sym (so_far.kept ∙ take_all limit so_far.seen few))
 
 -- what the parts of a line give then
 pub ids_in-bad : (place : ℕ) (parts : List (List ℕ)) → list_all is_name parts ≡ false → ids_in place parts ≡ Err (refused SHAPE place)

@@ -3,26 +3,27 @@ use Rattle.std.specs.Prelude.{ℕ, ⊤, ℤ, pos, ◌+◌, ◌*◌, ◌≡◌, �
 use Rattle.tail_book.specs.Seen.{BookSeen}
 use Rattle.tail_book.specs.declared.place.Place.{Place}
 use Rattle.tail_book.specs.declared.place.Place.TheVariants.{Carry, After}
-use Rattle.tail_book.specs.declared.limits.TheConstants.{COUNT_LIMIT}
+use Rattle.tail_book.specs.declared.limits.TheConstants.{COUNT_LIMIT, LEG_COST_LIMIT}
 use Rattle.tail_book.specs.Lookup.{activities, aircraft, carry_of}
 use Rattle.tail_book.specs.Link.{IsLink}
 use Rattle.tail_book.specs.Counters.{step, WithinLimits}
+use Rattle.tail_book.specs.inside.Fliers.{route_by}
 use Rattle.tail_book.specs.inside.Route.{counters_after, place_after}
 use Rattle.tail_book.specs.Cost.{activity_cost, connection_cost}
 use Rattle.tail_book.specs.inside.Sound.{IsWithin}
 use Rattle.plan_enumeration.specs.declared.enumerate.Trial.{Trial}
 use Rattle.plan_enumeration.specs.declared.enumerate.Best.{Best}
 use Rattle.plan_enumeration.specs.declared.enumerate.Advance.{Advance}
-use Rattle.plan_enumeration.specs.inside.Assignment.{route_flown, IsLegalSoFar, IsLegalAssignment, assignment_cost}
+use Rattle.plan_enumeration.specs.inside.Assignment.{IsLegalSoFar, IsLegalAssignment, assignment_cost}
 
 -- where aircraft k is after what it flies
 abbrev pub end_of_route : ℕ → List ℕ → Place
-end_of_route k who = place_after Carry (route_flown k who)
+end_of_route k who = place_after Carry (route_by who k)
 
 -- the next activity, the one after those that are assigned, goes on legally from the route of aircraft k
 pub record GoesOn (book : BookSeen) (who : List ℕ) (k : ℕ) : Type 0 where
   pub link : IsLink book k (end_of_route k who) (length who)
-  pub limits : WithinLimits book.rules.counters (step book k (end_of_route k who) (length who) (counters_after book k (route_flown k who)))
+  pub limits : WithinLimits book.rules.counters (step book k (end_of_route k who) (length who) (counters_after book k (route_by who k)))
 
 -- what the next activity costs aircraft k, with the connection to it
 abbrev pub next_cost : BookSeen → List ℕ → ℕ → ℕ
@@ -66,7 +67,7 @@ pub record IsTrial (book : BookSeen) (a : ℕ) (trial : Trial) : Type 0 where
   pub one_row_each : length trial.values.items ≡ activities book * width_of book
   pub legal : IsLegalSoFar book (take a trial.fliers.items)
   pub standing : (k : ℕ) → k < aircraft book → slice_index_or trial.places.items k Carry ≡ end_of_route k (take a trial.fliers.items)
-  pub counted : (k : ℕ) → k < aircraft book → values_at book trial.values.items k (end_of_route k (take a trial.fliers.items)) ≡ counters_after book k (route_flown k (take a trial.fliers.items))
+  pub counted : (k : ℕ) → k < aircraft book → values_at book trial.values.items k (end_of_route k (take a trial.fliers.items)) ≡ counters_after book k (route_by (take a trial.fliers.items) k)
   pub small : All IsCounterValue (take (a * width_of book) trial.values.items)
 
 -- the counters of aircraft k after activity a, where it comes from that place
@@ -113,4 +114,4 @@ pub record Advances (book : BookSeen) (a k : ℕ) (old new : Trial) (advance : A
   pub places : new.places.items ≡ slice_set old.places.items k (After a)
   pub from : advance.from ≡ slice_index_or old.places.items k Carry
   pub cost : advance.cost ≡ next_cost book (take a old.fliers.items) k
-  pub most : advance.cost ≤ 2_000_000
+  pub most : advance.cost ≤ LEG_COST_LIMIT

@@ -14,7 +14,7 @@ loop-k-preserved c =
     let here : c.deref.result.now ≡ c.index-routes-k.result = search rules in
     let legal : c.is_legal_route.result ≡ true = search rules in
     record {
-      legal = route-more book routes k c.index-routes-k.result within c.index-routes-k.is (ap (is_legal_route book k) (sym here) ∙ sym c.is_legal_route.ensures.legal ∙ legal) c.loop-k.invariant.legal;
+      legal = route-more book routes k c.index-routes-k.result within c.index-routes-k.is (ap (is_legal_route book k) (sym here) ∙ sym c.is_legal_route.ensures.tests ∙ legal) c.loop-k.invariant.legal;
       width = c.is_legal_route.ensures.width;
     }
 
@@ -28,7 +28,7 @@ returns-then-not-is_legal_route c =
     let here : c.deref.result.now ≡ c.index-routes-k.result = search rules in
     let refused : c.is_legal_route.result ≡ false = search rules in
     sym (routes-refused book routes (aircraft book) k (omega (arith, c.requires.one_each, within))
-    (ap (is_legal_route book k) (sym (here ∙ read-route routes k c.index-routes-k.result within c.index-routes-k.is)) ∙ sym c.is_legal_route.ensures.legal ∙ refused))
+    (ap (is_legal_route book k) (sym (here ∙ read-route routes k c.index-routes-k.result within c.index-routes-k.is)) ∙ sym c.is_legal_route.ensures.tests ∙ refused))
 
 -- all are
 pub returns : goal.returns
