@@ -1,0 +1,217 @@
+//! The ascent from one round of exact pricing to the next: temperature, trust, and the best duals so far.
+//!
+//! A round prices duals exactly, adds routes to the pool, and climbs over the pool from the best duals. The pool promises
+//! a sum that pricing does not keep, since it lacks routes; so duals go only so far from the best ones, further where the
+//! promise was kept and less where it was not. Where the pool promises little more than the best sum, the temperature
+//! falls. At the last temperature a few rounds without a gain end the ascent.
+
+ghost use Rattle.std.specs.Prelude.{◌≡◌, length, None, IfOk};
+ghost use Rattle.branch_marks.specs.Settled.{AreDuals};
+ghost use Rattle.dual_ascent.specs.Ascent.{better};
+
+use crate::climb::{Limits, climb};
+use crate::mixture::Mixture;
+use crate::powers::Powers;
+use restricted_master::Pool;
+use std::alloc::Global;
+use std::marker::Model;
+use tail_book::{Book, CostTable, Duals, Memory};
+
+// In thousandths of a cost unit: the temperatures at the beginning and at the end, and how far duals are trusted.
+const HOTTEST: i64 = 15_000;
+
+const COLDEST: i64 = 20;
+
+const FIRST_RADIUS: i64 = 60_000;
+
+const LAST_RADIUS: i64 = 500_000;
+
+// So many rounds without a gain end the ascent.
+const STALLS: u32 = 4;
+
+// An ascent between two rounds of pricing cools at most so often.
+const COOLINGS: u32 = 32;
+
+/// What an ascent keeps between rounds. Contracts see the best duals that were priced, and their sum.
+#[derive(Debug, Drop)]
+pub struct Ascent {
+    powers: Powers,
+    mixture: Mixture,
+    temperature: i64,
+    radius: i64,
+    // no dual is larger, with or without its sign
+    most: i64,
+    best: Vec<i64>,
+    sum: Option<i128>,
+    // what the pool promised of the duals that are to be priced
+    promised: Option<i128>,
+    stalls: u32,
+}
+
+impl Model for Ascent {
+    ghost use Rattle.dual_ascent.specs.Seen.{AscentSeen};
+
+    ghost Value = { AscentSeen };
+
+    ghost view = { λ a. record { best = a.best.items; sum = a.sum } };
+}
+
+// Four times the most that an activity costs an aircraft, in thousandths of a cost unit.
+fn most_of(table: &CostTable) -> i64 {
+    let mut most = 1u64;
+    for cost in table.fly.iter() {
+        most = most.max(*cost);
+    }
+    (most.min(1 << 40) * 4000) as i64
+}
+
+impl Ascent {
+    /// An ascent that begins at these duals, of which no sum is known yet.
+    pub fn new(alloc: Global, table: &CostTable, first: &Duals) -> Result<Ascent, Memory>
+        ensures first { IfOk result (λ ascent. ascent.best ≡ first.now.values) }
+        ensures none { IfOk result (λ ascent. ascent.sum ≡ None) }
+    {
+        Ok(Ascent {
+            powers: Powers::new(alloc)?,
+            mixture: Mixture::new(alloc),
+            temperature: HOTTEST,
+            radius: FIRST_RADIUS,
+            most: most_of(table),
+            best: first.values.clone()?,
+            sum: None,
+            promised: None,
+            stalls: 0,
+        })
+    }
+
+    /// The best duals so far.
+    pub fn best(&self) -> &[i64]
+        ensures { result.now ≡ self.now.best }
+    {
+        self.best.as_slice()
+    }
+
+    /// Their sum, in thousandths of a cost unit, where one is known.
+    pub fn sum(&self) -> Option<i128>
+        ensures { result ≡ self.now.sum }
+    {
+        self.sum
+    }
+
+    /// How hot the mixtures are, in thousandths of a cost unit.
+    pub fn temperature(&self) -> i64 {
+        self.temperature
+    }
+
+    /// Whether the ascent has come to its end.
+    pub fn is_over(&self) -> bool {
+        self.temperature <= COLDEST && self.stalls >= STALLS
+    }
+
+    /// Learns the sum that exact pricing gives of duals. The best ones are kept.
+    pub fn learn(&mut self, duals: &Duals, sum: i128)
+        requires { length duals.now.values ≡ length self.old.best }
+        ensures { self.new ≡ better self.old duals.now.values sum }
+    {
+        let gain = self.sum.map_or(1, |best| sum.saturating_sub(best));
+        self.trust(gain);
+        if gain > 0 {
+            self.best.copy_from_slice(duals.values.as_slice());
+            self.sum = Some(sum);
+            self.stalls = 0;
+        } else {
+            self.stalls = self.stalls.saturating_add(1);
+        }
+    }
+
+    // Goes further from the best duals where what the pool promised was kept, and less far where it was not.
+    fn trust(&mut self, gain: i128)
+        ensures { self.new ≡ self.old }
+    {
+        let hoped = match (self.promised, self.sum) {
+            (Some(promised), Some(best)) => promised.saturating_sub(best).max(1),
+            _ => return,
+        };
+        if gain.saturating_mul(2) > hoped {
+            self.radius = self.radius.saturating_mul(3) / 2;
+        } else if gain.saturating_mul(10) < hoped {
+            self.radius = self.radius.saturating_mul(3) / 5;
+        }
+        self.radius = self.radius.min(LAST_RADIUS).max(self.temperature);
+    }
+
+    /// Moves duals to where the sum over a pool is larger, near the best ones, and within the box.
+    pub fn climb(
+        &mut self,
+        book: &Book,
+        table: &CostTable,
+        pool: &Pool,
+        duals: &mut Duals,
+    ) -> Result<(), Memory>
+        requires best { AreDuals table.now book.now self.old.best }
+        requires duals { AreDuals table.now book.now duals.old.values }
+        ensures kept { self.new ≡ self.old }
+        ensures duals { AreDuals table.now book.now duals.new.values }
+    {
+        duals.values.copy_from_slice(self.best.as_slice());
+        for _turn in 0..COOLINGS {
+            let is_still = self.climb_once(book, table, pool, duals)?;
+            if !is_still || !self.is_near(book.tails.len()) {
+                return Ok(());
+            }
+            self.cool();
+        }
+        Ok(())
+    }
+
+    // Climbs at the present temperature, and notes what the pool promises of the duals. Answers whether little moved at last.
+    fn climb_once(
+        &mut self,
+        book: &Book,
+        table: &CostTable,
+        pool: &Pool,
+        duals: &mut Duals,
+    ) -> Result<bool, Memory>
+        requires duals { AreDuals table.now book.now duals.old.values }
+        ensures kept { self.new ≡ self.old }
+        ensures duals { AreDuals table.now book.now duals.new.values }
+    {
+        let m = book.tails.len();
+        let temperature = self.temperature;
+        self.mixture.take(pool, duals.values.as_slice(), m, temperature, &self.powers)?;
+        let limits = Limits {
+            center: self.best.as_slice(),
+            radius: self.radius,
+            most: self.most,
+        };
+        let is_still = climb(
+            book,
+            table,
+            &self.powers,
+            &mut self.mixture,
+            limits,
+            duals,
+            temperature,
+        )?;
+        self.promised = Some(self.mixture.sum_over(pool, duals.values.as_slice(), m)?);
+        Ok(is_still)
+    }
+
+    // Whether the pool promises so little more than the best sum that it is time to cool: three tenths of the temperature
+    // for each aircraft.
+    fn is_near(&self, aircraft: usize) -> bool {
+        let (Some(promised), Some(best)) = (self.promised, self.sum) else {
+            return false;
+        };
+        let hoped = promised.saturating_sub(best).saturating_mul(10);
+        let near = (aircraft as i128).saturating_mul(self.temperature as i128 * 3);
+        self.temperature > COLDEST && hoped <= near
+    }
+
+    // Lets the temperature fall.
+    fn cool(&mut self)
+        ensures { self.new ≡ self.old }
+    {
+        self.temperature = (self.temperature / 4 * 3).max(COLDEST);
+    }
+}

@@ -1,0 +1,143 @@
+//! Sweeps: each dual in turn moves to where its activity is asked for once, as far as it is trusted to go.
+//!
+//! Sweeps go up and down the numbers in turn. They end where a sweep moves little, or after so many. The cooler the
+//! mixtures, the more sweeps are worth their time.
+
+ghost use Rattle.std.specs.Prelude.{◌<◌, length};
+ghost use Rattle.tail_book.specs.inside.CostTable.{IsInBox};
+ghost use Rattle.branch_marks.specs.Settled.{AreDuals};
+
+use crate::mixture::Mixture;
+use crate::powers::Powers;
+use tail_book::{Book, CostTable, Duals, Memory};
+
+// Below this temperature, in thousandths of a cost unit, a sweep has to move less before the last.
+const COOL: i64 = 4000;
+
+/// How far duals may go.
+#[derive(Clone, Copy, Debug)]
+pub struct Limits<'a> {
+    /// The duals that are trusted, and how far from them, in thousandths of a cost unit.
+    pub center: &'a [i64],
+    pub radius: i64,
+    /// No dual is larger, with or without its sign.
+    pub most: i64,
+}
+
+impl Limits<'_> {
+    // The dual of an activity, moved to within the limits.
+    fn within(&self, a: usize, value: i64) -> i64 {
+        let center = self.center.get(a).copied().unwrap_or(0);
+        let most = self.most.saturating_abs();
+        let low = center.saturating_sub(self.radius).max(-most);
+        let high = center.saturating_add(self.radius).min(most);
+        value.min(high).max(low)
+    }
+}
+
+// The nearest number in the box.
+fn boxed(table: &CostTable, value: i64) -> i64
+    ensures { IsInBox table.now result }
+{
+    let end = table.box_end();
+    value.clamp(-end, end)
+}
+
+// Writes a dual, within the box.
+fn put(book: &Book, table: &CostTable, duals: &mut Duals, a: usize, value: i64)
+    requires duals { AreDuals table.now book.now duals.old.values }
+    requires place { a < length duals.old.values }
+    ensures duals { AreDuals table.now book.now duals.new.values }
+{
+    duals.values[a] = boxed(table, value);
+}
+
+// Moves the dual of an activity, and answers how far.
+fn step(
+    book: &Book,
+    table: &CostTable,
+    powers: &Powers,
+    mixture: &mut Mixture,
+    limits: Limits<'_>,
+    duals: &mut Duals,
+    a: usize,
+) -> Result<u64, Memory>
+    requires duals { AreDuals table.now book.now duals.old.values }
+    requires place { a < length duals.old.values }
+    ensures duals { AreDuals table.now book.now duals.new.values }
+{
+    let rise = mixture.rise(powers, a)?;
+    let from = duals.values[a];
+    put(
+        book,
+        table,
+        duals,
+        a,
+        limits.within(a, from.saturating_add(rise)),
+    );
+    let to = duals.values[a];
+    mixture.shift(powers, a, to.saturating_sub(from));
+    Ok(to.abs_diff(from))
+}
+
+// The activity whose turn comes after so many others, up or down their numbers.
+fn place(n: usize, i: usize, upwards: bool) -> usize
+    requires { i < n }
+    ensures { result < n }
+{
+    if upwards { i } else { n - 1 - i }
+}
+
+// Moves each dual once, and answers how far in all.
+fn sweep(
+    book: &Book,
+    table: &CostTable,
+    powers: &Powers,
+    mixture: &mut Mixture,
+    limits: Limits<'_>,
+    duals: &mut Duals,
+    upwards: bool,
+) -> Result<u64, Memory>
+    requires duals { AreDuals table.now book.now duals.old.values }
+    ensures duals { AreDuals table.now book.now duals.new.values }
+{
+    let n = duals.values.len();
+    let mut moved = 0u64;
+    for i in 0..n {
+        let a = place(n, i, upwards);
+        let far = step(book, table, powers, mixture, limits, duals, a)?;
+        moved = moved.saturating_add(far);
+    }
+    Ok(moved)
+}
+
+/// Sweeps over mixtures of a temperature until little moves, and answers whether it came to that.
+pub fn climb(
+    book: &Book,
+    table: &CostTable,
+    powers: &Powers,
+    mixture: &mut Mixture,
+    limits: Limits<'_>,
+    duals: &mut Duals,
+    temperature: i64,
+) -> Result<bool, Memory>
+    requires duals { AreDuals table.now book.now duals.old.values }
+    ensures duals { AreDuals table.now book.now duals.new.values }
+{
+    let (sweeps, share) = if temperature < COOL {
+        (60, 2000)
+    } else {
+        (20, 200)
+    };
+    let all = temperature
+        .unsigned_abs()
+        .saturating_mul(duals.values.len() as u64);
+    for turn in 0..sweeps {
+        let upwards = turn % 2 == 0;
+        let moved = sweep(book, table, powers, mixture, limits, duals, upwards)?;
+        if moved <= all / share {
+            return Ok(true);
+        }
+    }
+    Ok(false)
+}

@@ -1,0 +1,326 @@
+//! Mixtures: for each aircraft its light routes of a pool, each with a mass that says how light it is.
+//!
+//! A mass is two to the power of minus a route's weight above its aircraft's base, in temperatures. Routes more than 30
+//! temperatures above the least have none, and are left out. The routes of an activity lie together, in order of aircraft,
+//! so moving its dual touches their masses and the sums of their aircraft in one walk. A base is taken anew only where
+//! masses get too large or too small for their sum.
+
+use crate::demand::{Share, part_of, rise};
+use crate::groups::{Groups, Member};
+use crate::powers::{OCTAVE, ONE, Powers};
+use restricted_master::Pool;
+use std::alloc::Global;
+use tail_book::Memory;
+
+// So many temperatures above the least weight a route has no mass.
+const REACH: i64 = 30;
+
+// A base goes down where a route is so many temperatures below it.
+const DEPTH: i64 = 4;
+
+// A base goes up where the sum of masses is below this.
+const FAINT: u64 = ONE >> 6;
+
+// A dual moves so many 16ths of what would make its demand 1: the moves of its neighbours undo some of it.
+const RELAXED: i64 = 26;
+
+// No dual moves further at once than so many temperatures.
+const STRIDE: i64 = 16;
+
+// A route that takes part: its aircraft, its weight in thousandths of a cost unit, and its mass.
+#[derive(Clone, Copy, Debug)]
+struct Mixed {
+    owner: u32,
+    weight: i64,
+    mass: u64,
+}
+
+// Where the routes of an aircraft lie, from which weight their masses are measured, and what these sum to.
+#[derive(Clone, Copy, Debug)]
+struct Owner {
+    first: usize,
+    end: usize,
+    base: i64,
+    sum: u64,
+}
+
+/// The mixtures of all aircraft at a temperature.
+#[derive(Debug, Drop)]
+pub struct Mixture {
+    temperature: i64,
+    // of each route of the pool: its weight, and as a member of its aircraft's routes
+    weights: Vec<i64>,
+    owned: Vec<Member>,
+    by_aircraft: Groups,
+    // the routes that take part, aircraft by aircraft
+    mixed: Vec<Mixed>,
+    owners: Vec<Owner>,
+    // each of them as a member of the routes of each of its activities
+    flown: Vec<Member>,
+    by_activity: Groups,
+    shares: Vec<Share>,
+}
+
+// What a route costs less the duals of its activities, in thousandths of a cost unit.
+fn weigh(cost: u64, route: &[u32], duals: &[i64]) -> i64 {
+    let mut weight = (cost.min(1 << 52) * 1000) as i64;
+    for a in route {
+        weight = weight.saturating_sub(duals.get(*a as usize).copied().unwrap_or(0));
+    }
+    weight
+}
+
+impl Mixture {
+    /// Mixtures without a route.
+    pub fn new(alloc: Global) -> Mixture {
+        Mixture {
+            temperature: 1,
+            weights: Vec::new(alloc),
+            owned: Vec::new(alloc),
+            by_aircraft: Groups::new(alloc),
+            mixed: Vec::new(alloc),
+            owners: Vec::new(alloc),
+            flown: Vec::new(alloc),
+            by_activity: Groups::new(alloc),
+            shares: Vec::new(alloc),
+        }
+    }
+
+    /// Takes the light routes of a pool under duals, for so many aircraft. The temperature is in thousandths of a cost unit.
+    pub fn take(
+        &mut self,
+        pool: &Pool,
+        duals: &[i64],
+        aircraft: usize,
+        temperature: i64,
+        powers: &Powers,
+    ) -> Result<(), Memory> {
+        self.temperature = temperature.max(1);
+        self.weigh_all(pool, duals)?;
+        self.by_aircraft.set(self.owned.as_slice(), aircraft)?;
+        self.mixed.clear();
+        self.owners.clear();
+        self.flown.clear();
+        for k in 0..aircraft {
+            self.choose(pool, k)?;
+            self.rebase(powers, k);
+        }
+        self.by_activity.set(self.flown.as_slice(), duals.len())
+    }
+
+    // Weighs each route of the pool.
+    fn weigh_all(&mut self, pool: &Pool, duals: &[i64]) -> Result<(), Memory> {
+        self.weights.clear();
+        self.owned.clear();
+        for i in 0..pool.count() {
+            self.weights
+                .push(weigh(pool.cost(i), pool.route(i), duals))?;
+            self.owned.push(Member {
+                group: pool.aircraft(i),
+                thing: (i % (1 << 32)) as u32,
+            })?;
+        }
+        Ok(())
+    }
+
+    // The least weight of an aircraft's routes.
+    fn least(&self, k: usize) -> i64 {
+        let mut least = i64::MAX;
+        for i in self.by_aircraft.of(k) {
+            least = least.min(self.weights.get(*i as usize).copied().unwrap_or(i64::MAX));
+        }
+        least
+    }
+
+    // Chooses the routes of an aircraft that take part.
+    fn choose(&mut self, pool: &Pool, k: usize) -> Result<(), Memory> {
+        let first = self.mixed.len();
+        let reach = self
+            .least(k)
+            .saturating_add(self.temperature.saturating_mul(REACH));
+        for i in self.by_aircraft.of(k) {
+            let i = *i as usize;
+            let weight = self.weights.get(i).copied().unwrap_or(i64::MAX);
+            if weight <= reach && i < pool.count() {
+                mix(
+                    &mut self.mixed,
+                    &mut self.flown,
+                    pool.aircraft(i),
+                    weight,
+                    pool.route(i),
+                )?;
+            }
+        }
+        self.owners.push(Owner {
+            first,
+            end: self.mixed.len(),
+            base: 0,
+            sum: 0,
+        })?;
+        Ok(())
+    }
+
+    /// The sum of duals, and of the least weight of each aircraft that has a route in the pool, in thousandths.
+    pub fn sum_over(
+        &mut self,
+        pool: &Pool,
+        duals: &[i64],
+        aircraft: usize,
+    ) -> Result<i128, Memory> {
+        self.weigh_all(pool, duals)?;
+        self.by_aircraft.set(self.owned.as_slice(), aircraft)?;
+        let mut sum = 0i128;
+        for dual in duals {
+            sum = sum.saturating_add(*dual as i128);
+        }
+        for k in 0..aircraft {
+            if !self.by_aircraft.of(k).is_empty() {
+                sum = sum.saturating_add(self.least(k) as i128);
+            }
+        }
+        Ok(sum)
+    }
+
+    // Measures an aircraft's masses from its least weight.
+    fn rebase(&mut self, powers: &Powers, k: usize) {
+        if let Some(owner) = self.owners.get_mut(k) {
+            let (first, end) = (owner.first, owner.end);
+            if first <= end && end <= self.mixed.len() {
+                rebase(owner, &mut self.mixed[first..end], powers, self.temperature);
+            }
+        }
+    }
+
+    /// By how much the dual of an activity is to rise, in thousandths of a cost unit, so that it is asked for once.
+    pub fn rise(&mut self, powers: &Powers, a: usize) -> Result<i64, Memory> {
+        self.share_out(a)?;
+        let stride = self.temperature.saturating_mul(STRIDE);
+        if self.shares.is_empty() {
+            return Ok(self.first_rise(a));
+        }
+        let exponent = rise(powers, self.shares.as_slice());
+        let rise = exponent.saturating_mul(self.temperature) / OCTAVE;
+        Ok((rise.saturating_mul(RELAXED) / 16).clamp(-stride.max(0), stride.max(0)))
+    }
+
+    // The share of each aircraft's mixture that has an activity, where there is one.
+    fn share_out(&mut self, a: usize) -> Result<(), Memory> {
+        self.shares.clear();
+        let (mut owner, mut mass) = (0u32, 0u64);
+        for place in self.by_activity.of(a) {
+            if let Some(route) = self.mixed.get(*place as usize) {
+                if route.owner != owner {
+                    share(&mut self.shares, self.owners.as_slice(), owner, mass)?;
+                    (owner, mass) = (route.owner, 0);
+                }
+                mass = mass.saturating_add(route.mass);
+            }
+        }
+        share(&mut self.shares, self.owners.as_slice(), owner, mass)
+    }
+
+    // By how much a dual rises where no route with the activity has a mass: to the lightest of them, if there is one.
+    fn first_rise(&self, a: usize) -> i64 {
+        let mut least = self.temperature.saturating_mul(STRIDE);
+        let mut found = false;
+        for place in self.by_activity.of(a) {
+            if let Some(route) = self.mixed.get(*place as usize) {
+                let above = route.weight.saturating_sub(self.base(route.owner));
+                least = if found { least.min(above) } else { above };
+                found = true;
+            }
+        }
+        least.max(self.temperature)
+    }
+
+    // The base of an aircraft.
+    fn base(&self, k: u32) -> i64 {
+        self.owners.get(k as usize).map_or(0, |owner| owner.base)
+    }
+
+    /// Lets the dual of an activity rise: the weights of its routes fall, and their masses follow.
+    pub fn shift(&mut self, powers: &Powers, a: usize, rise: i64) {
+        let temperature = self.temperature;
+        for place in self.by_activity.of(a) {
+            if let Some(route) = self.mixed.get_mut(*place as usize) {
+                route.weight = route.weight.saturating_sub(rise);
+                if let Some(owner) = self.owners.get_mut(route.owner as usize) {
+                    let mass = mass(powers, temperature, owner.base, route.weight);
+                    owner.sum = owner.sum.saturating_sub(route.mass).saturating_add(mass);
+                    route.mass = mass;
+                }
+            }
+        }
+        self.rebase_far(powers, a);
+    }
+
+    // Measures the masses anew of aircraft whose base is too far from their routes.
+    fn rebase_far(&mut self, powers: &Powers, a: usize) {
+        for q in 0..self.by_activity.of(a).len() {
+            let place = self.by_activity.of(a).get(q).copied().unwrap_or(0) as usize;
+            if let Some(route) = self.mixed.get(place).copied() {
+                if self.is_far(route) {
+                    self.rebase(powers, route.owner as usize);
+                }
+            }
+        }
+    }
+
+    // Whether a route is far below its aircraft's base, or the sum of masses too faint.
+    fn is_far(&self, route: Mixed) -> bool {
+        let depth = self.temperature.saturating_mul(DEPTH);
+        self.owners.get(route.owner as usize).is_some_and(|owner| {
+            owner.sum < FAINT || route.weight < owner.base.saturating_sub(depth)
+        })
+    }
+}
+
+// Adds a route to those that take part.
+fn mix(
+    mixed: &mut Vec<Mixed>,
+    flown: &mut Vec<Member>,
+    owner: u32,
+    weight: i64,
+    route: &[u32],
+) -> Result<(), Memory> {
+    let thing = (mixed.len() % (1 << 32)) as u32;
+    mixed.push(Mixed {
+        owner,
+        weight,
+        mass: 0,
+    })?;
+    for a in route {
+        flown.push(Member { group: *a, thing })?;
+    }
+    Ok(())
+}
+
+// The mass of a weight above a base.
+fn mass(powers: &Powers, temperature: i64, base: i64, weight: i64) -> u64 {
+    let below = base.saturating_sub(weight).saturating_mul(OCTAVE);
+    powers.power(below / temperature.max(1))
+}
+
+// Measures the masses of an aircraft's routes from the least of their weights.
+fn rebase(owner: &mut Owner, routes: &mut [Mixed], powers: &Powers, temperature: i64) {
+    owner.base = i64::MAX;
+    for route in routes.iter() {
+        owner.base = owner.base.min(route.weight);
+    }
+    owner.sum = 0;
+    for route in routes.iter_mut() {
+        route.mass = mass(powers, temperature, owner.base, route.weight);
+        owner.sum = owner.sum.saturating_add(route.mass);
+    }
+}
+
+// Adds the share that a mass is of an aircraft's mixture.
+fn share(shares: &mut Vec<Share>, owners: &[Owner], owner: u32, mass: u64) -> Result<(), Memory> {
+    if mass > 0 {
+        let all = owners.get(owner as usize).map_or(0, |owner| owner.sum);
+        shares.push(Share {
+            part: part_of(mass, all),
+        })?;
+    }
+    Ok(())
+}

@@ -1,0 +1,104 @@
+//! The routes that may stand in a plan cheaper than the best known one, lightest first.
+//!
+//! A plan's cost in thousandths is the Lagrangian sum over the pool and what its routes weigh above the least ones. So a
+//! route takes part only where that alone stays within the room between the sum and the cost to undercut.
+
+use restricted_master::Pool;
+use std::alloc::Global;
+use tail_book::{COST_UNIT, Memory};
+
+// No more routes than this take part.
+const MOST: usize = 3000;
+
+/// A route of the pool: its number, its aircraft, and what it weighs above the least weight of that aircraft.
+#[derive(Clone, Copy, Debug)]
+pub struct Candidate {
+    pub number: usize,
+    pub owner: u32,
+    pub excess: i64,
+}
+
+/// The routes that take part, the lightest first, and how much all routes of a plan may weigh above the least ones.
+#[derive(Debug, Drop)]
+pub struct Candidates {
+    pub routes: Vec<Candidate>,
+    pub room: i64,
+}
+
+// What a route costs less the duals of its activities, in thousandths of a cost unit.
+fn weigh(cost: u64, route: &[u32], duals: &[i64]) -> i64 {
+    let mut weight = (cost.min(1 << 52) * COST_UNIT) as i64;
+    for a in route {
+        weight = weight.saturating_sub(duals.get(*a as usize).copied().unwrap_or(0));
+    }
+    weight
+}
+
+// The weight of each route.
+fn weights_of(alloc: Global, pool: &Pool, duals: &[i64]) -> Result<Vec<i64>, Memory> {
+    let mut weights = Vec::with_capacity(alloc, pool.count())?;
+    for i in 0..pool.count() {
+        weights.push(weigh(pool.cost(i), pool.route(i), duals))?;
+    }
+    Ok(weights)
+}
+
+// The least weight of each of so many aircraft.
+fn least_of(
+    alloc: Global,
+    pool: &Pool,
+    weights: &[i64],
+    aircraft: usize,
+) -> Result<Vec<i64>, Memory> {
+    let mut least = vec![in alloc; i64::MAX; aircraft]?;
+    for i in 0..weights.len().min(pool.count()) {
+        if let Some(low) = least.get_mut(pool.aircraft(i) as usize) {
+            *low = weights[i].min(*low);
+        }
+    }
+    Ok(least)
+}
+
+// How much lighter than the cost to undercut the sum of duals and least weights is, for plans a unit cheaper.
+fn room_below(duals: &[i64], least: &[i64], target: u64) -> i64 {
+    let most = (target.saturating_sub(1)).min(1 << 52) * COST_UNIT;
+    let mut room = i128::from(most);
+    for value in duals {
+        room = room.saturating_sub(i128::from(*value));
+    }
+    for value in least {
+        room = room.saturating_sub(i128::from(*value));
+    }
+    room.clamp(-1, 1 << 60) as i64
+}
+
+impl Candidates {
+    /// Those of a pool under duals, for plans that undercut a cost in cost units.
+    pub fn of(
+        alloc: Global,
+        pool: &Pool,
+        duals: &[i64],
+        aircraft: usize,
+        target: u64,
+    ) -> Result<Candidates, Memory> {
+        let weights = weights_of(alloc, pool, duals)?;
+        let least = least_of(alloc, pool, &weights, aircraft)?;
+        let room = room_below(duals, &least, target);
+        let mut routes = Vec::new(alloc);
+        for i in 0..weights.len().min(pool.count()) {
+            let owner = pool.aircraft(i);
+            let low = least.get(owner as usize).copied().unwrap_or(i64::MAX);
+            let excess = weights[i].saturating_sub(low);
+            if excess <= room {
+                routes.push(Candidate {
+                    number: i,
+                    owner,
+                    excess,
+                })?;
+            }
+        }
+        routes.sort_by_key(|route| route.excess)?;
+        routes.truncate(MOST);
+        Ok(Candidates { routes, room })
+    }
+}

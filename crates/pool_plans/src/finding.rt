@@ -1,0 +1,67 @@
+//! Plans from a pool, judged before they are told.
+
+ghost use Rattle.std.specs.Prelude.{◌≡◌, Some, IfOk, IfSome};
+ghost use Rattle.tail_book.specs.inside.CostTable.{IsTableFor};
+ghost use Rattle.tail_book.specs.inside.Truth.{IsPlanIn};
+
+use crate::candidates::Candidates;
+use crate::partition::Partition;
+use plan_audit::audit_plan;
+use restricted_master::Pool;
+use std::alloc::Global;
+use tail_book::{Book, CostTable, Duals, Memory, Plan, Route};
+
+/// A legal plan and its cost, in cost units.
+#[derive(Debug, Drop)]
+pub struct Found {
+    pub plan: Plan,
+    pub cost: u64,
+}
+
+// The plan in which each aircraft flies its route among these; without one it flies nothing.
+fn plan_of(alloc: Global, pool: &Pool, numbers: &[usize], aircraft: usize) -> Result<Plan, Memory> {
+    let mut routes = Vec::with_capacity(alloc, aircraft)?;
+    for k in 0..aircraft {
+        let mut activities = Vec::new(alloc);
+        for i in numbers {
+            if *i < pool.count() && pool.aircraft(*i) as usize == k {
+                activities = Vec::from_slice(alloc, pool.route(*i))?;
+            }
+        }
+        routes.push(Route(activities))?;
+    }
+    Ok(Plan(routes))
+}
+
+/// Looks among the routes of a pool for a plan that undercuts a cost, for so many turns. The duals say which routes are
+/// light. What it finds is legal and has the cost that it says; that there is nothing to find is not promised.
+pub fn find_plan(
+    alloc: Global,
+    book: &Book,
+    table: &CostTable,
+    pool: &Pool,
+    duals: &Duals,
+    target: u64,
+    turns: u64,
+) -> Result<Option<Found>, Memory>
+    requires table { IsTableFor book.now table.now }
+    ensures { IfOk result (λ found. IfSome found (λ plan. IsPlanIn table.now book.now plan.cost plan.plan)) }
+{
+    let (n, m) = (book.activities.len(), book.tails.len());
+    let candidates = Candidates::of(alloc, pool, &duals.values, m, target)?;
+    let mut partition = Partition::new(alloc, pool, candidates, n, m)?;
+    let Some(numbers) = partition.search(alloc, turns)? else {
+        return Ok(None);
+    };
+    let plan = plan_of(alloc, pool, &numbers, m)?;
+    judge(alloc, book, table, plan)
+}
+
+// The plan with its cost, where it is legal.
+fn judge(alloc: Global, book: &Book, table: &CostTable, plan: Plan) -> Result<Option<Found>, Memory>
+    requires table { IsTableFor book.now table.now }
+    ensures { IfOk result (λ found. IfSome found (λ plan. IsPlanIn table.now book.now plan.cost plan.plan)) }
+{
+    let cost = audit_plan(alloc, book, table, &plan)?;
+    Ok(cost.map(|cost| Found { plan, cost }))
+}

@@ -1,0 +1,14 @@
+mod Small
+mod Prices
+mod LeastPrices
+mod Listing
+mod Members
+mod LeastBelow
+mod PoolLeast
+mod Chosen
+mod Shifted
+mod PoolSums
+mod Climbing
+mod FlatPool
+mod Compaction
+mod KeptPool

@@ -1,0 +1,10 @@
+//! What adding a route to a pool comes to.
+
+/// What adding a route comes to.
+#[derive(Clone, Copy, PartialEq, Eq, Debug)]
+pub enum PoolAdd {
+    /// It is new, and has this number.
+    New(usize),
+    /// It is the route of this number already.
+    There(usize),
+}
