@@ -1,0 +1,163 @@
+-- The pair that least routes choose. What comes directly after what in a route is read off its places. A link of a route that
+-- fits is usable, so it is not cut; and where it isn't tied, it is undecided.
+use Rattle.std.proofs.Common.{◌≡◌, ◌∙◌, ℕ, ℤ, zero, suc, ◌+◌, ◌<◌, ◌≤◌, inl, inr, Bool, true, false, arith, List, [], ◌∷◌, length, refl, sym, subst}
+use Rattle.std.proofs.lemmas.Bool.{eqb-true, eq-eqb, or_cases, or_left, or_right, and_parts, both_ways, cases_order}
+use Rattle.std.specs.Cmp.Derive.{both_true}
+use Rattle.std.specs.Option.{is_none}
+use Rattle.std.proofs.lemmas.List.Elements.{All-contains}
+use Rattle.std.specs.Prelude.{nat_eq, ◌&&◌, ◌↔◌, IfSome, IfNone, IsTrue, All, Contains, Option, Some, None, slice_index_or}
+use Rattle.tail_book.specs.Seen.{BookSeen}
+use Rattle.tail_book.specs.inside.Seen.{CostTableSeen}
+use Rattle.tail_book.specs.declared.place.Place.{Place}
+use Rattle.tail_book.specs.declared.place.Place.TheVariants.{Carry, After}
+use Rattle.tail_book.specs.Lookup.{activities, aircraft}
+use Rattle.tail_book.specs.Numbers.{contains}
+use Rattle.tail_book.specs.Plan.{times_flown, route_of, IsLegalPlan}
+use Rattle.tail_book.specs.declared.flown.Flown.TheVariants.{Once}
+use Rattle.tail_book.specs.inside.CostTable.{cost_unit, plan_cost_in}
+use Rattle.tail_book.specs.inside.Flown.{FlownIsCount, FlownOnceIsInOneRoute, IsInOneRoute}
+use Rattle.tail_book.specs.inside.Rising.{IsRisingFrom}
+use Rattle.branch_marks.specs.declared.fact.Fact.{Fact}
+use Rattle.branch_marks.specs.declared.fact.Fact.TheVariants.{Cut}
+use Rattle.branch_marks.specs.declared.fact.Pair.{Pair}
+use Rattle.branch_marks.specs.declared.fact.Pair.TheVariants.{Fly, Link}
+use Rattle.branch_marks.specs.Bound.{AreLeastWeights, value_of, lagrangian, bound_of}
+use Rattle.branch_marks.specs.Branches.{IsUndecided}
+use Rattle.branch_marks.specs.Facts.{begins, directly}
+use Rattle.branch_marks.specs.Marks.{LetsGo, IsUsable, FitsFrom, Fits}
+use Rattle.branch_marks.specs.Settled.{AreRoutesOfWeights, RoutesOfWeightsArePlan}
+use Rattle.branch_marks.specs.Weights.{weight, WeighsAtLeast}
+use Rattle.dive_heuristic.specs.Choice.{IsCarrierOf}
+use Rattle.dive_heuristic.specs.LeastRoutes.{AreLeastRoutes, IsInOne, IsEachInOne}
+use Rattle.branch_tree.specs.Choice.{IsPairAt}
+use Rattle.branch_tree.specs.Target.{Passes}
+use Rattle.branch_tree.specs.inside.Choosing.{IsHolderFrom, HasNoHolderFrom, InOne}
+use Rattle.branch_tree.specs.inside.Weighing.{IsUsedPlan}
+
+-- the activity behind a place of a route comes directly after the one at it
+pub directly_at : (route : List ℕ) (i : ℕ) → suc i < length route → directly route (slice_index_or route i 0) (slice_index_or route (suc i) 0) ≡ true
+directly_at [] i lt = absurd (omega (arith, lt))
+directly_at (x ∷ []) i lt = absurd (omega (arith, lt))
+directly_at (x ∷ y ∷ rest) zero lt = or_left (nat_eq x x && nat_eq y y) (directly (y ∷ rest) x y) (both_true (eq-eqb x x refl) (eq-eqb y y refl))
+directly_at (x ∷ y ∷ rest) (suc i) lt =
+    or_right (nat_eq (slice_index_or (y ∷ rest) i 0) x && nat_eq (slice_index_or (y ∷ rest) (suc i) 0) y)
+    (directly (y ∷ rest) (slice_index_or (y ∷ rest) i 0) (slice_index_or (y ∷ rest) (suc i) 0)) (directly_at (y ∷ rest) i (omega (arith, lt)))
+
+-- and where one comes directly after another, it is so at some place
+pub directly_where : (route : List ℕ) (x a : ℕ) → directly route x a ≡ true
+    → (i : ℕ) × (suc i < length route) × (slice_index_or route i 0 ≡ x) × (slice_index_or route (suc i) 0 ≡ a)
+directly_where [] x a h = absurd (both_ways false refl h)
+directly_where (first ∷ []) x a h = elim (or_cases (nat_eq x first && false) false h) [
+  | inl here ↦ absurd (both_ways false refl (and_parts (nat_eq x first) false here).1)
+  | inr there ↦ absurd (both_ways false refl there)
+]
+directly_where (first ∷ second ∷ rest) x a h = elim (or_cases (nat_eq x first && nat_eq a second) (directly (second ∷ rest) x a) h) [
+  | inl here ↦ (let parts = and_parts (nat_eq x first) (nat_eq a second) here in
+      (0, omega arith, sym (eqb-true x first parts.0), sym (eqb-true a second parts.1)))
+  | inr there ↦ (let (i, lt, at, then) = directly_where (second ∷ rest) x a there in (suc i, omega (arith, lt), at, then))
+]
+
+module _ (book : BookSeen) (marks : List Fact) (k : ℕ) where
+  -- a link of a route that fits is usable
+  pub usable_along : (y : Place) (route : List ℕ) (x a : ℕ) → FitsFrom book marks k y route → directly route x a ≡ true → IsUsable book marks k (After x) a
+  usable_along y [] x a fits h = absurd (both_ways false refl h)
+  usable_along y (first ∷ []) x a fits h = elim (or_cases (nat_eq x first && false) false h) [
+    | inl here ↦ absurd (both_ways false refl (and_parts (nat_eq x first) false here).1)
+    | inr there ↦ absurd (both_ways false refl there)
+  ]
+  usable_along y (first ∷ second ∷ rest) x a fits h = elim (or_cases (nat_eq x first && nat_eq a second) (directly (second ∷ rest) x a) h) [
+    | inl here ↦ (let parts = and_parts (nat_eq x first) (nat_eq a second) here in
+        subst (λ (z : ℕ). IsUsable book marks k (After z) a) (sym (eqb-true x first parts.0))
+        (subst (λ (z : ℕ). IsUsable book marks k (After first) z) (sym (eqb-true a second parts.1)) fits.1.0))
+    | inr there ↦ usable_along (After first) (second ∷ rest) x a fits.1 there
+  ]
+
+  -- what is usable is not cut
+  not_cut : (x a : ℕ) → IsUsable book marks k (After x) a → ¬ Contains marks (Cut x a)
+  not_cut x a usable cut = All-contains (LetsGo k (After x) a) marks (Cut x a) usable.facts cut refl refl
+
+  -- the pair at an activity of a route that fits is undecided where the aircraft's own is
+  pub pair_undecided : (route : List ℕ) (a : ℕ) → k < aircraft book → Fits book marks k route → IsUndecided book marks (Fly k a) → (pair : Pair)
+      → IsPairAt marks route k a pair → IsUndecided book marks pair
+  pair_undecided route a lt fits flies (Fly j b) is =
+      subst (λ (i : ℕ). IsUndecided book marks (Fly i b)) (sym is.0) (subst (λ (c : ℕ). IsUndecided book marks (Fly k c)) (sym is.1) flies)
+  pair_undecided route a lt fits flies (Link x b) is =
+      subst (λ (c : ℕ). IsUndecided book marks (Link x c)) (sym is.0)
+      (let usable = usable_along Carry route x a fits is.1 in ((k, lt, usable), not_cut x a usable, is.2))
+
+-- routes that have the least weights are least routes
+pub least_routes : (table : CostTableSeen) (book : BookSeen) (marks : List Fact) (duals values : List ℤ) (routes : List (List ℕ))
+    → AreLeastWeights table book marks duals values → AreRoutesOfWeights table book marks duals values routes → AreLeastRoutes table book marks duals routes
+least_routes table book marks duals values routes least are = record {
+  one_each = are.one_each;
+  each = λ k lt.
+      let each = are.each k lt in
+      record {
+        legal = each.legal;
+        fits = each.fits;
+        least = subst (λ (low : ℤ). WeighsAtLeast table book marks k duals low) (sym each.weighs) (least.each k lt).least;
+      };
+}
+
+-- who is to fly something is of the book
+pub carrier_of_book : (book : BookSeen) (marks : List Fact) (routes : List (List ℕ)) (a k : ℕ) → IsCarrierOf book marks routes a k → k < aircraft book
+carrier_of_book book marks routes a k (inl least) = least.of_book
+carrier_of_book book marks routes a k (inr least) = least.1.of_book
+
+-- where the routes are a plan that the target is at most the cost of, their bound reaches it
+pub plan_passes : RoutesOfWeightsArePlan → (table : CostTableSeen) (book : BookSeen) (marks : List Fact) (duals values : List ℤ) (routes : List (List ℕ))
+    (target : ℕ) → length duals ≡ activities book → AreRoutesOfWeights table book marks duals values routes → IsEachInOne book routes
+    → IsUsedPlan table book target routes → Passes (bound_of (lagrangian duals values)) target
+plan_passes law table book marks duals values routes target count are each used =
+    let plan = law table book marks duals values routes count are each in
+    let below : target ≤ plan_cost_in table book routes = used plan.0 in
+    subst (λ (z : ℤ). Passes (bound_of z) target) plan.1 (omega (arith, below))
+
+module _ (called : FlownIsCount) (one : FlownOnceIsInOneRoute) (n : ℕ) (routes : List (List ℕ)) (rising : All (IsRisingFrom n Carry) routes) (a : ℕ) where
+  from_places : IsInOneRoute routes a → IsInOne routes a
+  from_places places = (called (times_flown routes a) Once).0 ((one n routes rising a).1 places)
+
+  to_places : IsInOne routes a → IsInOneRoute routes a
+  to_places is = (one n routes rising a).0 ((called (times_flown routes a) Once).1 is)
+
+  -- no route has it
+  pub none_in_one : HasNoHolderFrom routes a 0 → InOne routes a false
+  none_in_one none = (
+    λ h. absurd (both_ways false refl h),
+    λ is. (let (k, lt, has, alone) = to_places is in absurd (both_ways (contains (route_of routes k) a) (none k (omega arith)) has)),
+  )
+
+  -- the first that has it is the only one, or there is another behind it
+  pub first_in_one : (book : BookSeen) → length routes ≡ aircraft book → (k : ℕ) → IsHolderFrom book routes a 0 k → (next : Option ℕ)
+      → IfSome next (IsHolderFrom book routes a (k + 1)) → IfNone next (HasNoHolderFrom routes a (k + 1)) → InOne routes a (is_none next)
+  first_in_one book count k first (Some j) second none = (
+    λ h. absurd (both_ways false refl h),
+    λ is. (let (i, lt, has, alone) = to_places is in
+        let same = alone k first.here in let other = alone j second.here in let behind = second.least in
+        absurd (omega (arith, same, other, behind))),
+  )
+  first_in_one book count k first None second none = (
+    λ is. from_places (
+      k,
+      omega (arith, first.of_book, count),
+      first.here,
+      λ j has. elim (cases_order j k) [
+        | inl same ↦ same
+        | inr o ↦ elim o [
+          | inl below ↦ absurd (both_ways (contains (route_of routes j) a) (first.before j (omega arith) below) has)
+          | inr above ↦ absurd (both_ways (contains (route_of routes j) a) (none j (omega (arith, above))) has)
+        ]
+      ],
+    ),
+    λ is. refl,
+  )
+
+-- a number below k + 1 is k or below k
+pub at_or_below : (P : ℕ → Type 0) (k : ℕ) → P k → ((j : ℕ) → j < k → P j) → (j : ℕ) → j < k + 1 → P j
+at_or_below P k here below j lt = elim (cases_order j k) [
+  | inl same ↦ subst P (sym same) here
+  | inr o ↦ elim o [
+    | inl less ↦ below j less
+    | inr more ↦ absurd (omega (arith, lt, more))
+  ]
+]

@@ -1,0 +1,46 @@
+-- What a search asks of the nodes that it counts.
+use Rattle.std.specs.Prelude.{ℕ, ℤ, ⊤, List, map}
+use Rattle.tail_book.specs.Seen.{BookSeen}
+use Rattle.tail_book.specs.inside.Seen.{CostTableSeen}
+use Rattle.branch_marks.specs.declared.fact.Fact.{Fact}
+use Rattle.branch_marks.specs.declared.fact.Pair.{Pair}
+use Rattle.branch_marks.specs.Bound.{lagrangian, bound_of, AreLeastWeights}
+use Rattle.branch_marks.specs.Following.{IsShut}
+use Rattle.branch_marks.specs.ProofTree.{Cover}
+use Rattle.branch_marks.specs.Settled.{IsSettled, AreRoutesOfWeights}
+use Rattle.branch_tree.specs.Choice.{IsChosenPair}
+use Rattle.dive_heuristic.specs.declared.answer.Dive.{Dive}
+use Rattle.dive_heuristic.specs.Dive.{IsDiveOf}
+use Rattle.branch_tree.specs.Place.{Open}
+use Rattle.branch_tree.specs.Node.{Ending, Hole, Stuck, Bounded, Split, Node, closed_marks, IsShownNode}
+use Rattle.branch_tree.specs.Target.{IsTarget, Passes, bound_under, HasUsed}
+
+-- a node is split only under settled duals, with routes out of the pool counted too, and where their bound still lies below
+-- the target; on the pair that routes of least weight choose, and after a dive from its marks under its duals, whose plan counts
+pub record IsSplitOf (table : CostTableSeen) (book : BookSeen) (marks : List Fact) (target : ℕ) (pair : Pair) (duals : List ℤ) (routes : List (List ℕ)) (dive : Dive) : Type 0 where
+  pub settled : IsSettled table book marks duals
+  pub values : List ℤ
+  pub least : AreLeastWeights table book marks duals values
+  pub attained : AreRoutesOfWeights table book marks duals values routes
+  pub below : ¬ Passes (bound_of (lagrangian duals values)) target
+  pub chosen : IsChosenPair book marks routes pair
+  pub dived : IsDiveOf table book marks duals dive
+  pub used : HasUsed target dive
+
+-- the values of the covers are the least weights
+abbrev pub HasLeastValues : CostTableSeen → BookSeen → List Fact → List ℤ → List Cover → Type 0
+HasLeastValues table book marks duals covers = AreLeastWeights table book marks duals (map (λ cover. cover.value) covers)
+
+-- what is asked of an end beyond that it is shown: a bound reaches the target
+abbrev pub IsEndOf : CostTableSeen → BookSeen → List Fact → ℕ → Ending → Type 0
+IsEndOf table book marks target (Hole a) = ⊤
+IsEndOf table book marks target (Stuck k family) = ⊤
+IsEndOf table book marks target (Bounded duals covers) = HasLeastValues table book marks duals covers × Passes (bound_under duals covers) target
+IsEndOf table book marks target (Split pair duals routes dive) = IsSplitOf table book marks target pair duals routes dive
+
+-- a counted node: nothing more follows from its marks, and its end is right for the target with which the node was left
+pub record IsCounted (table : CostTableSeen) (book : BookSeen) (here : Open) (node : Node) : Type 0 where
+  pub shown : IsShownNode table book here node
+  pub shut : IsShut book (closed_marks here node)
+  pub target : IsTarget table book node.target
+  pub ending : IsEndOf table book (closed_marks here node) node.target node.ending

@@ -1,0 +1,49 @@
+-- The laws of search trees.
+use Rattle.std.specs.Prelude.{◌≡◌, ◌+◌, ℕ, List, [], ◌∷◌, All}
+use Rattle.tail_book.specs.Seen.{BookSeen}
+use Rattle.tail_book.specs.inside.Seen.{CostTableSeen}
+use Rattle.tail_book.specs.inside.CostTable.{IsCostTable, IsTableFor}
+use Rattle.tail_book.specs.inside.Sound.{IsBook}
+use Rattle.tail_book.specs.inside.Truth.{IsTrueOutcomeIn}
+use Rattle.tail_book.specs.declared.outcome.Outcome.{Outcome}
+use Rattle.tail_book.specs.declared.outcome.Outcome.TheVariants.{Optimal, Infeasible, Between, Above}
+use Rattle.branch_marks.specs.ProofTree.{Tree, IsShown, BoundsAtLeast}
+use Rattle.branch_tree.specs.declared.limit.Limit.{Limit}
+use Rattle.branch_tree.specs.Place.{root}
+use Rattle.branch_tree.specs.Node.{Node, IsShownNode, Bounds}
+use Rattle.branch_tree.specs.Growth.{Grows}
+use Rattle.branch_tree.specs.NodeEvents.{events_of, tree_events}
+use Rattle.branch_tree.specs.Target.{no_target, HasUsedDive}
+use Rattle.branch_tree.specs.SearchTree.{SearchTree, nodes_of, IsSearchTree}
+
+-- the bound that an outcome claims of every legal plan; where it claims that there is none, one more than any costs
+abbrev pub claimed : CostTableSeen → Outcome → ℕ
+claimed table (Optimal plan cost) = cost
+claimed table Infeasible = no_target table
+claimed table (Between plan low high nodes) = low
+claimed table (Above low nodes) = low
+
+-- what a search tree ends with is true
+abbrev pub SearchTreesAreTrue : Type 0
+SearchTreesAreTrue = (table : CostTableSeen) (book : BookSeen) → IsBook book → IsCostTable table → IsTableFor book table
+    → (limit : Limit) (outcome : Outcome) (tree : SearchTree) → IsSearchTree table book limit outcome tree → IsTrueOutcomeIn table book outcome
+
+-- its nodes are shown, and leave no place open
+abbrev pub SearchTreesAreShown : Type 0
+SearchTreesAreShown = (table : CostTableSeen) (book : BookSeen) (limit : Limit) (outcome : Outcome) (tree : SearchTree)
+    → IsSearchTree table book limit outcome tree → Grows (IsShownNode table book) (root book ∷ []) (nodes_of tree) []
+
+-- and their bounds reach what the outcome claims
+abbrev pub SearchTreesAreBounded : Type 0
+SearchTreesAreBounded = (table : CostTableSeen) (book : BookSeen) (limit : Limit) (outcome : Outcome) (tree : SearchTree)
+    → IsSearchTree table book limit outcome tree → Grows (Bounds table book (claimed table outcome)) (root book ∷ []) (nodes_of tree) []
+
+-- the final target is at most the cost of each plan with which a dive of a split ended
+abbrev pub DivesAreUsed : Type 0
+DivesAreUsed = (table : CostTableSeen) (book : BookSeen) (limit : Limit) (outcome : Outcome) (tree : SearchTree)
+    → (is : IsSearchTree table book limit outcome tree) → All (λ (node : Node). HasUsedDive is.final node.ending) tree.counted
+
+-- shown nodes that lead from the root to no open place are a shown proof tree, with the same bounds and the same events
+abbrev pub ShownNodesAreTrees : Type 0
+ShownNodesAreTrees = (table : CostTableSeen) (book : BookSeen) (low : ℕ) (nodes : List Node) → Grows (Bounds table book low) (root book ∷ []) nodes []
+    → (tree : Tree) × IsShown table book [] tree × BoundsAtLeast low tree × (tree_events tree ≡ events_of nodes)

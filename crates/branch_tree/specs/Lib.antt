@@ -1,0 +1,14 @@
+pub mod Place
+pub mod Choice
+pub mod Node
+pub mod Growth
+pub mod Begun
+pub mod NodeEvents
+pub mod Target
+pub mod Counted
+pub mod Closing
+pub mod SearchTree
+pub mod Stops
+pub mod Step
+pub mod Laws
+pub mod inside

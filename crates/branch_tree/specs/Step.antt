@@ -1,0 +1,66 @@
+-- What a step on a node answers: what is true of each answer, and the node that the step visits.
+use Rattle.std.specs.Prelude.{◌≡◌, ℕ, ℤ, ◌<◌, List, All}
+use Rattle.tail_book.specs.Seen.{BookSeen}
+use Rattle.tail_book.specs.inside.Seen.{CostTableSeen}
+use Rattle.tail_book.specs.Lookup.{aircraft}
+use Rattle.tail_book.specs.Route.{IsLegalRoute}
+use Rattle.branch_marks.specs.declared.fact.Fact.{Fact}
+use Rattle.branch_marks.specs.declared.fact.Pair.{Pair}
+use Rattle.branch_marks.specs.Bound.{bound_of}
+use Rattle.branch_marks.specs.Branches.{IsUndecided}
+use Rattle.branch_marks.specs.DeadEnds.{IsHole, IsStuck}
+use Rattle.branch_marks.specs.LogShown.{LogShown}
+use Rattle.branch_marks.specs.Pool.{Pooled}
+use Rattle.branch_marks.specs.Settled.{IsSum}
+use Rattle.branch_marks.specs.TreeLog.{Notes}
+use Rattle.restricted_master.specs.Pool.{IsPoolFor}
+use Rattle.restricted_master.specs.Seen.{PoolSeen}
+use Rattle.dive_heuristic.specs.declared.answer.Dive.{Dive}
+use Rattle.branch_tree.specs.declared.step.Step.{Step}
+use Rattle.branch_tree.specs.declared.step.Step.TheVariants as step
+use Rattle.branch_tree.specs.Counted.{IsCounted, IsSplitOf}
+use Rattle.branch_tree.specs.Node.{Ending, Hole, Stuck, Bounded, Split, Node, closed_marks}
+use Rattle.branch_tree.specs.NodeEvents.{node_events}
+use Rattle.branch_tree.specs.Place.{Open}
+use Rattle.branch_tree.specs.Target.{Passes}
+
+-- a pool of the book, each route of which is legal for its aircraft
+pub record IsLegalPool (table : CostTableSeen) (book : BookSeen) (pool : PoolSeen) : Type 0 where
+  pub of_book : IsPoolFor table book pool
+  pub legal : All (λ (entry : Pooled). IsLegalRoute book entry.aircraft entry.route) pool.entries
+
+-- a split that may be answered: the sum is that of its duals and leaves room below the target, and its pair is undecided
+pub record IsTrueSplit (table : CostTableSeen) (book : BookSeen) (marks : List Fact) (duals : List ℤ) (target : ℕ) (pair : Pair) (bound : ℤ)
+    (routes : List (List ℕ)) (dive : Dive) : Type 0 where
+  pub split : IsSplitOf table book marks target pair duals routes dive
+  pub sum : IsSum table book marks duals bound
+  pub below : ¬ Passes (bound_of bound) target
+  pub undecided : IsUndecided book marks pair
+
+-- what is true of the marks, the duals and the target with which a step ends
+abbrev pub IsTrueStep : CostTableSeen → BookSeen → List Fact → List ℤ → ℕ → Step → Type 0
+IsTrueStep table book marks duals target (step.Hole a) = IsHole book marks a
+IsTrueStep table book marks duals target (step.Stuck k) = (k < aircraft book) × IsStuck book marks k
+IsTrueStep table book marks duals target (step.Bounded sum) = IsSum table book marks duals sum × Passes (bound_of sum) target
+IsTrueStep table book marks duals target (step.Split pair bound routes dive) =
+    IsTrueSplit table book marks duals target pair bound routes.items dive
+
+-- the answer names the end of the node; the duals of a bound and of a split are those that are returned
+abbrev pub AnswersNode : List ℤ → Ending → Step → Type 0
+AnswersNode duals (Hole a) (step.Hole b) = b ≡ a
+AnswersNode duals (Stuck k family) (step.Stuck j) = j ≡ k
+AnswersNode duals (Bounded under covers) (step.Bounded sum) = under ≡ duals
+AnswersNode duals (Split pair under routes dive) (step.Split on bound flown dived) =
+    (on ≡ pair) × (under ≡ duals) × (flown.items ≡ routes) × (dived ≡ dive)
+AnswersNode duals ending answer = ⊥
+
+-- the node that a step visits at a place: it is counted, it ends with these marks and this target, the answer names its end, and
+-- its events are told
+pub record IsVisit (table : CostTableSeen) (book : BookSeen) (here : Open) (marks : List Fact) (duals : List ℤ) (target : ℕ) (old new : LogShown)
+    (answer : Step) : Type 0 where
+  pub node : Node
+  pub counted : IsCounted table book here node
+  pub goal : node.target ≡ target
+  pub closed : marks ≡ closed_marks here node
+  pub answers : AnswersNode duals node.ending answer
+  pub told : Notes old new (node_events node)

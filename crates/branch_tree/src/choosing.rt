@@ -1,0 +1,156 @@
+//! The pair on which a node is split: about the least activity that is not in exactly one of the least routes.
+//!
+//! Such an activity is looked for in the routes themselves, which are as long as the book together: a split is rare beside
+//! the pricings before it.
+
+ghost use Rattle.std.specs.Prelude.{◌≡◌, ◌<◌, All, length, IfSome, IfNone};
+ghost use Rattle.tail_book.specs.Lookup.{activities, aircraft};
+ghost use Rattle.tail_book.specs.Numbers.{contains};
+ghost use Rattle.tail_book.specs.Plan.{route_of};
+ghost use Rattle.tail_book.specs.declared.place.Place.TheVariants.{Carry};
+ghost use Rattle.tail_book.specs.inside.Rising.{IsRisingFrom};
+ghost use Rattle.branch_marks.specs.Branches.{IsUndecided};
+ghost use Rattle.branch_marks.specs.inside.MarkTables.{AreMarksOf};
+ghost use Rattle.dive_heuristic.specs.Choice.{IsCarrierOf, IsChoice};
+ghost use Rattle.dive_heuristic.specs.Dive.{HasNoHole};
+ghost use Rattle.dive_heuristic.specs.LeastRoutes.{AreLeastRoutes, IsEachInOne};
+ghost use Rattle.branch_tree.specs.Choice.{IsChosenPair, IsPairAt};
+ghost use Rattle.branch_tree.specs.inside.Choosing.{IsHolderFrom, HasNoHolderFrom, InOne, IsLeastNotInOne};
+
+use branch_marks::laws::alive_decides;
+use branch_marks::{Fact, Marks, Pair};
+use dive_heuristic::laws::choices_are_undecided;
+use tail_book::laws::{
+    every_book_is_sound, flown_is_count, flown_once_is_in_one_route, legal_routes_rise,
+    rising_routes_are_below,
+};
+use tail_book::{Book, CostTable, Duals, Route};
+
+// Whether a route has an activity.
+fn has(route: &[u32], a: u32) -> bool
+    ensures { result ≡ contains route.now a }
+{
+    for b in route {
+        if a == *b {
+            return true;
+        }
+    }
+    false
+}
+
+// The least aircraft from a number on whose route has an activity.
+fn holder(book: &Book, routes: &[Route], a: u32, from: u32) -> Option<u32>
+    requires { length routes.now ≡ aircraft book.now }
+    ensures some { IfSome result (IsHolderFrom book.now routes.now a from) }
+    ensures none { IfNone result (HasNoHolderFrom routes.now a from) }
+{
+    every_book_is_sound(book);
+    for k in from..book.tails.len() as u32 {
+        let route = &routes[k as usize];
+        if has(&route.0, a) {
+            return Some(k);
+        }
+    }
+    None
+}
+
+// Whether exactly one route has an activity.
+fn is_in_one(book: &Book, routes: &[Route], a: u32) -> bool
+    requires one_each { length routes.now ≡ aircraft book.now }
+    requires rising { All (IsRisingFrom (activities book.now) Carry) routes.now }
+    ensures { InOne routes.now a result }
+{
+    every_book_is_sound(book);
+    flown_is_count();
+    flown_once_is_in_one_route();
+    match holder(book, routes, a, 0) {
+        Some(k) => holder(book, routes, a, k + 1).is_none(),
+        None => false,
+    }
+}
+
+// The least activity that is not in exactly one route.
+fn least_not_in_one(book: &Book, routes: &[Route]) -> Option<u32>
+    requires one_each { length routes.now ≡ aircraft book.now }
+    requires rising { All (IsRisingFrom (activities book.now) Carry) routes.now }
+    ensures { IsLeastNotInOne book.now routes.now result }
+{
+    every_book_is_sound(book);
+    for a in 0..book.activities.len() as u32 {
+        if !is_in_one(book, routes, a) {
+            return Some(a);
+        }
+    }
+    None
+}
+
+// The least aircraft whose route has an activity or, where none has it, the least that it is alive for.
+fn carrier(book: &Book, marks: &Marks, routes: &[Route], a: u32) -> u32
+    requires marks { AreMarksOf book.now marks.now }
+    requires one_each { length routes.now ≡ aircraft book.now }
+    requires activity { a < activities book.now }
+    requires somebody { HasNoHole book.now marks.now.facts }
+    ensures { IsCarrierOf book.now marks.now.facts routes.now a result }
+{
+    alive_decides();
+    if let Some(k) = holder(book, routes, a, 0) {
+        return k;
+    }
+    marks.next_alive(book, a, 0)
+}
+
+// The link into an activity of a route, unless it is tied or there is none, and then that the aircraft flies the activity.
+fn pair_at(book: &Book, marks: &Marks, route: &[u32], k: u32, a: u32) -> Pair
+    requires marks { AreMarksOf book.now marks.now }
+    requires of_book { All (λ b. b < activities book.now) route.now }
+    requires activity { a < activities book.now }
+    ensures { IsPairAt marks.now.facts route.now k a result }
+{
+    marks.facts_are_of_book(book);
+    for i in 1..route.len() {
+        let x = route[i - 1];
+        if route[i] == a && !marks.has(Fact::Tie(x, a)) {
+            return Pair::Link(x, a);
+        }
+    }
+    Pair::Fly(k, a)
+}
+
+// The pair at an activity and at the aircraft that is to fly it.
+fn pair_of(book: &Book, marks: &Marks, routes: &[Route], k: u32, a: u32) -> Pair
+    requires marks { AreMarksOf book.now marks.now }
+    requires one_each { length routes.now ≡ aircraft book.now }
+    requires rising { All (IsRisingFrom (activities book.now) Carry) routes.now }
+    requires aircraft { k < aircraft book.now }
+    requires activity { a < activities book.now }
+    ensures { IsPairAt marks.now.facts (route_of routes.now k) k a result }
+{
+    rising_routes_are_below();
+    let route = &routes[k as usize];
+    pair_at(book, marks, &route.0, k, a)
+}
+
+/// The pair that routes of least weight choose; nothing where each activity is in exactly one of them.
+pub fn chosen_pair(
+    book: &Book,
+    table: &CostTable,
+    marks: &Marks,
+    duals: &Duals,
+    routes: &[Route],
+) -> Option<Pair>
+    requires marks { AreMarksOf book.now marks.now }
+    requires least { AreLeastRoutes table.now book.now marks.now.facts duals.now.values routes.now }
+    requires somebody { HasNoHole book.now marks.now.facts }
+    ensures none { IfNone result (IsEachInOne book.now routes.now) }
+    ensures chosen { IfSome result (IsChosenPair book.now marks.now.facts routes.now) }
+    ensures undecided { IfSome result (IsUndecided book.now marks.now.facts) }
+{
+    every_book_is_sound(book);
+    legal_routes_rise();
+    choices_are_undecided();
+    let Some(a) = least_not_in_one(book, routes) else {
+        return None;
+    };
+    let k = carrier(book, marks, routes, a);
+    Some(pair_of(book, marks, routes, k, a))
+}

@@ -1,0 +1,41 @@
+//! The search tree: its nodes, depth first, with what each of them shows, its open places, and the truth of its outcome.
+#![tactic(auto)]
+
+mod adding;
+mod best;
+mod bounds;
+mod choosing;
+mod covers;
+mod ending;
+mod first_duals;
+pub mod laws;
+mod leaf;
+mod limit;
+mod listing;
+mod node;
+mod node_pricer;
+mod open_nodes;
+mod rounds;
+mod settled;
+mod shutting;
+mod splitting;
+mod step;
+mod stop;
+mod telling;
+mod tools;
+mod weighing;
+
+pub use best::Best;
+pub use bounds::{bound_below, passes};
+pub use leaf::{PricedLeaf, price_leaf};
+pub use limit::Limit;
+pub use node::{node_step, node_step_with};
+pub use node_pricer::{NodePricer, PricedAll};
+pub use open_nodes::{OpenNode, OpenNodes};
+pub use step::Step;
+pub use stop::Stop;
+pub use telling::{note_all, note_one, note_steps};
+pub use tools::NodeTools;
+
+#[cfg(test)]
+mod tests;

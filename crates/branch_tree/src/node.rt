@@ -1,0 +1,219 @@
+//! A step on a node of the search tree: its marks are shut, its end is found, and all of it is told.
+//!
+//! Nothing is told of an end before it is certain. What was told before a stop is a front of a begun tree at the node.
+
+ghost use Rattle.std.specs.Prelude.{◌≡◌, ◌≤◌, [], ◌∷◌, IfOk, OnErr, IsErrOf};
+ghost use Rattle.tail_book.specs.inside.CostTable.{IsTableFor};
+ghost use Rattle.connection_net.specs.Net.{net_of};
+ghost use Rattle.branch_marks.specs.Settled.{AreDuals};
+ghost use Rattle.branch_marks.specs.TreeLog.{IsLater, WriteHasFailed};
+ghost use Rattle.branch_marks.specs.inside.MarkTables.{AreMarksOf};
+ghost use Rattle.dive_heuristic.specs.Dive.{HasNoHole};
+ghost use Rattle.branch_tree.specs.Step.{IsLegalPool, IsTrueStep, IsVisit};
+ghost use Rattle.branch_tree.specs.Stops.{StopsIn};
+ghost use Rattle.branch_tree.specs.Target.{IsBest};
+ghost use Rattle.branch_tree.specs.inside.Leaf.{IsReady};
+ghost use Rattle.branch_tree.specs.inside.Stepping.{AreToolsFor, IsEndFound, IsFittingPool, IsFollowed};
+
+use crate::ending::note_end;
+use crate::first_duals::first_duals;
+use crate::rounds::ascend;
+use crate::settled::settle_node;
+use crate::shutting::{keep_fitting, shut_and_tell};
+use crate::step::End;
+use crate::telling::note_one;
+use crate::{Best, NodeTools, Step, Stop};
+use branch_marks::{Event, Marks, TreeLog};
+use connection_net::Net;
+use dive_heuristic::{Dive, dive};
+use propagator::Closed;
+use restricted_master::Pool;
+use std::alloc::Global;
+use tail_book::laws::every_book_is_sound;
+use tail_book::{Book, CostTable, Duals, Memory};
+
+// First duals at the root, and a dive from there under them, whose plan lowers the target.
+fn begin_root(
+    alloc: Global,
+    book: &Book,
+    table: &CostTable,
+    net: &Net,
+    marks: &Marks,
+    duals: &mut Duals,
+    best: &mut Best,
+    is_root: bool,
+) -> Result<(), Memory>
+    requires table { IsTableFor book.now table.now }
+    requires net { net.now ≡ net_of book.now }
+    requires marks { AreMarksOf book.now marks.now }
+    requires duals { AreDuals table.now book.now duals.old.values }
+    requires best { IsBest table.now book.now best.old.plan best.old.target }
+    ensures duals { AreDuals table.now book.now duals.new.values }
+    ensures best { IsBest table.now book.now best.new.plan best.new.target }
+    ensures falls { best.new.target ≤ best.old.target }
+{
+    if !is_root {
+        return Ok(());
+    }
+    duals.values = first_duals(alloc, book, table, marks)?.values;
+    let answer = dive(alloc, book, table, net, marks, duals)?;
+    if let Dive::Plan(plan, _) = &answer {
+        best.try_routes(alloc, book, table, &plan.0)?;
+    }
+    Ok(())
+}
+
+// The end of a node whose marks are shut, and in which no activity is a hole.
+fn find_end(
+    alloc: Global,
+    book: &Book,
+    table: &CostTable,
+    net: &Net,
+    marks: &Marks,
+    pool: &mut Pool,
+    duals: &mut Duals,
+    best: &mut Best,
+    tools: &mut NodeTools,
+    is_root: bool,
+) -> Result<End, Memory>
+    requires tools { AreToolsFor table.now book.now net.now marks.now tools.old }
+    requires somebody { HasNoHole book.now marks.now.facts }
+    requires duals { AreDuals table.now book.now duals.old.values }
+    requires pool { IsFittingPool table.now book.now marks.now.facts pool.old }
+    requires best { IsBest table.now book.now best.old.plan best.old.target }
+    ensures end { IfOk result (IsEndFound table.now book.now marks.now.facts duals.new.values best.new.target) }
+    ensures ready { IsReady table.now book.now net.now marks.now tools.new.prices }
+    ensures duals { AreDuals table.now book.now duals.new.values }
+    ensures pool { IsFittingPool table.now book.now marks.now.facts pool.new }
+    ensures best { IsBest table.now book.now best.new.plan best.new.target }
+    ensures falls { best.new.target ≤ best.old.target }
+{
+    begin_root(alloc, book, table, net, marks, duals, best, is_root)?;
+    let ascended = ascend(
+        alloc,
+        book,
+        table,
+        net,
+        marks,
+        pool,
+        duals,
+        best,
+        &mut tools.prices,
+    )?;
+    if let Some(end) = ascended {
+        return Ok(end);
+    }
+    settle_node(alloc, book, table, net, marks, pool, duals, best, tools)
+}
+
+/// A step on a node with tools that are kept from node to node.
+pub fn node_step_with<L: TreeLog>(
+    alloc: Global,
+    book: &Book,
+    table: &CostTable,
+    net: &Net,
+    marks: &mut Marks,
+    pool: &mut Pool,
+    duals: &mut Duals,
+    best: &mut Best,
+    tools: &mut NodeTools,
+    log: &mut L,
+) -> Result<Step, Stop>
+    requires tools { AreToolsFor table.now book.now net.now marks.old tools.old }
+    requires duals { AreDuals table.now book.now duals.old.values }
+    requires pool { IsLegalPool table.now book.now pool.old }
+    requires best { IsBest table.now book.now best.old.plan best.old.target }
+    ensures visit { IfOk result (IsVisit table.now book.now (record { marks = marks.old.facts; duals = duals.old.values }) marks.new.facts duals.new.values best.new.target
+        (L.shows log.old) (L.shows log.new)) }
+    ensures truth { IfOk result (IsTrueStep table.now book.now marks.new.facts duals.new.values best.new.target) }
+    ensures stopped { OnErr result (StopsIn (L.shows log.old) (L.shows log.new) table.now book.now (record { marks = marks.old.facts; duals = duals.old.values } ∷ [])) }
+    ensures followed { IsFollowed book.now marks.old.facts marks.new.facts }
+    ensures marks { AreMarksOf book.now marks.new }
+    ensures pool { IsLegalPool table.now book.now pool.new }
+    ensures duals { AreDuals table.now book.now duals.new.values }
+    ensures best { IsBest table.now book.now best.new.plan best.new.target }
+    ensures falls { best.new.target ≤ best.old.target }
+    ensures later { IsLater (L.shows log.old) (L.shows log.new) }
+    ensures beside { L.beside log.old log.new }
+    ensures cause { IsErrOf result Stop.Log → WriteHasFailed (L.shows log.old) (L.shows log.new) }
+    ensures ready { IsReady table.now book.now net.now marks.new tools.new.prices }
+{
+    every_book_is_sound(book);
+    let is_root = marks.facts().is_empty();
+    let closed = match shut_and_tell(alloc, book, net, marks, &mut tools.diver.propagator, log) {
+        Ok(closed) => closed,
+        Err(stop) => return Err(stop),
+    };
+    keep_fitting(book, marks, pool);
+    if let Closed::Hole(a) = closed {
+        if let Err(stop) = note_one(log, &Event::Hole(a)) {
+            return Err(stop);
+        }
+        return Ok(Step::Hole(a));
+    }
+    let end = match find_end(
+        alloc, book, table, net, marks, pool, duals, best, tools, is_root,
+    ) {
+        Ok(end) => end,
+        Err(_) => return Err(Stop::Memory),
+    };
+    match note_end(
+        alloc,
+        book,
+        table,
+        net,
+        marks,
+        duals,
+        best.target,
+        end,
+        &mut tools.prices,
+        log,
+    ) {
+        Ok(step) => Ok(step),
+        Err(stop) => Err(stop),
+    }
+}
+
+/// A step on a node: adds what follows from its marks, finds its end, and notes both.
+pub fn node_step<L: TreeLog>(
+    alloc: Global,
+    book: &Book,
+    table: &CostTable,
+    net: &Net,
+    marks: &mut Marks,
+    pool: &mut Pool,
+    duals: &mut Duals,
+    best: &mut Best,
+    log: &mut L,
+) -> Result<Step, Stop>
+    requires table { IsTableFor book.now table.now }
+    requires net { net.now ≡ net_of book.now }
+    requires marks { AreMarksOf book.now marks.old }
+    requires duals { AreDuals table.now book.now duals.old.values }
+    requires pool { IsLegalPool table.now book.now pool.old }
+    requires best { IsBest table.now book.now best.old.plan best.old.target }
+    ensures visit { IfOk result (IsVisit table.now book.now (record { marks = marks.old.facts; duals = duals.old.values }) marks.new.facts duals.new.values best.new.target
+        (L.shows log.old) (L.shows log.new)) }
+    ensures truth { IfOk result (IsTrueStep table.now book.now marks.new.facts duals.new.values best.new.target) }
+    ensures stopped { OnErr result (StopsIn (L.shows log.old) (L.shows log.new) table.now book.now (record { marks = marks.old.facts; duals = duals.old.values } ∷ [])) }
+    ensures followed { IsFollowed book.now marks.old.facts marks.new.facts }
+    ensures marks { AreMarksOf book.now marks.new }
+    ensures pool { IsLegalPool table.now book.now pool.new }
+    ensures duals { AreDuals table.now book.now duals.new.values }
+    ensures best { IsBest table.now book.now best.new.plan best.new.target }
+    ensures falls { best.new.target ≤ best.old.target }
+    ensures later { IsLater (L.shows log.old) (L.shows log.new) }
+    ensures beside { L.beside log.old log.new }
+    ensures cause { IsErrOf result Stop.Log → WriteHasFailed (L.shows log.old) (L.shows log.new) }
+{
+    let mut tools = match NodeTools::new(alloc, book, table) {
+        Ok(tools) => tools,
+        Err(_) => return Err(Stop::Memory),
+    };
+    match node_step_with(
+        alloc, book, table, net, marks, pool, duals, best, &mut tools, log,
+    ) {
+        Ok(step) => Ok(step),
+        Err(stop) => Err(stop),
+    }
+}

@@ -1,0 +1,169 @@
+//! Duals that are settled over all legal routes that fit: over the pool first, then priced exactly, until pricing finds no route
+//! that the pool lacks.
+//!
+//! Each turn adds a route to the pool, or it is the last: then the least weights are the pool's, so what is settled over it is
+//! settled. A pool has no more than 2^32 routes.
+
+ghost use Rattle.std.specs.Prelude.{◌≡◌, ◌<◌, ◌≤◌, length, IfOk, IfNone, IfSome, OnOk};
+ghost use Rattle.branch_marks.specs.Settled.{AreDuals, IsSettledOver};
+ghost use Rattle.dive_heuristic.specs.Dive.{HasNoHole};
+ghost use Rattle.restricted_master.specs.Pool.{HasRoutes};
+ghost use Rattle.branch_tree.specs.Target.{IsBest};
+ghost use Rattle.branch_tree.specs.inside.Leaf.{IsReady};
+ghost use Rattle.branch_tree.specs.inside.Stepping.{AreToolsFor, IsEndFound, IsFittingPool};
+
+use crate::adding::add_routes;
+use crate::splitting::split;
+use crate::step::End;
+use crate::weighing::{Weighed, weigh};
+use crate::{Best, NodePricer, NodeTools};
+use branch_marks::Marks;
+use branch_marks::laws::{least_in_is_least, settled_over_pool_is_settled};
+use connection_net::Net;
+use restricted_master::{Pool, settle};
+use std::alloc::Global;
+use tail_book::laws::{every_book_is_sound, legal_routes_rise};
+use tail_book::{Book, CostTable, Duals, Memory};
+
+// Prices the node, and adds a route of each aircraft to the pool, if the node does not end by that.
+fn begin(
+    alloc: Global,
+    book: &Book,
+    table: &CostTable,
+    net: &Net,
+    marks: &Marks,
+    pool: &mut Pool,
+    duals: &Duals,
+    best: &mut Best,
+    prices: &mut NodePricer,
+) -> Result<Option<End>, Memory>
+    requires ready { IsReady table.now book.now net.now marks.now prices.old }
+    requires duals { AreDuals table.now book.now duals.now.values }
+    requires pool { IsFittingPool table.now book.now marks.now.facts pool.old }
+    requires best { IsBest table.now book.now best.old.plan best.old.target }
+    ensures end { IfOk result (λ end. IfSome end (IsEndFound table.now book.now marks.now.facts duals.now.values best.new.target)) }
+    ensures routes { IfOk result (λ end. IfNone end (HasRoutes book.now pool.new)) }
+    ensures ready { IsReady table.now book.now net.now marks.now prices.new }
+    ensures pool { IsFittingPool table.now book.now marks.now.facts pool.new }
+    ensures best { IsBest table.now book.now best.new.plan best.new.target }
+    ensures falls { best.new.target ≤ best.old.target }
+{
+    every_book_is_sound(book);
+    legal_routes_rise();
+    match weigh(alloc, book, table, net, marks, duals, best, prices)? {
+        Weighed::Ended(end) => Ok(Some(end)),
+        Weighed::Open(found) => {
+            let _ = add_routes(book, table, pool, &found.routes)?;
+            Ok(None)
+        }
+    }
+}
+
+// Prices duals that are settled over the pool: the node ends, or the pool grows.
+fn turn(
+    alloc: Global,
+    book: &Book,
+    table: &CostTable,
+    net: &Net,
+    marks: &Marks,
+    pool: &mut Pool,
+    duals: &Duals,
+    best: &mut Best,
+    tools: &mut NodeTools,
+) -> Result<Option<End>, Memory>
+    requires tools { AreToolsFor table.now book.now net.now marks.now tools.old }
+    requires somebody { HasNoHole book.now marks.now.facts }
+    requires settled { IsSettledOver table.now book.now pool.old.entries duals.now.values }
+    requires pool { IsFittingPool table.now book.now marks.now.facts pool.old }
+    requires best { IsBest table.now book.now best.old.plan best.old.target }
+    ensures end { IfOk result (λ end. IfSome end (IsEndFound table.now book.now marks.now.facts duals.now.values best.new.target)) }
+    ensures grows { IfOk result (λ end. IfNone end (length pool.old.entries < length pool.new.entries)) }
+    ensures routes { IfOk result (λ end. IfNone end (HasRoutes book.now pool.new)) }
+    ensures tools { IfOk result (λ end. IfNone end (AreToolsFor table.now book.now net.now marks.now tools.new)) }
+    ensures ready { IsReady table.now book.now net.now marks.now tools.new.prices }
+    ensures pool { IsFittingPool table.now book.now marks.now.facts pool.new }
+    ensures best { IsBest table.now book.now best.new.plan best.new.target }
+    ensures falls { best.new.target ≤ best.old.target }
+{
+    every_book_is_sound(book);
+    legal_routes_rise();
+    least_in_is_least();
+    settled_over_pool_is_settled();
+    match weigh(
+        alloc,
+        book,
+        table,
+        net,
+        marks,
+        duals,
+        best,
+        &mut tools.prices,
+    )? {
+        Weighed::Ended(end) => Ok(Some(end)),
+        Weighed::Open(found) => {
+            if add_routes(book, table, pool, &found.routes)? {
+                return Ok(None);
+            }
+            let end = split(
+                alloc,
+                book,
+                table,
+                net,
+                marks,
+                duals,
+                best,
+                found,
+                &mut tools.diver,
+            )?;
+            Ok(Some(end))
+        }
+    }
+}
+
+/// Settles duals over all legal routes that fit, until the node ends.
+pub fn settle_node(
+    alloc: Global,
+    book: &Book,
+    table: &CostTable,
+    net: &Net,
+    marks: &Marks,
+    pool: &mut Pool,
+    duals: &mut Duals,
+    best: &mut Best,
+    tools: &mut NodeTools,
+) -> Result<End, Memory>
+    requires tools { AreToolsFor table.now book.now net.now marks.now tools.old }
+    requires somebody { HasNoHole book.now marks.now.facts }
+    requires duals { AreDuals table.now book.now duals.old.values }
+    requires pool { IsFittingPool table.now book.now marks.now.facts pool.old }
+    requires best { IsBest table.now book.now best.old.plan best.old.target }
+    ensures end { IfOk result (IsEndFound table.now book.now marks.now.facts duals.new.values best.new.target) }
+    ensures ready { IsReady table.now book.now net.now marks.now tools.new.prices }
+    ensures duals { AreDuals table.now book.now duals.new.values }
+    ensures pool { IsFittingPool table.now book.now marks.now.facts pool.new }
+    ensures best { IsBest table.now book.now best.new.plan best.new.target }
+    ensures falls { best.new.target ≤ best.old.target }
+{
+    let begun = begin(
+        alloc,
+        book,
+        table,
+        net,
+        marks,
+        pool,
+        duals,
+        best,
+        &mut tools.prices,
+    )?;
+    if let Some(end) = begun {
+        return Ok(end);
+    }
+    loop {
+        let _ = settle(alloc, pool, book, table, duals)?;
+        let end = turn(alloc, book, table, net, marks, pool, duals, best, tools)?;
+        pool.is_small();
+        if let Some(end) = end {
+            return Ok(end);
+        }
+    }
+}

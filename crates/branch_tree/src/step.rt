@@ -1,0 +1,43 @@
+//! What a step on a node answers, and the end that is found for it before anything is told.
+
+use branch_marks::Pair;
+use dive_heuristic::Dive;
+use tail_book::Route;
+
+/// How a node ended.
+#[derive(Debug, Drop)]
+pub enum Step {
+    /// This activity is alive for nobody.
+    Hole(u32),
+    /// No legal route of this aircraft fits.
+    Stuck(u32),
+    /// The Lagrangian sum, in thousandths of a cost unit, leaves no plan that is cheaper than the target.
+    Bounded(i128),
+    /// Neither, under duals that are settled.
+    Split {
+        /// What the two branches decide.
+        pair: Pair,
+        /// The Lagrangian sum, in thousandths of a cost unit.
+        bound: i128,
+        /// A route of least weight for each aircraft.
+        routes: Vec<Route>,
+        /// A dive from the node.
+        dive: Dive,
+    },
+}
+
+/// The end of a node in which no activity is a hole.
+#[derive(Debug, Drop)]
+pub enum End {
+    /// No legal route of this aircraft fits.
+    Stuck(u32),
+    /// The least weight of each aircraft, with which the Lagrangian sum reaches the target.
+    Bounded(Vec<i64>),
+    /// A split, with what its step answers.
+    Split {
+        pair: Pair,
+        bound: i128,
+        routes: Vec<Route>,
+        dive: Dive,
+    },
+}
