@@ -1,0 +1,86 @@
+-- Which texts are accepted as certificates of a book, and for which claim.
+use Rattle.std.specs.Prelude.{◌≡◌, ℕ, ◌+◌, ◌<◌, ⊤, List, [], ◌∷◌, ◌++◌, map, length, All, Option, Some, None}
+use Rattle.std.specs.List.{flat_map}
+use Rattle.tail_book.specs.Seen.{BookSeen}
+use Rattle.tail_book.specs.Lookup.{activities, aircraft}
+use Rattle.tail_book.specs.Truth.{IsPlanOf}
+use Rattle.tail_book.specs.declared.claim.Claim.{Claim}
+use Rattle.tail_book.specs.declared.claim.Claim.TheVariants.{Optimal, Infeasible, Limit}
+use Rattle.tail_book.specs.inside.CostTable.{costs_of, greatest_cost_in}
+use Rattle.tail_book.specs.inside.Fliers.{plan_by}
+use Rattle.tail_book.specs.inside.Sound.{IsBook}
+use Rattle.tail_book.specs.inside.Truth.{IsTrueClaim}
+use Rattle.branch_marks.specs.ProofTree.{Tree, IsShown, BoundsAtLeast}
+use Rattle.cert_lines.specs.declared.cert_line.CertLine.{CertLine}
+use Rattle.cert_lines.specs.declared.cert_line.CertLine.TheVariants as line
+use Rattle.cert_lines.specs.Grammar.{IsLine}
+use Rattle.cert_lines.specs.Spelling.{spelling}
+use Rattle.cert_checker.specs.TreeEvents.{tree_events}
+
+-- the header of the book's certificates
+abbrev pub header_of : BookSeen → CertLine
+header_of book = line.Header 1 (activities book) (aircraft book) (length book.rules.counters)
+
+-- the lines of a tree
+abbrev pub tree_lines : Tree → List CertLine
+tree_lines tree = map line.Event (tree_events tree)
+
+-- a line for each activity from a on, with the aircraft that flies it
+abbrev pub fly_lines : ℕ → List ℕ → List CertLine
+fly_lines a [] = []
+fly_lines a (k ∷ fliers) = line.Fly a k ∷ fly_lines (a + 1) fliers
+
+-- a plan, where there is one: who flies each activity
+abbrev pub plan_lines : Option (List ℕ) → List CertLine
+plan_lines None = []
+plan_lines (Some fliers) = line.Plan ∷ fly_lines 0 fliers
+
+-- a certificate's lines: the header, one tree, a plan or none, and the claim
+abbrev pub certificate_lines : BookSeen → Tree → Option (List ℕ) → Claim → List CertLine
+certificate_lines book tree fliers claim = header_of book ∷ (tree_lines tree ++ (plan_lines fliers ++ line.Claim claim ∷ []))
+
+-- each line with the newline that ends it
+abbrev pub text_of : List CertLine → List ℕ
+text_of lines = flat_map (λ line. spelling line ++ 10 ∷ []) lines
+
+-- what every bound of the tree has to reach: the claimed cost, more than any legal plan costs, or the claimed bound
+abbrev pub asked_of : BookSeen → Claim → ℕ
+asked_of book (Optimal cost) = cost
+asked_of book Infeasible = greatest_cost_in (costs_of book) + 1
+asked_of book (Limit low high) = low
+
+-- what the plan of a claim has to cost, where the claim has one
+abbrev pub claimed_cost : Claim → Option ℕ
+claimed_cost (Optimal cost) = Some cost
+claimed_cost Infeasible = None
+claimed_cost (Limit low high) = high
+
+-- these aircraft of the book, one for each of its activities, give a legal plan of this cost
+pub record IsPlanOfFliers (book : BookSeen) (cost : ℕ) (fliers : List ℕ) : Type 0 where
+  pub one_each : length fliers ≡ activities book
+  pub fleet : All (λ k. k < aircraft book) fliers
+  pub plan : IsPlanOf book cost (plan_by fliers (aircraft book))
+
+-- there is a plan exactly where the claim has one, and it is legal and costs what is claimed
+abbrev pub HasClaimedPlan : BookSeen → Option (List ℕ) → Option ℕ → Type 0
+HasClaimedPlan book None None = ⊤
+HasClaimedPlan book (Some fliers) None = ⊥
+HasClaimedPlan book None (Some cost) = ⊥
+HasClaimedPlan book (Some fliers) (Some cost) = IsPlanOfFliers book cost fliers
+
+-- the text is a certificate of the book for this claim: it spells the lines of a tree that is shown, whose bounds reach what
+-- the claim asks, of the claimed plan, and of the claim
+pub record IsCertificate (book : BookSeen) (tree : Tree) (fliers : Option (List ℕ)) (claim : Claim) (text : List ℕ) : Type 0 where
+  pub lines : All IsLine (certificate_lines book tree fliers claim)
+  pub spelled : text ≡ text_of (certificate_lines book tree fliers claim)
+  pub shown : IsShown (costs_of book) book [] tree
+  pub bounds : BoundsAtLeast (asked_of book claim) tree
+  pub plan : HasClaimedPlan book fliers (claimed_cost claim)
+
+-- the text is accepted for this claim
+abbrev pub Accepts : BookSeen → List ℕ → Claim → Type 0
+Accepts book text claim = (tree : Tree) × (fliers : Option (List ℕ)) × IsCertificate book tree fliers claim text
+
+-- what an accepted text claims is true of the book
+abbrev pub AcceptedClaimsAreTrue : Type 0
+AcceptedClaimsAreTrue = (book : BookSeen) → IsBook book → (text : List ℕ) (claim : Claim) → Accepts book text claim → IsTrueClaim book claim

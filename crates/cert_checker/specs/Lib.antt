@@ -1,0 +1,6 @@
+pub mod Certificate
+pub mod Judging
+pub mod Reasons
+pub mod State
+pub mod TreeEvents
+pub mod Verdict

@@ -1,0 +1,55 @@
+//! Laws over the definitions alone: the contract of each function is the law.
+
+ghost use Rattle.cert_checker.specs.Certificate.{AcceptedClaimsAreTrue};
+ghost use Rattle.cert_checker.specs.Verdict.{AcceptedIsYes, YesIsAccepted, YesIsTrue};
+
+use branch_marks::laws::{
+    alive_decides, bounds_decide, fact_of_decides, following_facts_are_of_book, follows_decides,
+    shown_decides, shown_roots_bound, undecided_decides, undecided_pairs_are_of_book,
+};
+use cert_lines::laws::{read_lines_are_spelled, spelled_lines_are_read, spelled_lines_are_short};
+use tail_book::laws::{legal_plan_decides, legal_plans_cost_at_most, own_costs_of_legal_plans};
+
+/// What an accepted certificate claims is true of the book.
+pub fn accepted_claims_are_true()
+    ensures { AcceptedClaimsAreTrue }
+{
+    shown_roots_bound();
+    legal_plans_cost_at_most();
+    own_costs_of_legal_plans();
+}
+
+/// A yes comes only to a text that is accepted for its claim.
+pub fn yes_is_accepted()
+    ensures { YesIsAccepted }
+{
+    shown_decides();
+    bounds_decide();
+    legal_plan_decides();
+    read_lines_are_spelled();
+}
+
+/// Every text that is accepted for a claim gets a yes for it.
+pub fn accepted_is_yes()
+    ensures { AcceptedIsYes }
+{
+    alive_decides();
+    follows_decides();
+    fact_of_decides();
+    undecided_decides();
+    following_facts_are_of_book();
+    undecided_pairs_are_of_book();
+    shown_decides();
+    bounds_decide();
+    legal_plan_decides();
+    spelled_lines_are_read();
+    spelled_lines_are_short();
+}
+
+/// The claim of a yes is true of the book.
+pub fn yes_is_true()
+    ensures { YesIsTrue }
+{
+    yes_is_accepted();
+    accepted_claims_are_true();
+}
