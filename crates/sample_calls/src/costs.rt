@@ -1,8 +1,8 @@
 //! What a plan costs, and what one step of a route costs by a table.
 
-ghost use Rattle.std.specs.Prelude.{◌≡◌, ◌<◌, ◌≤◌, ◌+◌, IfOk};
+ghost use Rattle.std.specs.Prelude.{◌≡◌, ◌<◌, ◌+◌, IfOk};
 ghost use Rattle.std.specs.Option.{MatchOption};
-ghost use Rattle.tail_book.specs.inside.CostTable.{IsCostTable, IsTableFor, activity_cost_in, connection_cost_in};
+ghost use Rattle.tail_book.specs.inside.CostTable.{IsTableFor, activity_cost_in, connection_cost_in};
 ghost use Rattle.tail_book.specs.Lookup.{activities, aircraft};
 ghost use Rattle.tail_book.specs.inside.Place.{IsPlaceOf};
 ghost use Rattle.tail_book.specs.Plan.{IsLegalPlan};
@@ -11,7 +11,7 @@ ghost use Rattle.tail_book.specs.Truth.{IsPlanOf};
 use plan_audit::audit_plan;
 use std::alloc::Global;
 use tail_book::{Book, CostTable, Memory, Place, Plan, laws};
-use turn_rules::gap;
+use turn_rules::connection_cost;
 
 /// What a plan costs where it is legal, and nothing exactly where it is not.
 pub fn cost_if_legal(alloc: Global, book: &Book, plan: &Plan) -> Result<Option<u64>, Memory>
@@ -23,28 +23,6 @@ pub fn cost_if_legal(alloc: Global, book: &Book, plan: &Plan) -> Result<Option<u
     audit_plan(alloc, book, &table, plan)
 }
 
-// Every table keeps its maxima, and sums of its costs stay in range.
-fn table_is_sound(table: &CostTable)
-    ensures { IsCostTable table.now }
-{
-    // A look at a field brings out what every table keeps.
-    let _ = &table.n;
-}
-
-// What a connection costs by a table.
-fn connection_cost(book: &Book, table: &CostTable, k: u32, from: Place, b: u32) -> u64
-    requires aircraft { k < aircraft book.now }
-    requires place { IsPlaceOf book.now from }
-    requires activity { b < activities book.now }
-    ensures value { result ≡ connection_cost_in table.now book.now k from b }
-    ensures most { result ≤ table.now.band_max }
-{
-    match from {
-        Place::Carry => 0,
-        Place::After(_) => table.connection_cost(gap(book, k, from, b)),
-    }
-}
-
 /// What it costs an aircraft to fly an activity next, by any table for the book: the activity and the connection to it,
 /// in cost units.
 pub fn leg_cost(book: &Book, table: &CostTable, k: u32, from: Place, b: u32) -> u64
@@ -54,6 +32,6 @@ pub fn leg_cost(book: &Book, table: &CostTable, k: u32, from: Place, b: u32) -> 
     requires activity { b < activities book.now }
     ensures { result ≡ activity_cost_in table.now k b + connection_cost_in table.now book.now k from b }
 {
-    table_is_sound(table);
-    table.activity_cost(k, b) + connection_cost(book, table, k, from, b)
+    laws::every_cost_table_is_sound(table);
+    table.activity_cost(k, b) + connection_cost(book, &table.bands, k, from, b)
 }

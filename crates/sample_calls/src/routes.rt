@@ -1,55 +1,22 @@
 //! Whether an aircraft can fly a route, and how far it comes.
 //!
 //! A route is followed by its place and one row of counters, which is all that the rules ask of what was flown before.
-//! So it takes one pass over the route, and no memory but that row.
+//! So it takes one pass over the route, and no memory but that row and what steps read of the book.
 
-ghost use Rattle.std.specs.Prelude.{◌≡◌, ◌<◌, ◌↔◌, ◌&&◌, length, nat_lt, IfOk, IsTrue};
+ghost use Rattle.std.specs.Prelude.{◌≡◌, ◌<◌, ◌↔◌, length, IfOk, IsTrue};
 ghost use Rattle.tail_book.specs.Counters.{step};
 ghost use Rattle.tail_book.specs.Lookup.{activities, aircraft};
 ghost use Rattle.tail_book.specs.inside.Place.{IsPlaceOf};
 ghost use Rattle.tail_book.specs.Route.{IsLegalRoute};
-ghost use Rattle.tail_book.specs.inside.Tests.{is_legal_route, is_link, within_limits};
 ghost use Rattle.turn_rules.specs.inside.PermissionTable.{ArePermissionsOf};
 ghost use Rattle.maint_counters.specs.inside.Counts.{AreCounts};
 ghost use Rattle.maint_counters.specs.inside.StepTable.{IsStepTableOf};
 ghost use Rattle.sample_calls.specs.Routes.{IsLongestFront, MayComeNext};
 
-use maint_counters::{StepTable, start, step, step_by};
+use maint_counters::{StepTable, is_legal_route, start, step_by};
 use std::alloc::Global;
 use tail_book::{Book, Memory, Place, laws};
-use turn_rules::{PermissionTable, link, link_by};
-
-// Whether an activity may come next, with the counters then stepped.
-fn may_come_next(book: &Book, k: u32, from: Place, b: u32, values: &mut [i64]) -> bool
-    requires aircraft { k < aircraft book.now }
-    requires place { IsPlaceOf book.now from }
-    requires width { length values.old ≡ length book.now.rules.counters }
-    requires range { AreCounts values.old }
-    ensures legal { result ≡ (nat_lt b (activities book.now) && (is_link book.now k from b && within_limits book.now.rules.counters (step book.now k from b values.old))) }
-    ensures steps { IsTrue result → values.new ≡ step book.now k from b values.old }
-    ensures width { length values.new ≡ length book.now.rules.counters }
-    ensures range { IsTrue result → AreCounts values.new }
-{
-    (b as usize) < book.activities.len() && link(book, k, from, b) && step(book, k, from, b, values)
-}
-
-// The same question of a whole route, with room for the counters.
-fn is_legal(book: &Book, k: u32, route: &[u32], values: &mut [i64]) -> bool
-    requires aircraft { k < aircraft book.now }
-    requires width { length values.old ≡ length book.now.rules.counters }
-    ensures { result ≡ is_legal_route book.now k route.now }
-{
-    start(book, k, values);
-    let (mut from, mut rest) = (Place::Carry, route);
-    while let Some((first, others)) = rest.split_first() {
-        if !may_come_next(book, k, from, *first, values) {
-            return false;
-        }
-        from = Place::After(*first);
-        rest = others;
-    }
-    true
-}
+use turn_rules::{PermissionTable, link_by};
 
 /// Whether an aircraft can fly these activities in this order. Numbers that are not of the book make a route that it
 /// can't.
@@ -57,9 +24,9 @@ pub fn is_flyable(alloc: Global, book: &Book, k: u32, route: &[u32]) -> Result<b
     requires { k < aircraft book.now }
     ensures { IfOk result (λ legal. IsTrue legal ↔ IsLegalRoute book.now k route.now) }
 {
-    laws::legal_route_decides();
+    let table = StepTable::of(alloc, book)?;
     let mut values = vec![in alloc; 0; book.rules.counters.len()]?;
-    Ok(is_legal(book, k, route, &mut values))
+    Ok(is_legal_route(book, &table, k, route, &mut values))
 }
 
 // Whether an activity may come next by the book's tables, with the counters then stepped.

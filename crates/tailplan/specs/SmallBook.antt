@@ -1,18 +1,15 @@
 -- The book of the three tables of a run, within what a plan is made for today.
 use Rattle.std.specs.Prelude.{ℕ, ◌+◌, List, length, nat_le, Result}
 use Rattle.tail_book.specs.Seen.{BookSeen}
-use Rattle.tail_text.specs.Checks.{look, must}
+use Rattle.tail_text.specs.Checks.{must}
 use Rattle.tail_text.specs.Reading.{refusal_at}
 use Rattle.tail_text.specs.declared.codes.TheConstants.{TOO_MANY}
 use Rattle.tail_text.specs.declared.refusal.Refusal.{Refusal}
 use Rattle.tail_text.specs.declared.refusal.Table.TheVariants.{Fleet, Timetable}
 use Rattle.timetable_reader.specs.Activity.{RawActivitySeen}
-use Rattle.timetable_reader.specs.Timetable.{timetable_of}
-use Rattle.fleet_rules.specs.Fleet.{fleet_of}
 use Rattle.fleet_rules.specs.RawRules.{RawRulesSeen}
-use Rattle.fleet_rules.specs.RulesTable.{rules_of}
 use Rattle.fleet_rules.specs.Tail.{RawTailSeen}
-use Rattle.book_maker.specs.Made.{made_of}
+use Rattle.book_maker.specs.Made.{look_at_tables, made_of}
 use Rattle.tailplan.specs.declared.small_book.TheConstants.{MOST_ACTIVITIES, MOST_AIRCRAFT}
 
 -- the refusal of the first activity past the most, in a table whose header is record 1
@@ -32,8 +29,4 @@ small_made_of activities tails rules =
 
 -- the book of the tables, or their first refusal: each table by itself, and then their records together
 unfoldable pub small_book_of : List ℕ → List ℕ → List ℕ → Result BookSeen Refusal
-small_book_of timetable fleet rules =
-    look (timetable_of timetable) (λ activities.
-    look (fleet_of fleet) (λ tails.
-    look (rules_of rules) (λ raw_rules.
-    small_made_of activities tails raw_rules)))
+small_book_of timetable fleet rules = look_at_tables timetable fleet rules small_made_of

@@ -14,6 +14,7 @@ mod words;
 
 use crate::run::solve_run;
 use std::alloc::Global;
+use std::process::Abort;
 use std::test::Fail;
 use tail_outside::{MemFile, MemFiles, MemSink};
 
@@ -152,4 +153,16 @@ fn ends_under(
 ) -> Result<bool, Fail> {
     let seen = run_on(alloc, &[TIMETABLE, records], &[FLEET, aircraft], &[rules])?;
     Ok(is_so(&seen, status, printed))
+}
+
+// A run's records of the timetable, its aircraft and its rules, and the status and the text that it ends with.
+type Case<'a> = (&'a str, &'a str, &'a str, u8, &'a str);
+
+// Each run ends so, over the usual rules with these behind them.
+fn each_ends_so(rt: &impl Abort, alloc: Global, cases: &[Case<'_>]) -> Result<(), Fail> {
+    for (records, aircraft, rules, status, printed) in cases {
+        let ends = ends_so(alloc, records, aircraft, rules, *status, printed)?;
+        assert!(rt; ends, "{records}{aircraft}{rules}");
+    }
+    Ok(())
 }

@@ -1,6 +1,6 @@
 //! Counters of minutes, landings and days: limits, bases, stops, resets and what an aircraft comes in with.
 
-use super::{ONE, THERE, THERE_AND_BACK, TWO, ends_so};
+use super::{ONE, THERE, THERE_AND_BACK, TWO, each_ends_so, ends_so};
 use std::test::Fail;
 
 // A counter of flown minutes of at most two hours, which an hour at Arlanda resets.
@@ -10,13 +10,14 @@ const TWO_HOURS: &str =
 // Flown minutes may add up to the limit. A stop at a base of so many minutes sets them to nothing.
 #[test]
 fn a_stop_at_a_base_resets_minutes(rt: HostRuntime) -> Result<(), Fail> {
-    for (records, rules, status, printed) in [
+    let cases = [
         // an hour at Arlanda after two hours in the air
         (
             "F1,flight,ARN,OSL,2025-03-03T06:00,2025-03-03T07:00,,,,\n\
 F2,flight,OSL,ARN,2025-03-03T07:30,2025-03-03T08:30,,,,\n\
 F3,flight,ARN,OSL,2025-03-03T09:30,2025-03-03T10:30,,,,\n\
 F4,flight,OSL,ARN,2025-03-03T11:00,2025-03-03T12:00,,,,\n",
+            ONE,
             TWO_HOURS,
             0,
             "optimal 240\nA1: F1 F2 F3 F4\n",
@@ -27,6 +28,7 @@ F4,flight,OSL,ARN,2025-03-03T11:00,2025-03-03T12:00,,,,\n",
 F2,flight,OSL,ARN,2025-03-03T07:30,2025-03-03T08:30,,,,\n\
 F3,flight,ARN,OSL,2025-03-03T09:29,2025-03-03T10:29,,,,\n\
 F4,flight,OSL,ARN,2025-03-03T11:00,2025-03-03T12:00,,,,\n",
+            ONE,
             TWO_HOURS,
             1,
             "infeasible\n",
@@ -37,6 +39,7 @@ F4,flight,OSL,ARN,2025-03-03T11:00,2025-03-03T12:00,,,,\n",
 F2,flight,OSL,ARN,2025-03-03T07:30,2025-03-03T08:30,,,,\n\
 F3,flight,ARN,OSL,2025-03-03T09:30,2025-03-03T10:30,,,,\n\
 F4,flight,OSL,ARN,2025-03-03T11:00,2025-03-03T12:00,,,,\n",
+            ONE,
             "[[counter]]\nname = \"fh\"\nkind = \"minutes\"\nlimit = 119\nbases = [\"ARN\"]\nstop = 60\n",
             1,
             "infeasible\n",
@@ -44,18 +47,21 @@ F4,flight,OSL,ARN,2025-03-03T11:00,2025-03-03T12:00,,,,\n",
         // half an hour in Oslo resets where it is a base and long enough
         (
             THERE_AND_BACK,
+            ONE,
             "[[counter]]\nname = \"fh\"\nkind = \"minutes\"\nlimit = 60\nbases = [\"OSL\"]\nstop = 30\n",
             0,
             "optimal 120\nA1: F1 F2\n",
         ),
         (
             THERE_AND_BACK,
+            ONE,
             "[[counter]]\nname = \"fh\"\nkind = \"minutes\"\nlimit = 60\nbases = [\"OSL\"]\nstop = 31\n",
             1,
             "infeasible\n",
         ),
         (
             THERE_AND_BACK,
+            ONE,
             "[[counter]]\nname = \"fh\"\nkind = \"minutes\"\nlimit = 60\nbases = [\"ARN\"]\nstop = 30\n",
             1,
             "infeasible\n",
@@ -63,29 +69,31 @@ F4,flight,OSL,ARN,2025-03-03T11:00,2025-03-03T12:00,,,,\n",
         // the second of two counters is the one that is passed
         (
             THERE_AND_BACK,
+            ONE,
             "[[counter]]\nname = \"fh\"\nkind = \"minutes\"\nlimit = 120\nbases = []\nstop = 1\n\
 [[counter]]\nname = \"ldg\"\nkind = \"landings\"\nlimit = 1\nbases = []\nstop = 1\n",
             1,
             "infeasible\n",
         ),
-    ] {
-        let ends = ends_so(rt.alloc(), records, ONE, rules, status, printed)?;
-        assert!(rt; ends, "{records}{rules}");
-    }
-    Ok(())
+    ];
+    each_ends_so(&rt, rt.alloc(), &cases)
 }
 
 // An aircraft comes in with what it carries. A stop before its first flight may reset that.
 #[test]
 fn carried_values_count(rt: HostRuntime) -> Result<(), Fail> {
-    for (aircraft, rules, status, printed) in [
+    let two = "[[counter]]\nname = \"fh\"\nkind = \"minutes\"\nlimit = 120\nbases = []\nstop = 1\n\
+[[counter]]\nname = \"ldg\"\nkind = \"landings\"\nlimit = 4\nbases = []\nstop = 1\n";
+    let cases = [
         (
+            THERE,
             "A1,P,ARN,2025-03-03T05:30,0,,,fh=60\n",
             TWO_HOURS,
             0,
             "optimal 60\nA1: F1\n",
         ),
         (
+            THERE,
             "A1,P,ARN,2025-03-03T05:30,0,,,fh=61\n",
             TWO_HOURS,
             1,
@@ -93,12 +101,14 @@ fn carried_values_count(rt: HostRuntime) -> Result<(), Fail> {
         ),
         // an hour at the base before the first flight
         (
+            THERE,
             "A1,P,ARN,2025-03-03T05:00,0,,,fh=120\n",
             TWO_HOURS,
             0,
             "optimal 60\nA1: F1\n",
         ),
         (
+            THERE,
             "A1,P,ARN,2025-03-03T05:01,0,,,fh=120\n",
             TWO_HOURS,
             1,
@@ -106,6 +116,7 @@ fn carried_values_count(rt: HostRuntime) -> Result<(), Fail> {
         ),
         // one that carries too much may stay where it is
         (
+            THERE,
             "A1,P,ARN,2025-03-03T05:30,0,,,fh=500\nA2,P,ARN,2025-03-03T05:30,8,,,\n",
             TWO_HOURS,
             0,
@@ -113,34 +124,33 @@ fn carried_values_count(rt: HostRuntime) -> Result<(), Fail> {
         ),
         // a value is that of the counter it names
         (
+            THERE,
             "A1,P,ARN,2025-03-03T05:30,0,,,ldg=3 fh=60\n",
-            "[[counter]]\nname = \"fh\"\nkind = \"minutes\"\nlimit = 120\nbases = []\nstop = 1\n\
-[[counter]]\nname = \"ldg\"\nkind = \"landings\"\nlimit = 4\nbases = []\nstop = 1\n",
+            two,
             0,
             "optimal 60\nA1: F1\n",
         ),
         (
+            THERE,
             "A1,P,ARN,2025-03-03T05:30,0,,,ldg=4 fh=60\n",
-            "[[counter]]\nname = \"fh\"\nkind = \"minutes\"\nlimit = 120\nbases = []\nstop = 1\n\
-[[counter]]\nname = \"ldg\"\nkind = \"landings\"\nlimit = 4\nbases = []\nstop = 1\n",
+            two,
             1,
             "infeasible\n",
         ),
-    ] {
-        let ends = ends_so(rt.alloc(), THERE, aircraft, rules, status, printed)?;
-        assert!(rt; ends, "{aircraft}{rules}");
-    }
-    Ok(())
+    ];
+    each_ends_so(&rt, rt.alloc(), &cases)
 }
 
 // An activity that resets a counter leaves it at nothing, after it was counted there.
 #[test]
 fn an_activity_resets_counters(rt: HostRuntime) -> Result<(), Fail> {
-    for (records, status, printed) in [
+    let cases = [
         (
             "F1,flight,ARN,OSL,2025-03-03T06:00,2025-03-03T08:00,,,,\n\
 G1,ground,OSL,OSL,2025-03-03T08:00,2025-03-03T08:20,,,,fh\n\
 F2,flight,OSL,ARN,2025-03-03T08:30,2025-03-03T10:30,,,,\n",
+            ONE,
+            TWO_HOURS,
             0,
             "optimal 240\nA1: F1 G1 F2\n",
         ),
@@ -148,6 +158,8 @@ F2,flight,OSL,ARN,2025-03-03T08:30,2025-03-03T10:30,,,,\n",
             "F1,flight,ARN,OSL,2025-03-03T06:00,2025-03-03T08:00,,,,\n\
 G1,ground,OSL,OSL,2025-03-03T08:00,2025-03-03T08:20,,,,\n\
 F2,flight,OSL,ARN,2025-03-03T08:30,2025-03-03T10:30,,,,\n",
+            ONE,
+            TWO_HOURS,
             1,
             "infeasible\n",
         ),
@@ -155,24 +167,26 @@ F2,flight,OSL,ARN,2025-03-03T08:30,2025-03-03T10:30,,,,\n",
         (
             "F1,flight,ARN,OSL,2025-03-03T06:00,2025-03-03T08:01,,,,\n\
 G1,ground,OSL,OSL,2025-03-03T08:01,2025-03-03T08:20,,,,fh\n",
+            ONE,
+            TWO_HOURS,
             1,
             "infeasible\n",
         ),
-    ] {
-        let ends = ends_so(rt.alloc(), records, ONE, TWO_HOURS, status, printed)?;
-        assert!(rt; ends, "{records}");
-    }
-    Ok(())
+    ];
+    each_ends_so(&rt, rt.alloc(), &cases)
 }
 
 // A landing counts one, and time on the ground none.
 #[test]
 fn landings_are_counted(rt: HostRuntime) -> Result<(), Fail> {
-    for (records, aircraft, status, printed) in [
-        (THERE_AND_BACK, ONE, 1, "infeasible\n"),
+    let rules =
+        "[[counter]]\nname = \"ldg\"\nkind = \"landings\"\nlimit = 1\nbases = []\nstop = 1\n";
+    let cases = [
+        (THERE_AND_BACK, ONE, rules, 1, "infeasible\n"),
         (
             THERE_AND_BACK,
             "A1,P,ARN,2025-03-03T05:00,0,,,\nA2,P,OSL,2025-03-03T05:00,0,,,\n",
+            rules,
             0,
             "optimal 120\nA1: F1\nA2: F2\n",
         ),
@@ -181,37 +195,34 @@ fn landings_are_counted(rt: HostRuntime) -> Result<(), Fail> {
 G1,ground,OSL,OSL,2025-03-03T07:00,2025-03-03T08:00,,,,\n\
 G2,ground,OSL,OSL,2025-03-03T08:00,2025-03-03T09:00,,,,\n",
             ONE,
+            rules,
             0,
             "optimal 60\nA1: F1 G1 G2\n",
         ),
-    ] {
-        let ends = ends_so(
-            rt.alloc(),
-            records,
-            aircraft,
-            "[[counter]]\nname = \"ldg\"\nkind = \"landings\"\nlimit = 1\nbases = []\nstop = 1\n",
-            status,
-            printed,
-        )?;
-        assert!(rt; ends, "{records}{aircraft}");
-    }
-    Ok(())
+    ];
+    each_ends_so(&rt, rt.alloc(), &cases)
 }
 
 // A counter of days goes on in the air and on the ground, from when the aircraft is ready.
 #[test]
 fn days_go_by_between_flights(rt: HostRuntime) -> Result<(), Fail> {
-    for (records, status, printed) in [
+    let rules =
+        "[[counter]]\nname = \"chk\"\nkind = \"days\"\nlimit = 1\nbases = [\"ARN\"]\nstop = 600\n";
+    let cases = [
         // exactly a day after it was ready
         (
             "F1,flight,ARN,OSL,2025-03-03T06:00,2025-03-03T07:00,,,,\n\
 F2,flight,OSL,ARN,2025-03-04T04:00,2025-03-04T05:00,,,,\n",
+            ONE,
+            rules,
             0,
             "optimal 120\nA1: F1 F2\n",
         ),
         (
             "F1,flight,ARN,OSL,2025-03-03T06:00,2025-03-03T07:00,,,,\n\
 F2,flight,OSL,ARN,2025-03-04T04:01,2025-03-04T05:01,,,,\n",
+            ONE,
+            rules,
             1,
             "infeasible\n",
         ),
@@ -220,50 +231,39 @@ F2,flight,OSL,ARN,2025-03-04T04:01,2025-03-04T05:01,,,,\n",
             "F1,flight,ARN,OSL,2025-03-03T06:00,2025-03-03T07:00,,,,\n\
 F2,flight,OSL,ARN,2025-03-03T07:30,2025-03-03T08:30,,,,\n\
 F3,flight,ARN,OSL,2025-03-06T06:00,2025-03-06T07:00,,,,\n",
+            ONE,
+            rules,
             0,
             "optimal 180\nA1: F1 F2 F3\n",
         ),
-    ] {
-        let ends = ends_so(
-            rt.alloc(),
-            records,
-            ONE,
-            "[[counter]]\nname = \"chk\"\nkind = \"days\"\nlimit = 1\nbases = [\"ARN\"]\nstop = 600\n",
-            status,
-            printed,
-        )?;
-        assert!(rt; ends, "{records}");
-    }
-    Ok(())
+    ];
+    each_ends_so(&rt, rt.alloc(), &cases)
 }
 
 // A check on the ground resets the days that an aircraft came in with, before they are compared.
 #[test]
 fn a_check_resets_days(rt: HostRuntime) -> Result<(), Fail> {
-    for (aircraft, status, printed) in [
+    let records = "G1,ground,OSL,OSL,2025-03-03T10:00,2025-03-03T12:00,,,A1,chk\n\
+F1,flight,OSL,ARN,2025-03-03T12:30,2025-03-03T13:30,,,,\n";
+    let rules =
+        "[[counter]]\nname = \"chk\"\nkind = \"days\"\nlimit = 1\nbases = [\"ARN\"]\nstop = 60\n";
+    let cases = [
         (
+            records,
             "A1,P,OSL,2025-03-03T00:00,7,,,chk=1000\n",
+            rules,
             0,
             "optimal 74\nA1: G1 F1\n",
         ),
         (
+            records,
             "A1,P,OSL,2025-03-03T00:00,7,,,chk=10000000\n",
+            rules,
             0,
             "optimal 74\nA1: G1 F1\n",
         ),
-    ] {
-        let ends = ends_so(
-            rt.alloc(),
-            "G1,ground,OSL,OSL,2025-03-03T10:00,2025-03-03T12:00,,,A1,chk\n\
-F1,flight,OSL,ARN,2025-03-03T12:30,2025-03-03T13:30,,,,\n",
-            aircraft,
-            "[[counter]]\nname = \"chk\"\nkind = \"days\"\nlimit = 1\nbases = [\"ARN\"]\nstop = 60\n",
-            status,
-            printed,
-        )?;
-        assert!(rt; ends, "{aircraft}");
-    }
-    Ok(())
+    ];
+    each_ends_so(&rt, rt.alloc(), &cases)
 }
 
 // The cheap way to F5 goes through G1, and keeps the counter full: F6 would be the fourth landing. The dear one is taken.

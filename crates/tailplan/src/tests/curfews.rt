@@ -1,6 +1,6 @@
 //! Curfews: windows of local minutes, for starts or for landings, of some types or of all.
 
-use super::{DEAR_TYPE, ONE, THERE, ends_so};
+use super::{DEAR_TYPE, ONE, THERE, each_ends_so, ends_so};
 use std::test::Fail;
 
 // F1 starts at ARN at 07:00 and lands at OSL at 08:00, both local.
@@ -60,39 +60,40 @@ fn a_window_closes_an_airport(rt: HostRuntime) -> Result<(), Fail> {
 // Landings at Arlanda from 23:00 to 06:00 local, an hour before and after midnight by the clock of the tables.
 #[test]
 fn a_night_has_two_ends(rt: HostRuntime) -> Result<(), Fail> {
-    for (records, status, printed) in [
+    let aircraft = "A1,P,OSL,2025-03-03T00:00,0,,,\n";
+    let rules =
+        "[[curfew]]\nairport = \"ARN\"\nfrom = \"23:00\"\nto = \"06:00\"\ntypes = []\nstart = false\nlanding = true\n";
+    let cases = [
         (
             "F1,flight,OSL,ARN,2025-03-03T20:59,2025-03-03T21:59,,,,\n",
+            aircraft,
+            rules,
             0,
             "optimal 60\nA1: F1\n",
         ),
         (
             "F1,flight,OSL,ARN,2025-03-03T21:00,2025-03-03T22:00,,,,\n",
+            aircraft,
+            rules,
             1,
             "infeasible\n",
         ),
         (
             "F1,flight,OSL,ARN,2025-03-03T03:59,2025-03-03T04:59,,,,\n",
+            aircraft,
+            rules,
             1,
             "infeasible\n",
         ),
         (
             "F1,flight,OSL,ARN,2025-03-03T04:00,2025-03-03T05:00,,,,\n",
+            aircraft,
+            rules,
             0,
             "optimal 60\nA1: F1\n",
         ),
-    ] {
-        let ends = ends_so(
-            rt.alloc(),
-            records,
-            "A1,P,OSL,2025-03-03T00:00,0,,,\n",
-            "[[curfew]]\nairport = \"ARN\"\nfrom = \"23:00\"\nto = \"06:00\"\ntypes = []\nstart = false\nlanding = true\n",
-            status,
-            printed,
-        )?;
-        assert!(rt; ends, "{records}");
-    }
-    Ok(())
+    ];
+    each_ends_so(&rt, rt.alloc(), &cases)
 }
 
 // A curfew may be one of a type. The other type may start.
@@ -123,30 +124,26 @@ fn a_curfew_may_name_types(rt: HostRuntime) -> Result<(), Fail> {
 // An hour behind, half past midnight is half past eleven of the evening before.
 #[test]
 fn local_time_may_be_the_day_before(rt: HostRuntime) -> Result<(), Fail> {
-    for (records, status, printed) in [
+    let aircraft = "A1,P,BGO,2025-03-02T00:00,0,,,\n";
+    let rules = "[[airport]]\nname = \"BGO\"\noffset = -60\nturn = 20\n\
+[[curfew]]\nairport = \"BGO\"\nfrom = \"23:00\"\nto = \"23:59\"\ntypes = []\nstart = true\nlanding = false\n";
+    let cases = [
         (
             "F1,flight,BGO,OSL,2025-03-03T00:30,2025-03-03T01:30,,,,\n",
+            aircraft,
+            rules,
             1,
             "infeasible\n",
         ),
         (
             "F1,flight,BGO,OSL,2025-03-03T01:00,2025-03-03T02:00,,,,\n",
+            aircraft,
+            rules,
             0,
             "optimal 60\nA1: F1\n",
         ),
-    ] {
-        let ends = ends_so(
-            rt.alloc(),
-            records,
-            "A1,P,BGO,2025-03-02T00:00,0,,,\n",
-            "[[airport]]\nname = \"BGO\"\noffset = -60\nturn = 20\n\
-[[curfew]]\nairport = \"BGO\"\nfrom = \"23:00\"\nto = \"23:59\"\ntypes = []\nstart = true\nlanding = false\n",
-            status,
-            printed,
-        )?;
-        assert!(rt; ends, "{records}");
-    }
-    Ok(())
+    ];
+    each_ends_so(&rt, rt.alloc(), &cases)
 }
 
 // Time on the ground has no curfew.

@@ -14,7 +14,9 @@ fits n most_fly most_band fly band some sums few_fly few_band =
 
 pub overflow_add-result : goal.overflow_add-result
 overflow_add-result c =
+    let most : c.connection_cost.result ≤ c.args.table.now.band_max =
+    c.connection_cost.ensures.most c.args.table.now.band_max (rw (c.deref.ensures.value, ← c.table.view_is) c.table.invariant.bands) in
     let few : c.activity_cost.result + c.connection_cost.result < 2 ^ 64 =
     fits c.args.table.now.n c.args.table.now.fly_max c.args.table.now.band_max c.activity_cost.result c.connection_cost.result
-    (omega (arith, c.requires.table.activities, c.requires.activity)) c.table_is_sound.ensures.sums c.activity_cost.ensures.most c.connection_cost.ensures.most in
+    (omega (arith, c.requires.table.activities, c.requires.activity)) c.every_cost_table_is_sound.ensures.sums c.activity_cost.ensures.most most in
     omega (arith, few)
