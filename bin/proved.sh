@@ -1,6 +1,7 @@
 # Builds a proved program where its sources have changed since the last build, and then runs it. The scripts beside this
 # one source it. Each is named after its program, and sets `first_run`, the words on which the program is run once it is
-# built, in the program's folder, and `read_options`, the options that name a file to read.
+# built, in the program's folder, `read_options`, the options that name a file to read, and `value_options`, those that
+# are followed by any other value.
 # Only the program writes to standard output. Status 70: the program could not be built.
 # shellcheck shell=bash
 
@@ -9,6 +10,7 @@ set -u
 top=$(dirname "$(dirname "$(readlink -f "${BASH_SOURCE[0]}")")")
 first_run=()
 read_options=()
+value_options=()
 # How long the build may be silent, in seconds.
 silence=20
 
@@ -115,6 +117,11 @@ names_a_file() {
     [[ " ${read_options[*]} " = *" $1 "* ]]
 }
 
+# Whether an option is followed by a value that names no file to read.
+takes_a_value() {
+    [[ " ${value_options[*]} " = *" $1 "* ]]
+}
+
 # Why each of the files that the words name can't be read, for those that can't. It opens none of them.
 find_unreadable() {
     local word has_options=yes
@@ -132,6 +139,10 @@ find_unreadable() {
                 word=${word#*=}
                 ;;
             yes-?*)
+                if takes_a_value "$word" && [ "$#" -gt 0 ]; then
+                    shift
+                    continue
+                fi
                 if ! names_a_file "$word" || [ "$#" -eq 0 ]; then
                     continue
                 fi
