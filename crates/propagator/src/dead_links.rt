@@ -18,8 +18,8 @@ ghost use Rattle.propagator.specs.inside.Cutting.{AreFloorsOf, NothingNewFollows
 use crate::adding::add_next;
 use crate::floor_row::FloorRow;
 use crate::floors::goes_on_over;
-use crate::suspects::is_suspect;
 use crate::laws::{cuts_make_nothing_follow, cuts_take_no_floor, successors_are_of_book};
+use crate::suspects::is_suspect;
 use branch_marks::laws::{alive_decides, floors_count, usable_decides};
 use branch_marks::{Fact, Marks};
 use connection_net::Net;

@@ -10,7 +10,8 @@ ghost use Rattle.branch_marks.specs.inside.MarkTables.{AreMarksOf};
 ghost use Rattle.branch_marks.specs.Following.{IsShut};
 ghost use Rattle.propagator.specs.Closed.{IsClosedAt};
 ghost use Rattle.propagator.specs.InTurn.{GrowInTurn};
-ghost use Rattle.propagator.specs.Keeping.{IsKeptFor};
+ghost use Rattle.tail_book.specs.Seen.{BookSeen};
+ghost use Rattle.propagator.specs.Keeping.{IsKeptFor, IsMadeFor};
 
 use crate::closing::{all_rows, close_with};
 use crate::floor_row::FloorRow;
@@ -54,6 +55,13 @@ impl Propagator {
             work,
             seen: None,
         })
+    }
+
+    /// Forgets the marks that were shut, so that it can be used for any marks of its book again.
+    pub fn forget(&mut self)
+        ensures { (book : BookSeen) → IsMadeFor book self.old → (facts : List MarkFact) → IsKeptFor book facts self.new }
+    {
+        self.seen = None;
     }
 
     /// Adds all facts that follow from marks, to the marks and at the end of a list, and tells whether then each activity

@@ -76,13 +76,7 @@ fn note(book: &Book, fact: Fact, leave: &mut [bool], arrive: &mut [bool], pass: 
 }
 
 // Notes the links that facts may have taken from somebody.
-fn note_all(
-    book: &Book,
-    facts: &[Fact],
-    leave: &mut [bool],
-    arrive: &mut [bool],
-    pass: &mut [u32],
-)
+fn note_all(book: &Book, facts: &[Fact], leave: &mut [bool], arrive: &mut [bool], pass: &mut [u32])
     requires facts { All (IsFactOf book.now) facts.now }
     requires leave { length leave.old ≡ activities book.now }
     requires arrive { length arrive.old ≡ activities book.now }
