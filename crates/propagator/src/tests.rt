@@ -169,7 +169,7 @@ fn marks(alloc: Global, book: &Book, facts: &[Fact]) -> Result<Marks, Fail>
     Ok(marks)
 }
 
-// What is added to marks with these facts, behind one that the list has already, and the answer.
+// What is added to marks with these facts, and the answer.
 fn closed(alloc: Global, book: &Book, facts: &[Fact]) -> Result<(Vec<Fact>, Closed), Fail> {
     let net = Net::new(alloc, book)?;
     let mut marks = marks(alloc, book, facts)?;
@@ -178,98 +178,129 @@ fn closed(alloc: Global, book: &Book, facts: &[Fact]) -> Result<(Vec<Fact>, Clos
     Ok((list, answer))
 }
 
+// Whether just these facts are added to marks with some, in this order, with this answer.
+fn adds(
+    alloc: Global,
+    book: &Book,
+    facts: &[Fact],
+    want: &[Fact],
+    told: Closed,
+) -> Result<bool, Fail> {
+    let (list, answer) = closed(alloc, book, facts)?;
+    Ok(list.as_slice() == want && answer == told)
+}
+
+// Whether this fact is the first that is added to marks with some, with this answer.
+fn adds_first(
+    alloc: Global,
+    book: &Book,
+    facts: &[Fact],
+    want: Fact,
+    told: Closed,
+) -> Result<bool, Fail> {
+    let (list, answer) = closed(alloc, book, facts)?;
+    Ok(list.first().copied() == Some(want) && answer == told)
+}
+
+// Whether this is the answer for marks with some facts.
+fn tells(alloc: Global, book: &Book, facts: &[Fact], told: Closed) -> Result<bool, Fail> {
+    let (_, answer) = closed(alloc, book, facts)?;
+    Ok(answer == told)
+}
+
 // The second of two flights leaves a minute before the turn ends: it is dead on arrival, and that is found before the
-// only carrier is given the first; so the second has nobody. A minute later nothing is dead.
+// only carrier is given the first; so the second has nobody.
 #[test]
 fn floors_come_before_carriers(rt: HostRuntime) -> Result<(), Fail> {
-    let (late, soon) = (
-        turning(rt.alloc(), 30, &[360, 450])?,
-        turning(rt.alloc(), 31, &[360, 450])?,
-    );
-    let (list, answer) = closed(rt.alloc(), &soon, &[])?;
-    assert_eq!(rt;
-        list.as_slice(),
-        [Fact::Bar(0, 1), Fact::Must(0, 0)].as_slice()
-    );
-    assert_eq!(rt; answer, Closed::Hole(1));
-    let (list, answer) = closed(rt.alloc(), &late, &[])?;
-    assert_eq!(rt;
-        list.as_slice(),
-        [Fact::Must(0, 0), Fact::Must(0, 1)].as_slice()
-    );
-    assert_eq!(rt; answer, Closed::Fixed);
+    let book = turning(rt.alloc(), 31, &[360, 450])?;
+    let want = [Fact::Bar(0, 1), Fact::Must(0, 0)];
+    assert!(rt; adds(rt.alloc(), &book, &[], &want, Closed::Hole(1))?);
+    Ok(())
+}
+
+// A minute later nothing is dead.
+#[test]
+fn turns_that_fit_leave_both(rt: HostRuntime) -> Result<(), Fail> {
+    let book = turning(rt.alloc(), 30, &[360, 450])?;
+    let want = [Fact::Must(0, 0), Fact::Must(0, 1)];
+    assert!(rt; adds(rt.alloc(), &book, &[], &want, Closed::Fixed)?);
     Ok(())
 }
 
 // With the first flight a Must, the third comes after three hours in the air: dead on arrival, where the stop at the base
-// is a minute too short to clear the counter, and not where it is long enough.
+// is a minute too short to clear the counter.
 #[test]
-fn stops_at_bases_clear_floors(rt: HostRuntime) -> Result<(), Fail> {
-    let (short, long) = (
-        counting(rt.alloc(), &[360, 450, 569, 660])?,
-        counting(rt.alloc(), &[360, 450, 570, 660])?,
-    );
-    let (list, answer) = closed(rt.alloc(), &short, &[Fact::Must(0, 0)])?;
-    assert_eq!(rt; list.first().copied(), Some(Fact::Bar(0, 2)));
-    assert_eq!(rt; answer, Closed::Hole(2));
-    let (list, answer) = closed(rt.alloc(), &long, &[Fact::Must(0, 0)])?;
-    assert_eq!(rt;
-        list.as_slice(),
-        [Fact::Must(0, 1), Fact::Must(0, 2), Fact::Must(0, 3)].as_slice()
-    );
-    assert_eq!(rt; answer, Closed::Fixed);
+fn short_stops_clear_no_floors(rt: HostRuntime) -> Result<(), Fail> {
+    let book = counting(rt.alloc(), &[360, 450, 569, 660])?;
+    let (facts, want) = ([Fact::Must(0, 0)], Fact::Bar(0, 2));
+    assert!(rt; adds_first(rt.alloc(), &book, &facts, want, Closed::Hole(2))?);
     Ok(())
 }
 
-// Of two flights at the same time the second is a Must: the first is a dead end. Without the Must it is none, since the
-// aircraft may end there.
+// And not where it is long enough.
+#[test]
+fn stops_at_bases_clear_floors(rt: HostRuntime) -> Result<(), Fail> {
+    let book = counting(rt.alloc(), &[360, 450, 570, 660])?;
+    let want = [Fact::Must(0, 1), Fact::Must(0, 2), Fact::Must(0, 3)];
+    assert!(rt; adds(rt.alloc(), &book, &[Fact::Must(0, 0)], &want, Closed::Fixed)?);
+    Ok(())
+}
+
+// Of two flights at the same time the second is a Must: the first is a dead end.
 #[test]
 fn ends_are_dead_where_more_must_come(rt: HostRuntime) -> Result<(), Fail> {
     let book = side_by_side(rt.alloc())?;
-    for (facts, want, hole) in [
-        (
-            [Fact::Must(0, 1)].as_slice(),
-            Fact::Bar(0, 0),
-            Closed::Hole(0),
-        ),
-        (
-            [Fact::Must(0, 0)].as_slice(),
-            Fact::Bar(0, 1),
-            Closed::Hole(1),
-        ),
-        ([].as_slice(), Fact::Must(0, 0), Closed::Hole(1)),
-    ] {
-        let (list, answer) = closed(rt.alloc(), &book, facts)?;
-        assert_eq!(rt; list.first().copied(), Some(want), "{facts:?}");
-        assert_eq!(rt; answer, hole, "{facts:?}");
-    }
+    let (facts, want) = ([Fact::Must(0, 1)], Fact::Bar(0, 0));
+    assert!(rt; adds_first(rt.alloc(), &book, &facts, want, Closed::Hole(0))?);
+    Ok(())
+}
+
+// Where the first is a Must, the second cannot be reached.
+#[test]
+fn nothing_comes_beside_a_must(rt: HostRuntime) -> Result<(), Fail> {
+    let book = side_by_side(rt.alloc())?;
+    let (facts, want) = ([Fact::Must(0, 0)], Fact::Bar(0, 1));
+    assert!(rt; adds_first(rt.alloc(), &book, &facts, want, Closed::Hole(1))?);
+    Ok(())
+}
+
+// Without a Must neither is a dead end, since the aircraft may end there.
+#[test]
+fn ends_are_free_without_a_must(rt: HostRuntime) -> Result<(), Fail> {
+    let book = side_by_side(rt.alloc())?;
+    assert!(rt; adds_first(rt.alloc(), &book, &[], Fact::Must(0, 0), Closed::Hole(1))?);
     Ok(())
 }
 
 // Back after the hour's flight passes the limit, and after that of half an hour it does not: so the one connection is cut,
-// for both aircraft. Where one of them must fly the long one, it cannot come back: the way back is dead for it before the
-// other flight is, since the last come first.
+// for both aircraft.
 #[test]
 fn connections_that_nobody_can_use_are_cut(rt: HostRuntime) -> Result<(), Fail> {
     let book = two_ways(rt.alloc())?;
-    for (facts, want) in [
-        ([].as_slice(), [Fact::Cut(0, 2)].as_slice()),
-        ([Fact::Cut(0, 2)].as_slice(), [].as_slice()),
-        (
-            [Fact::Must(0, 0)].as_slice(),
-            [
-                Fact::Bar(0, 2),
-                Fact::Bar(0, 1),
-                Fact::Must(1, 1),
-                Fact::Must(1, 2),
-            ]
-            .as_slice(),
-        ),
-    ] {
-        let (list, answer) = closed(rt.alloc(), &book, facts)?;
-        assert_eq!(rt; list.as_slice(), want, "{facts:?}");
-        assert_eq!(rt; answer, Closed::Fixed, "{facts:?}");
-    }
+    assert!(rt; adds(rt.alloc(), &book, &[], &[Fact::Cut(0, 2)], Closed::Fixed)?);
+    Ok(())
+}
+
+// It is cut once.
+#[test]
+fn connections_are_cut_once(rt: HostRuntime) -> Result<(), Fail> {
+    let book = two_ways(rt.alloc())?;
+    assert!(rt; adds(rt.alloc(), &book, &[Fact::Cut(0, 2)], &[], Closed::Fixed)?);
+    Ok(())
+}
+
+// Where one aircraft must fly the long one, it cannot come back: the way back is dead for it before the other flight is,
+// since the last come first.
+#[test]
+fn the_last_dead_come_first(rt: HostRuntime) -> Result<(), Fail> {
+    let book = two_ways(rt.alloc())?;
+    let want = [
+        Fact::Bar(0, 2),
+        Fact::Bar(0, 1),
+        Fact::Must(1, 1),
+        Fact::Must(1, 2),
+    ];
+    assert!(rt; adds(rt.alloc(), &book, &[Fact::Must(0, 0)], &want, Closed::Fixed)?);
     Ok(())
 }
 
@@ -277,37 +308,66 @@ fn connections_that_nobody_can_use_are_cut(rt: HostRuntime) -> Result<(), Fail> 
 #[test]
 fn the_least_hole_is_told(rt: HostRuntime) -> Result<(), Fail> {
     let book = turning(rt.alloc(), 40, &[360, 450, 560, 700])?;
-    for (facts, hole) in [
-        ([].as_slice(), Closed::Hole(1)),
-        ([Fact::Bar(0, 0)].as_slice(), Closed::Hole(0)),
-        (
-            [Fact::Bar(0, 3), Fact::Bar(0, 2)].as_slice(),
-            Closed::Hole(1),
-        ),
-    ] {
-        let (_, answer) = closed(rt.alloc(), &book, facts)?;
-        assert_eq!(rt; answer, hole, "{facts:?}");
-    }
+    assert!(rt; tells(rt.alloc(), &book, &[], Closed::Hole(1))?);
     Ok(())
+}
+
+// Also where it is the first.
+#[test]
+fn the_first_hole_is_told(rt: HostRuntime) -> Result<(), Fail> {
+    let book = turning(rt.alloc(), 40, &[360, 450, 560, 700])?;
+    assert!(rt; tells(rt.alloc(), &book, &[Fact::Bar(0, 0)], Closed::Hole(0))?);
+    Ok(())
+}
+
+// And where others were barred before.
+#[test]
+fn holes_of_later_bars_are_not_told(rt: HostRuntime) -> Result<(), Fail> {
+    let book = turning(rt.alloc(), 40, &[360, 450, 560, 700])?;
+    let facts = [Fact::Bar(0, 3), Fact::Bar(0, 2)];
+    assert!(rt; tells(rt.alloc(), &book, &facts, Closed::Hole(1))?);
+    Ok(())
+}
+
+// The facts of marks that are closed so many times, behind a list, and the last answer.
+fn closed_again(
+    alloc: Global,
+    book: &Book,
+    again: bool,
+    list: &mut Vec<Fact>,
+) -> Result<(Vec<Fact>, Closed), Fail> {
+    let net = Net::new(alloc, book)?;
+    let mut marks = Marks::new(alloc, book)?;
+    let mut answer = close(alloc, book, &net, &mut marks, list)?;
+    if again {
+        answer = close(alloc, book, &net, &mut marks, list)?;
+    }
+    Ok((Vec::from_slice(alloc, marks.facts())?, answer))
+}
+
+// Whether marks then have what follows, and the list has it behind what it had.
+fn grows_at_end(alloc: Global, again: bool) -> Result<bool, Fail> {
+    let book = turning(alloc, 31, &[360, 450])?;
+    let mut list = vec![in alloc; Fact::Tie(5, 6)]?;
+    let (facts, answer) = closed_again(alloc, &book, again, &mut list)?;
+    let want = [Fact::Tie(5, 6), Fact::Bar(0, 1), Fact::Must(0, 0)];
+    Ok(
+        list.as_slice() == want.as_slice()
+            && facts.as_slice() == &want[1..]
+            && answer == Closed::Hole(1),
+    )
 }
 
 // What a list has already stays at its front.
 #[test]
 fn lists_grow_at_their_end(rt: HostRuntime) -> Result<(), Fail> {
-    let book = turning(rt.alloc(), 31, &[360, 450])?;
-    let net = Net::new(rt.alloc(), &book)?;
-    let mut marks = marks(rt.alloc(), &book, &[])?;
-    let mut list = vec![in rt.alloc(); Fact::Tie(5, 6)]?;
-    close(rt.alloc(), &book, &net, &mut marks, &mut list)?;
-    assert_eq!(rt;
-        list.as_slice(),
-        [Fact::Tie(5, 6), Fact::Bar(0, 1), Fact::Must(0, 0)].as_slice()
-    );
-    assert_eq!(rt;
-        marks.facts(),
-        [Fact::Bar(0, 1), Fact::Must(0, 0)].as_slice()
-    );
-    let more = close(rt.alloc(), &book, &net, &mut marks, &mut list)?;
-    assert_eq!(rt; (more, list.len()), (Closed::Hole(1), 3));
+    assert!(rt; grows_at_end(rt.alloc(), false)?);
+    Ok(())
+}
+
+// A second call adds nothing, and answers the same.
+#[test]
+fn shut_marks_stay_as_they_are(rt: HostRuntime) -> Result<(), Fail> {
+    assert!(rt; grows_at_end(rt.alloc(), true)?);
     Ok(())
 }

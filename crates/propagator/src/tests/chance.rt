@@ -498,6 +498,16 @@ struct Seen {
 }
 
 impl Seen {
+    fn new() -> Seen {
+        Seen {
+            bars: 0,
+            musts: 0,
+            cuts: 0,
+            plans: 0,
+            fixed: 0,
+        }
+    }
+
     fn count(&mut self, fact: &Fact) {
         match *fact {
             Fact::Bar(_, _) => self.bars = self.bars.saturating_add(1),
@@ -505,48 +515,83 @@ impl Seen {
             _ => self.cuts = self.cuts.saturating_add(1),
         }
     }
+
+    fn note(&mut self, added: &[Fact], plans: u32, answer: Closed) {
+        for fact in added {
+            self.count(fact);
+        }
+        self.plans = self.plans.saturating_add(plans);
+        self.fixed = self.fixed.saturating_add((answer == Closed::Fixed) as u32);
+    }
+
+    fn is_often(&self) -> bool {
+        self.bars > 1000 && self.musts > 100 && self.cuts > 20
+    }
+
+    fn is_varied(&self) -> bool {
+        self.is_often() && self.plans > 20 && self.fixed > 20 && self.fixed < 280
+    }
+}
+
+// What is found of a book: whether each fact that was added followed in its turn and none is left, whether each legal plan
+// that keeps the marks keeps these facts, and whether the answer is right.
+#[derive(Debug, PartialEq, Drop)]
+struct Judged {
+    follow: bool,
+    keep: bool,
+    told: bool,
+}
+
+const RIGHT: Judged = Judged {
+    follow: true,
+    keep: true,
+    told: true,
+};
+
+// The facts of two lists.
+fn both(alloc: Global, facts: &[Fact], added: &[Fact]) -> Result<Vec<Fact>, Memory> {
+    let mut all = Vec::from_slice(alloc, facts)?;
+    for fact in added {
+        all.push(*fact)?;
+    }
+    Ok(all)
+}
+
+// What is found of a book with some facts, to which these were added, and what there was to be found.
+fn judge(
+    alloc: Global,
+    book: &Book,
+    facts: &[Fact],
+    added: &[Fact],
+    answer: Closed,
+    seen: &mut Seen,
+) -> Result<Judged, Memory> {
+    let (found, lost) = plans(book, facts, added);
+    let all = both(alloc, facts, added)?;
+    seen.note(added, found, answer);
+    Ok(Judged {
+        follow: is_closed(alloc, book, facts, added)?,
+        keep: !lost,
+        told: answer == least_hole(book, &all),
+    })
+}
+
+fn judge_by_chance(alloc: Global, dice: &mut Dice, seen: &mut Seen) -> Result<Judged, Fail> {
+    let book = book_by_chance(alloc, dice)?;
+    let facts = of_book(alloc, &book, &facts_by(alloc, dice)?)?;
+    let (added, answer) = closed(alloc, &book, &facts)?;
+    Ok(judge(alloc, &book, &facts, &added, answer, seen)?)
 }
 
 // 300 books with up to three facts. Each kind of fact is added often, there are plans to be lost, and both answers come.
 #[test]
 fn closed_as_the_rules_say(rt: HostRuntime) -> Result<(), Fail> {
-    let (mut dice, mut seen) = (
-        Dice::new(3),
-        Seen {
-            bars: 0,
-            musts: 0,
-            cuts: 0,
-            plans: 0,
-            fixed: 0,
-        },
-    );
+    let (mut dice, mut seen) = (Dice::new(3), Seen::new());
     for round in 0..300 {
-        let book = book_by_chance(rt.alloc(), &mut dice)?;
-        let facts = of_book(rt.alloc(), &book, &facts_by(rt.alloc(), &mut dice)?)?;
-        let (added, answer) = closed(rt.alloc(), &book, &facts)?;
-        assert!(rt;
-            is_closed(rt.alloc(), &book, &facts, &added)?,
-            "{round}: {facts:?} {added:?}"
-        );
-        let (found, lost) = plans(&book, &facts, &added);
-        assert!(rt; !lost, "{round}: {facts:?} {added:?}");
-        let mut all = Vec::from_slice(rt.alloc(), &facts)?;
-        for fact in &added {
-            seen.count(fact);
-            all.push(*fact)?;
-        }
-        assert_eq!(rt; answer, least_hole(&book, &all), "{round}: {all:?}");
-        seen.plans = seen.plans.saturating_add(found);
-        seen.fixed = seen.fixed.saturating_add((answer == Closed::Fixed) as u32);
+        let judged = judge_by_chance(rt.alloc(), &mut dice, &mut seen)?;
+        assert_eq!(rt; judged, RIGHT, "{round}");
     }
-    assert!(rt;
-        seen.bars > 1000 && seen.musts > 100 && seen.cuts > 20,
-        "{seen:?}"
-    );
-    assert!(rt;
-        seen.plans > 20 && seen.fixed > 20 && seen.fixed < 280,
-        "{seen:?}"
-    );
+    assert!(rt; seen.is_varied(), "{seen:?}");
     Ok(())
 }
 
@@ -564,45 +609,61 @@ fn add(book: &Book, marks: &mut Marks, kept: &Propagator, fact: Fact) -> Result<
     Ok(())
 }
 
-// What follows by a propagator that is kept, and what follows anew from the same facts.
-fn followed(
+// Whether just these facts follow from marks anew, with this answer, and as the rules say.
+fn follow_anew(
     alloc: Global,
     book: &Book,
     net: &Net,
-    marks: &mut Marks,
-    kept: &mut Propagator,
-) -> Result<((Vec<Fact>, Closed), (Vec<Fact>, Closed)), Memory>
+    mut marks: Marks,
+    list: &[Fact],
+    answer: Closed,
+) -> Result<bool, Memory>
     requires net { net.now ≡ net_of book.now }
-    requires marks { AreMarksOf book.now marks.old }
-    requires kept { IsKeptFor book.now marks.old.facts kept.old }
-    ensures marks { AreMarksOf book.now marks.new }
-    ensures kept { IsKeptFor book.now marks.new.facts kept.new }
+    requires marks { AreMarksOf book.now marks }
 {
-    let (mut same, mut list, mut anew) = (marks.copy()?, Vec::new(alloc), Vec::new(alloc));
-    let answer = kept.close(book, net, marks, &mut list)?;
-    let told = close(alloc, book, net, &mut same, &mut anew)?;
-    Ok(((list, answer), (anew, told)))
+    let before = Vec::from_slice(alloc, marks.facts())?;
+    let mut anew = Vec::new(alloc);
+    let told = close(alloc, book, net, &mut marks, &mut anew)?;
+    Ok(answer == told && are_same(list, &anew) && is_closed(alloc, book, &before, list)?)
 }
 
 fn are_same(facts: &[Fact], others: &[Fact]) -> bool {
     facts.len() == others.len() && facts.iter().all(|fact| others.contains(fact))
 }
 
-// Facts that come one at a time: how many follow by a propagator that is kept, and whether ever something else followed
-// than anew, or than the rules say.
+// How many facts follow by a propagator that is kept, and whether the same follow anew, and as the rules say.
+fn follow(
+    alloc: Global,
+    book: &Book,
+    net: &Net,
+    marks: &mut Marks,
+    kept: &mut Propagator,
+) -> Result<(usize, bool), Memory>
+    requires net { net.now ≡ net_of book.now }
+    requires marks { AreMarksOf book.now marks.old }
+    requires kept { IsKeptFor book.now marks.old.facts kept.old }
+    ensures marks { AreMarksOf book.now marks.new }
+    ensures kept { IsKeptFor book.now marks.new.facts kept.new }
+{
+    let (before, mut list) = (marks.copy()?, Vec::new(alloc));
+    let answer = kept.close(book, net, marks, &mut list)?;
+    let same = follow_anew(alloc, book, net, before, &list, answer)?;
+    Ok((list.len(), same))
+}
+
+// Facts that come one at a time: how many follow by a propagator that is kept, and whether always the same follow anew,
+// and as the rules say.
 fn follow_each(alloc: Global, book: &Book, dice: &mut Dice) -> Result<(usize, bool), Memory> {
     let net = Net::new(alloc, book)?;
     let (mut marks, mut kept) = (Marks::new(alloc, book)?, Propagator::new(alloc, book)?);
-    let (mut many, mut other) = (0usize, false);
-    for _ in 0..6 {
+    let (mut many, mut same) = (0usize, true);
+    for _turn in 0..6 {
         add(book, &mut marks, &kept, fact_by(dice))?;
-        let before = Vec::from_slice(alloc, marks.facts())?;
-        let ((list, answer), (anew, told)) = followed(alloc, book, &net, &mut marks, &mut kept)?;
-        other |= answer != told || !are_same(&list, &anew);
-        other |= !is_closed(alloc, book, &before, &list)?;
-        many = many.saturating_add(list.len());
+        let (more, right) = follow(alloc, book, &net, &mut marks, &mut kept)?;
+        many = many.saturating_add(more);
+        same &= right;
     }
-    Ok((many, other))
+    Ok((many, same))
 }
 
 // 200 books, with up to six facts that come one at a time: what follows is what follows anew, and what the rules say.
@@ -611,10 +672,41 @@ fn kept_is_as_made_anew(rt: HostRuntime) -> Result<(), Fail> {
     let (mut dice, mut many) = (Dice::new(11), 0usize);
     for round in 0..200 {
         let book = book_by_chance(rt.alloc(), &mut dice)?;
-        let (more, other) = follow_each(rt.alloc(), &book, &mut dice)?;
-        assert!(rt; !other, "{round}");
+        let (more, same) = follow_each(rt.alloc(), &book, &mut dice)?;
+        assert!(rt; same, "{round}");
         many = many.saturating_add(more);
     }
     assert!(rt; many > 1000, "{many}");
+    Ok(())
+}
+
+// What follows from marks with one fact each by one propagator, which forgets the marks before: how many follow, and
+// whether always the same follow anew, and as the rules say.
+fn follow_apart(alloc: Global, book: &Book, dice: &mut Dice) -> Result<(usize, bool), Memory> {
+    let net = Net::new(alloc, book)?;
+    let mut kept = Propagator::new(alloc, book)?;
+    let (mut many, mut same) = (0usize, true);
+    for _turn in 0..3 {
+        let mut marks = Marks::new(alloc, book)?;
+        kept.forget();
+        add(book, &mut marks, &kept, fact_by(dice))?;
+        let (more, right) = follow(alloc, book, &net, &mut marks, &mut kept)?;
+        many = many.saturating_add(more);
+        same &= right;
+    }
+    Ok((many, same))
+}
+
+// 100 books, three times marks of their own for each, by a propagator that forgets those before.
+#[test]
+fn forgotten_is_as_made_anew(rt: HostRuntime) -> Result<(), Fail> {
+    let (mut dice, mut many) = (Dice::new(17), 0usize);
+    for round in 0..100 {
+        let book = book_by_chance(rt.alloc(), &mut dice)?;
+        let (more, same) = follow_apart(rt.alloc(), &book, &mut dice)?;
+        assert!(rt; same, "{round}");
+        many = many.saturating_add(more);
+    }
+    assert!(rt; many > 300, "{many}");
     Ok(())
 }
