@@ -21,3 +21,4 @@ pub mod SetFlags
 pub mod RenewedFloors
 pub mod MovedFloors
 pub mod StillGoing
+pub mod Noting

@@ -188,12 +188,12 @@ module _ (alive : AliveDecides) (usable : UsableDecides) (limits : LimitsDecide)
   went_on shut dead = elim (cases_Bool (some_below (λ j. goes_with book old j a b (floor_of book old j a)) (aircraft book))) [
     | inl some ↦ at_some (λ j. goes_with book old j a b (floor_of book old j a)) (aircraft book) some
     | inr none ↦ absurd (shut (Cut a b) dead.of_book (record {
-        of_book = dead.of_book;
-        new = λ has. dead.new (Contains-append_left old since (Cut a b) has);
-        usable = (let (k, lt, link) = dead.usable in (k, lt, usable_before book old since k a b link));
-        dead = λ j lt link. cannot j (floor_of book old j a)
-            (none_below (λ i. goes_with book old i a b (floor_of book old i a)) (aircraft book) none j lt) link;
-      }))
+      of_book = dead.of_book;
+      new = λ has. dead.new (Contains-append_left old since (Cut a b) has);
+      usable = (let (k, lt, link) = dead.usable in (k, lt, usable_before book old since k a b link));
+      dead = λ j lt link. cannot j (floor_of book old j a)
+          (none_below (λ i. goes_with book old i a b (floor_of book old i a)) (aircraft book) none j lt) link;
+    }))
   ]
 
   goes_low : (j : ℕ) (floor : Option (List ℤ)) → goes_with book old j a b floor ≡ true

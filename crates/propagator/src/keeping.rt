@@ -82,8 +82,7 @@ impl Propagator {
         ensures answer { IfOk result (IsClosedAt book.now marks.new.facts) }
         ensures kept { IsKeptFor book.now marks.new.facts self.new }
     {
-        let seen = self.seen;
-        self.seen = None;
+        let seen = self.seen.take();
         close_with(
             book,
             net,

@@ -5,12 +5,13 @@
 //! for the links over its activity. Or the aircraft comes to the first activity with another floor: then the activity is
 //! flagged while floors are renewed. So a link is asked by two flags and a number, and most are passed over.
 
-ghost use Rattle.std.specs.Prelude.{◌≡◌, ◌<◌, ◌≤◌, ℕ, All, IfSome, length, slice_index_or};
+ghost use Rattle.std.specs.Prelude.{◌≡◌, ◌<◌, ◌≤◌, ℕ, All, IfSome, true, length, slice_index_or};
 ghost use Rattle.tail_book.specs.Lookup.{activities};
 ghost use Rattle.branch_marks.specs.Facts.{IsFactOf};
 ghost use Rattle.branch_marks.specs.inside.MarkTables.{AreMarksOf};
 ghost use Rattle.propagator.specs.inside.Moves.{KeepsFlags};
 ghost use Rattle.propagator.specs.inside.Suspects.{is_suspect, AreNoted, IsNoted, LowersPasses};
+ghost use Rattle.propagator.specs.inside.Touching.{is_set};
 ghost use Rattle.propagator.specs.inside.Work.{IsWorkOf};
 
 use crate::flags::{clear, set, set_each};
@@ -46,6 +47,19 @@ fn note_over(c: u32, pass: &mut [u32])
     }
 }
 
+// Notes the links from an activity, and those to one.
+fn note_ends(c: u32, d: u32, leave: &mut [bool], arrive: &mut [bool])
+    requires leave { c < length leave.old }
+    requires arrive { d < length arrive.old }
+    ensures leave { is_set leave.new c ≡ true }
+    ensures arrive { is_set arrive.new d ≡ true }
+    ensures leaves { KeepsFlags leave.old leave.new }
+    ensures arrives { KeepsFlags arrive.old arrive.new }
+{
+    set(c, leave);
+    set(d, arrive);
+}
+
 // Notes the links that a fact may have taken from somebody.
 fn note(book: &Book, fact: Fact, leave: &mut [bool], arrive: &mut [bool], pass: &mut [u32])
     requires fact { IsFactOf book.now fact }
@@ -58,20 +72,13 @@ fn note(book: &Book, fact: Fact, leave: &mut [bool], arrive: &mut [bool], pass: 
     ensures lowers { LowersPasses pass.old pass.new }
 {
     match fact {
-        Fact::Bar(_, c) => {
-            set(c, leave);
-            set(c, arrive);
-        }
+        Fact::Bar(_, c) => note_ends(c, c, leave, arrive),
         Fact::Must(_, c) => {
-            set(c, leave);
-            set(c, arrive);
+            note_ends(c, c, leave, arrive);
             note_over(c, pass);
         }
         Fact::Cut(_, _) => (),
-        Fact::Tie(c, d) => {
-            set(c, leave);
-            set(d, arrive);
-        }
+        Fact::Tie(c, d) => note_ends(c, d, leave, arrive),
     }
 }
 
