@@ -21,4 +21,3 @@ pub mod SetFlags
 pub mod RenewedFloors
 pub mod MovedFloors
 pub mod StillGoing
-pub mod Noting

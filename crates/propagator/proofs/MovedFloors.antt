@@ -3,7 +3,8 @@ use Rattle.std.specs.Prelude.{◌≢◌, ◌⊎◌, nat_eq}
 use Rattle.std.proofs.Common.{◌≡◌, ◌∙◌, ℕ, ℤ, ◌<◌, Bool, true, false, inl, inr, List, [], ◌∷◌, length, get_or, refl, sym, ap, subst, arith, Option, None}
 use Rattle.std.proofs.lemmas.Bool.{both_ways, true_from_ne_false, or_left, eq-eqb}
 use Rattle.std.proofs.lemmas.Bool.Decides.{eqb_tells}
-use Rattle.std.proofs.lemmas.List.{get_or_default}
+use Rattle.std.proofs.Math.ListN.{set}
+use Rattle.std.proofs.lemmas.List.{get_or-set_same, get_or-set_other}
 use Rattle.tail_book.specs.Numbers.{contains}
 use Rattle.propagator.specs.inside.FloorRow.{FloorRowSeen, floor_in, floors_in, IsSetAt, ChangesOnly, no_row}
 use Rattle.propagator.specs.inside.Moves.{KeepsFlags, LosesFloors, MovesFloors, MovesAll}
@@ -92,3 +93,11 @@ all_of f g rows nexts k row next is become others moves = record {
         (subst (λ (listed : List (Option (List ℤ))). (floor_in next a ≡ get_or listed a None) ⊎ (floor_in next a ≡ None)) is (moves.floors a off)))
   ];
 }
+
+-- the row of one aircraft was written anew
+pub all_set : (f g : List Bool) (rows : List FloorRowSeen) (k : ℕ) (row next : FloorRowSeen) → k < length rows → row ≡ get_or rows k no_row
+    → MovesFloors f g row next → MovesAll f g rows (set rows k next)
+all_set f g rows k row next lt is moves =
+    all_of f g rows (set rows k next) k row next (ap (λ (r : FloorRowSeen). r.floors) is)
+    (ap (λ (r : FloorRowSeen). r.floors) (sym (get_or-set_same rows k next no_row lt)))
+    (λ j ne. ap (λ (r : FloorRowSeen). r.floors) (get_or-set_other rows k j next no_row ne)) moves

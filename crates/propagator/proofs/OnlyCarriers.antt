@@ -74,7 +74,7 @@ some_at p (suc n) k lt h = elim (cases_order k n) [
   ]
 ]
 
-at_some : (p : ℕ → Bool) (n : ℕ) → some_below p n ≡ true → (k : ℕ) × (k < n) × (p k ≡ true)
+pub at_some : (p : ℕ → Bool) (n : ℕ) → some_below p n ≡ true → (k : ℕ) × (k < n) × (p k ≡ true)
 at_some p zero h = absurd (both_ways false refl h)
 at_some p (suc n) h = elim (or_cases (p n) (some_below p n) h) [
   | inl t ↦ (n, omega arith, t)

@@ -1,9 +1,9 @@
 -- Where a connection is dead that was not, some aircraft went on over it before. It has lost the link since, and then the fact
 -- that took it is noted; or it comes to the first activity with another floor, and then this is flagged.
-use Rattle.std.specs.Prelude.{◌≢◌, ◌⊎◌, ◌&&◌, ◌||◌, not, nat_eq, nat_lt, nat_le, All, Contains, IfSome}
+use Rattle.std.specs.Prelude.{◌⊎◌, ◌&&◌, ◌||◌, not, nat_eq, nat_lt, nat_le, All, Contains, IfSome}
 use Rattle.std.proofs.Common.{◌≡◌, ◌∙◌, ℕ, zero, suc, ℤ, ◌<◌, ◌≤◌, ◌+◌, Bool, true, false, inl, inr, arith, List, [], ◌∷◌, ◌++◌, length, get_or, refl, sym, ap, subst, take, drop, append_assoc, append-nil, Option, None, Some}
 use Rattle.std.specs.List.{list_all}
-use Rattle.std.proofs.lemmas.Bool.{both_ways, cases_Bool, and_parts, and_from, or_left, or_right, ne_eqb, eq-eqb, ltb-true, ltb-false, lt-ltb, le-leb, cases_order}
+use Rattle.std.proofs.lemmas.Bool.{both_ways, cases_Bool, and_parts, and_from, or_left, or_right, ltb-true, ltb-false, lt-ltb, le-leb, cases_order}
 use Rattle.std.proofs.lemmas.Bool.Decides.{eqb_tells}
 use Rattle.std.proofs.lemmas.List.{length-append, get_or_append_left, take-append-drop}
 use Rattle.std.proofs.lemmas.List.Elements.{Contains-append_left, Contains-append_right, Contains-get_or}
@@ -15,7 +15,7 @@ use Rattle.tail_book.specs.inside.Tests.{within_limits, LimitsDecide}
 use Rattle.branch_marks.specs.declared.fact.Fact.{Fact}
 use Rattle.branch_marks.specs.declared.fact.Fact.TheVariants.{Bar, Must, Cut, Tie}
 use Rattle.branch_marks.specs.Marks.{IsAlive, IsUsable, LetsFly, LetsGo}
-use Rattle.branch_marks.specs.inside.MarkTests.{is_alive, is_before, is_usable, lets_fly, lets_go, AliveDecides, UsableDecides}
+use Rattle.branch_marks.specs.inside.MarkTests.{is_usable, lets_fly, lets_go, AliveDecides, UsableDecides}
 use Rattle.branch_marks.specs.inside.Below.{some_below}
 use Rattle.branch_marks.specs.Following.{CannotGoBy, IsDeadBy, IsDeadConnection, IsShut}
 use Rattle.propagator.specs.inside.LeastOver.{floor_of}
@@ -36,7 +36,7 @@ abbrev lets_link : ℕ → ℕ → ℕ → Fact → Bool
 lets_link j a b fact = lets_fly j a fact && (lets_fly j b fact && lets_go j (After a) b fact)
 
 fails_at : (p : Fact → Bool) (xs : List Fact) → list_all p xs ≡ false → (i : ℕ) × (i < length xs) × ((d : Fact) → p (get_or xs i d) ≡ false)
-fails_at p [] h = absurd (both_ways true refl h)
+fails_at p [] h = absurd (both_ways true h refl)
 fails_at p (x ∷ xs) h = elim (cases_Bool (p x)) [
   | inr off ↦ (0, omega arith, λ d. off)
   | inl on ↦ (let (i, lt, fails) = fails_at p xs (sym (ap (λ (t : Bool). t && list_all p xs) on) ∙ h) in (suc i, omega (arith, lt), fails))
@@ -95,8 +95,8 @@ module _ (leave arrive : List Bool) (pass : List ℕ) (j : ℕ) where
     | inl here ↦ (subst (λ (z : ℕ). is_set leave z ≡ true) here.1 noted.0, subst (λ (z : ℕ). is_set arrive z ≡ true) here.1 noted.1)
     | inr other ↦ absurd (both_ways (lets_fly j x (Must k c)) off (ap (λ (t : Bool). not t || nat_eq k j) other.0))
   ]
-  fly_noted x (Cut c d) noted off = absurd (both_ways true refl off)
-  fly_noted x (Tie c d) noted off = absurd (both_ways true refl off)
+  fly_noted x (Cut c d) noted off = absurd (both_ways true off refl)
+  fly_noted x (Tie c d) noted off = absurd (both_ways true off refl)
 
   module _ (a b : ℕ) where
     leaves : is_set leave a ≡ true → is_suspect leave arrive pass a b ≡ true
@@ -109,7 +109,7 @@ module _ (leave arrive : List Bool) (pass : List ℕ) (j : ℕ) where
     passes on = or_right (is_set leave a) (is_set arrive b || nat_lt (get_or pass a 0) b) (or_right (is_set arrive b) (nat_lt (get_or pass a 0) b) on)
 
     go_noted : (fact : Fact) → IsNoted leave arrive pass fact → lets_go j (After a) b fact ≡ false → (is_suspect leave arrive pass a b ≡ true) ⊎ (fact ≡ Cut a b)
-    go_noted (Bar k c) noted off = absurd (both_ways true refl off)
+    go_noted (Bar k c) noted off = absurd (both_ways true off refl)
     go_noted (Must k c) noted off = elim (cases_Bool (nat_lt a c)) [
       | inr before ↦ absurd (both_ways (lets_go j (After a) b (Must k c)) off (ap (λ (t : Bool). not t || nat_le b c) (and_off (nat_eq k j) (nat_lt a c) before)))
       | inl before ↦ elim (cases_Bool (nat_lt c b)) [
@@ -179,7 +179,7 @@ none_below p (suc n) h x lt = elim (cases_Bool (p n)) [
 module _ (alive : AliveDecides) (usable : UsableDecides) (limits : LimitsDecide) (book : BookSeen) (old since : List Fact) (a b : ℕ) where
   cannot : (j : ℕ) (floor : Option (List ℤ)) → goes_with book old j a b floor ≡ false → IsUsable book old j (After a) b → CannotGoBy book j a b floor
   cannot j None off link = tt
-  cannot j (Some low) off link within = both_ways (goes_on_to book old j a low b) off
+  cannot j (Some low) off link = λ within. both_ways (goes_on_to book old j a low b) off
       (and_from (is_usable book old j (After a) b) (within_limits book.rules.counters (step book j (After a) b low))
       ((usable book old j (After a) b).1 link) ((limits book.rules.counters (step book j (After a) b low)).1 within))
 
@@ -247,11 +247,11 @@ others_alive alive usable limits book facts more marks None rows next first move
     let within : a < activities book = dead.of_book.0 in
     both_ways (is_suspect leave arrive pass a b) off
     (or_left (is_set leave a) (is_set arrive b || nat_lt (get_or pass a 0) b) (noted a (omega (arith, within, all))))
-others_alive alive usable limits book facts more marks (Some n) rows next first moved leave arrive pass keeps grown moves stand noted all a b off =
+others_alive alive usable limits book facts more marks (Some n) rows next first moved leave arrive pass keeps grown moves stand noted all a b off dead =
     subst (λ (z : List Fact). ¬ IsDeadConnection book z a b) whole
     (not_dead alive usable limits book (take n marks) (drop n marks) a b leave arrive pass front.shut noted.1
     (λ j lt. subst (λ (z : List Fact). IsSettledFor book z j) (sym whole) (stand j lt).settled)
-    (λ j lt still. subst (λ (z : List Fact). (floor_of book z j a ≡ floor_of book (take n marks) j a) ⊎ (floor_of book z j a ≡ None)) (sym whole) (same j lt still)) off)
+    (λ j lt still. subst (λ (z : List Fact). (floor_of book z j a ≡ floor_of book (take n marks) j a) ⊎ (floor_of book z j a ≡ None)) (sym whole) (same j lt still)) off) dead
   where
     whole : take n marks ++ drop n marks ≡ marks
     whole = take-append-drop n marks

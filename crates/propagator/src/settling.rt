@@ -101,6 +101,7 @@ pub fn settle_at(
     ensures work { IsWorkOf book.now work.new }
     ensures moves { MovesAll work.old.leave.items work.new.leave.items rows.old rows.new }
 {
+    let row = &mut rows[k as usize];
     settle(
         book,
         net,
@@ -109,7 +110,7 @@ pub fn settle_at(
         facts,
         seen,
         k,
-        &mut rows[k as usize],
+        row,
         &mut work.due,
         &mut work.ask,
         &mut work.leave,

@@ -2,6 +2,7 @@ use Rattle.std.proofs.Common.{◌<◌, ◌∙◌, ◌++◌, List, ap, sym, subst
 use Rattle.branch_marks.specs.declared.fact.Fact.{Fact}
 use Rattle.propagator.specs.inside.Unnamed.{unnamed}
 use Rattle.propagator.proofs.InTurn.{grow_both}
+use Rattle.propagator.proofs.MovedFloors.{all_none}
 use Rattle.propagator.proofs.OnlyCarriers.{on_ok, carried, fewer_unnamed}
 use Rattle.propagator.proofs.carriers.carry.Goals as goal
 
@@ -27,3 +28,6 @@ returns-clause-fewer c =
     (λ _. subst (λ (marks : List Fact). unnamed c.args.book.now marks < unnamed c.args.book.now c.args.marks.now.facts)
     (sym (grown.marks ∙ ap (λ (marks : List Fact). marks ++ grown.added) c.in_ok-add_next.ensures.added)) less)
     c.settle_at.ensures.stands
+
+pub returns-in_err-add_next-clause-moves : goal.returns-in_err-add_next-clause-moves
+returns-in_err-add_next-clause-moves c = all_none c.args.work.now.leave.items c.args.rows.now
