@@ -1,3 +1,5 @@
+use Rattle.std.proofs.Common.{◌≡◌, ◌∙◌, ℕ, Bool, List, ap, rules}
+use Rattle.propagator.specs.inside.Suspects.{is_suspect}
 use Rattle.propagator.proofs.InTurn.{grow_both}
 use Rattle.propagator.proofs.MovedFloors.{all_both}
 use Rattle.propagator.proofs.StillGoing.{few_seen, others_alive}
@@ -37,10 +39,17 @@ suspect_links-requires-clause-seen c =
 
 pub cut_links-requires-clause-others : goal.cut_links-requires-clause-others
 cut_links-requires-clause-others c =
+    let work = c.suspect_links.new.work in
+    let leave : work.leave.items ≡ c.deref.result.now = search rules in
+    let arrive : work.arrive.items ≡ c.deref-2.result.now = search rules in
+    let pass : work.pass.items ≡ c.deref-3.result.now = search rules in
     let grown = grow_both c.args.book.now c.args.marks.now.facts c.settle_all.new.marks.facts c.carry_all.new.marks.facts
     c.args.facts.now.items c.settle_all.new.facts.items c.carry_all.new.facts.items c.settle_all.ensures.grows c.carry_all.ensures.grows in
-    others_alive c.alive_decides.ensures c.usable_decides.ensures c.limits_decide.ensures c.args.book.now c.args.marks.now.facts grown.added c.carry_all.new.marks.facts
-    c.args.seen c.args.rows.now c.carry_all.new.rows c.clear.new.flags c.carry_all.new.work.leave.items c.suspect_links.new.work.leave.items
-    c.suspect_links.new.work.arrive.items c.suspect_links.new.work.pass.items c.requires.seen grown.marks
-    (all_both c.clear.new.flags c.settle_all.new.work.leave.items c.carry_all.new.work.leave.items c.args.rows.now c.settle_all.new.rows c.carry_all.new.rows
-    c.settle_all.ensures.moves c.carry_all.ensures.moves) c.in_ok-carry_all.ensures.stand c.suspect_links.ensures.noted c.suspect_links.ensures.work.leave
+    λ a b off. others_alive c.alive_decides.ensures c.usable_decides.ensures c.limits_decide.ensures c.args.book.now c.args.marks.now.facts grown.added
+    c.carry_all.new.marks.facts c.args.seen c.args.rows.now c.carry_all.new.rows _ c.carry_all.new.work.leave.items
+    work.leave.items work.arrive.items work.pass.items c.requires.seen grown.marks
+    (all_both _ c.settle_all.new.work.leave.items c.carry_all.new.work.leave.items c.args.rows.now c.settle_all.new.rows c.carry_all.new.rows
+    c.settle_all.ensures.moves c.carry_all.ensures.moves) c.in_ok-carry_all.ensures.stand c.suspect_links.ensures.noted c.suspect_links.ensures.work.leave a b
+    (ap (λ (flags : List Bool). is_suspect flags work.arrive.items work.pass.items a b) leave
+    ∙ ap (λ (flags : List Bool). is_suspect c.deref.result.now flags work.pass.items a b) arrive
+    ∙ ap (λ (least : List ℕ). is_suspect c.deref.result.now c.deref-2.result.now least a b) pass ∙ off)

@@ -2,7 +2,6 @@ use Rattle.std.proofs.Common.{◌≤◌, ap, arith, length}
 use Rattle.tail_book.specs.Seen.{BookSeen}
 use Rattle.tail_book.specs.Lookup.{activities}
 use Rattle.propagator.proofs.RenewedFloors.{renewed_floors, renewed_asked}
-use Rattle.propagator.proofs.MovedFloors.{moves_none, moves_both}
 use Rattle.propagator.proofs.renewing.renew_floors.Goals as goal
 
 pub returns-clause-floors : goal.returns-clause-floors
