@@ -1,6 +1,7 @@
 //! Small books, and what follows on them: each rule alone, the rules in order, and the least hole.
 
-ghost use Rattle.std.specs.Prelude.{IfOk, IsTrue};
+ghost use Rattle.std.specs.Prelude.{◌≡◌, IfOk, IsTrue};
+ghost use Rattle.connection_net.specs.Net.{net_of};
 ghost use Rattle.branch_marks.specs.Facts.{IsFactOf};
 ghost use Rattle.branch_marks.specs.inside.MarkTables.{AreMarksOf};
 
@@ -329,19 +330,35 @@ fn holes_of_later_bars_are_not_told(rt: HostRuntime) -> Result<(), Fail> {
     Ok(())
 }
 
-// The facts of marks that are closed so many times, behind a list, and the last answer.
+// Closes marks once, or twice, and tells the last answer.
+fn close_again(
+    alloc: Global,
+    book: &Book,
+    net: &Net,
+    marks: &mut Marks,
+    again: bool,
+    list: &mut Vec<Fact>,
+) -> Result<Closed, Memory>
+    requires net { net.now ≡ net_of book.now }
+    requires marks { AreMarksOf book.now marks.old }
+{
+    let answer = close(alloc, book, net, marks, list)?;
+    if !again {
+        return Ok(answer);
+    }
+    close(alloc, book, net, marks, list)
+}
+
+// The facts of new marks that are closed once, or twice, and the last answer.
 fn closed_again(
     alloc: Global,
     book: &Book,
     again: bool,
     list: &mut Vec<Fact>,
-) -> Result<(Vec<Fact>, Closed), Fail> {
+) -> Result<(Vec<Fact>, Closed), Memory> {
     let net = Net::new(alloc, book)?;
     let mut marks = Marks::new(alloc, book)?;
-    let mut answer = close(alloc, book, &net, &mut marks, list)?;
-    if again {
-        answer = close(alloc, book, &net, &mut marks, list)?;
-    }
+    let answer = close_again(alloc, book, &net, &mut marks, again, list)?;
     Ok((Vec::from_slice(alloc, marks.facts())?, answer))
 }
 

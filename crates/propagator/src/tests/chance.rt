@@ -1,10 +1,11 @@
 //! Books and marks by chance, beside a plain and slow program: each fact that is added follows in its turn, those about all
 //! aircraft wait for the floors, nothing is left, and no legal plan that keeps the marks is lost.
 
-ghost use Rattle.std.specs.Prelude.{◌≡◌, ◌<◌};
+ghost use Rattle.std.specs.Prelude.{◌≡◌, ◌<◌, List};
 ghost use Rattle.connection_net.specs.Net.{net_of};
 ghost use Rattle.branch_marks.specs.inside.MarkTables.{AreMarksOf};
-ghost use Rattle.propagator.specs.Keeping.{IsKeptFor};
+ghost use Rattle.branch_marks.specs.declared.fact.Fact.{Fact as MarkFact};
+ghost use Rattle.propagator.specs.Keeping.{IsKeptFor, IsMadeFor};
 
 use super::{closed, flight, is_of, rules, tail};
 use crate::laws::kept_for_more;
@@ -651,19 +652,53 @@ fn follow(
     Ok((list.len(), same))
 }
 
+// The same for one fact more.
+fn follow_next(
+    alloc: Global,
+    book: &Book,
+    net: &Net,
+    marks: &mut Marks,
+    kept: &mut Propagator,
+    fact: Fact,
+) -> Result<(usize, bool), Memory>
+    requires net { net.now ≡ net_of book.now }
+    requires marks { AreMarksOf book.now marks.old }
+    requires kept { IsKeptFor book.now marks.old.facts kept.old }
+    ensures marks { AreMarksOf book.now marks.new }
+    ensures kept { IsKeptFor book.now marks.new.facts kept.new }
+{
+    add(book, marks, kept, fact)?;
+    follow(alloc, book, net, marks, kept)
+}
+
 // Facts that come one at a time: how many follow by a propagator that is kept, and whether always the same follow anew,
 // and as the rules say.
-fn follow_each(alloc: Global, book: &Book, dice: &mut Dice) -> Result<(usize, bool), Memory> {
-    let net = Net::new(alloc, book)?;
-    let (mut marks, mut kept) = (Marks::new(alloc, book)?, Propagator::new(alloc, book)?);
+fn follow_all(
+    alloc: Global,
+    book: &Book,
+    net: &Net,
+    marks: &mut Marks,
+    kept: &mut Propagator,
+    dice: &mut Dice,
+) -> Result<(usize, bool), Memory>
+    requires net { net.now ≡ net_of book.now }
+    requires marks { AreMarksOf book.now marks.old }
+    requires kept { IsKeptFor book.now marks.old.facts kept.old }
+{
     let (mut many, mut same) = (0usize, true);
     for _turn in 0..6 {
-        add(book, &mut marks, &kept, fact_by(dice))?;
-        let (more, right) = follow(alloc, book, &net, &mut marks, &mut kept)?;
+        let (more, right) = follow_next(alloc, book, net, marks, kept, fact_by(dice))?;
         many = many.saturating_add(more);
         same &= right;
     }
     Ok((many, same))
+}
+
+fn follow_each(alloc: Global, book: &Book, dice: &mut Dice) -> Result<(usize, bool), Memory> {
+    let net = Net::new(alloc, book)?;
+    let mut marks = Marks::new(alloc, book)?;
+    let mut kept = Propagator::new(alloc, book)?;
+    follow_all(alloc, book, &net, &mut marks, &mut kept, dice)
 }
 
 // 200 books, with up to six facts that come one at a time: what follows is what follows anew, and what the rules say.
@@ -680,21 +715,47 @@ fn kept_is_as_made_anew(rt: HostRuntime) -> Result<(), Fail> {
     Ok(())
 }
 
-// What follows from marks with one fact each by one propagator, which forgets the marks before: how many follow, and
-// whether always the same follow anew, and as the rules say.
-fn follow_apart(alloc: Global, book: &Book, dice: &mut Dice) -> Result<(usize, bool), Memory> {
-    let net = Net::new(alloc, book)?;
-    let mut kept = Propagator::new(alloc, book)?;
+// What follows from marks with one fact, by a propagator that forgets those before.
+fn follow_one(
+    alloc: Global,
+    book: &Book,
+    net: &Net,
+    kept: &mut Propagator,
+    fact: Fact,
+) -> Result<(usize, bool), Memory>
+    requires net { net.now ≡ net_of book.now }
+    requires made { IsMadeFor book.now kept.old }
+    ensures made { IsMadeFor book.now kept.new }
+{
+    let mut marks = Marks::new(alloc, book)?;
+    kept.forget();
+    follow_next(alloc, book, net, &mut marks, kept, fact)
+}
+
+// How many facts follow from marks with one fact each, and whether always the same follow anew, and as the rules say.
+fn follow_three(
+    alloc: Global,
+    book: &Book,
+    net: &Net,
+    kept: &mut Propagator,
+    dice: &mut Dice,
+) -> Result<(usize, bool), Memory>
+    requires net { net.now ≡ net_of book.now }
+    requires kept { (facts : List MarkFact) → IsKeptFor book.now facts kept.old }
+{
     let (mut many, mut same) = (0usize, true);
     for _turn in 0..3 {
-        let mut marks = Marks::new(alloc, book)?;
-        kept.forget();
-        add(book, &mut marks, &kept, fact_by(dice))?;
-        let (more, right) = follow(alloc, book, &net, &mut marks, &mut kept)?;
+        let (more, right) = follow_one(alloc, book, net, kept, fact_by(dice))?;
         many = many.saturating_add(more);
         same &= right;
     }
     Ok((many, same))
+}
+
+fn follow_apart(alloc: Global, book: &Book, dice: &mut Dice) -> Result<(usize, bool), Memory> {
+    let net = Net::new(alloc, book)?;
+    let mut kept = Propagator::new(alloc, book)?;
+    follow_three(alloc, book, &net, &mut kept, dice)
 }
 
 // 100 books, three times marks of their own for each, by a propagator that forgets those before.
