@@ -1,9 +1,9 @@
 //! Books by hand, whose least weights are known from outside; and books by chance, beside all their routes.
 
 ghost use Rattle.std.specs.Prelude.{◌≡◌, ◌<◌, ◌+◌, IfOk, IsTrue, All, length};
-ghost use Rattle.tail_book.specs.Lookup.{activities};
-ghost use Rattle.tail_book.specs.inside.CostTable.{IsInBox};
-ghost use Rattle.branch_marks.specs.Facts.{IsFactOf};
+ghost use Rattle.tail_book.specs.Lookup.{activities, aircraft};
+ghost use Rattle.tail_book.specs.inside.CostTable.{IsInBox, IsTableFor};
+ghost use Rattle.connection_net.specs.Net.{net_of};
 ghost use Rattle.branch_marks.specs.Settled.{AreDuals};
 ghost use Rattle.branch_marks.specs.inside.MarkTables.{AreMarksOf};
 
@@ -49,25 +49,30 @@ fn activity(alloc: Global, id: Name, row: Row) -> Activity {
     }
 }
 
-// At most six activities, under the names 0 to 5.
-fn activities(alloc: Global, rows: &[Row]) -> Result<Vec<Activity>, Memory> {
-    let ids = [
+// Names in order.
+fn names() -> [Name; 6] {
+    [
         Name::new(b"0".as_slice()),
         Name::new(b"1".as_slice()),
         Name::new(b"2".as_slice()),
         Name::new(b"3".as_slice()),
         Name::new(b"4".as_slice()),
         Name::new(b"5".as_slice()),
-    ];
+    ]
+}
+
+// At most six activities.
+fn activities(alloc: Global, rows: &[Row]) -> Result<Vec<Activity>, Memory> {
     let mut activities = Vec::new(alloc);
-    for i in 0..rows.len().min(6) {
-        activities.push(activity(alloc, ids[i], rows[i]))?;
+    for (name, row) in names().iter().zip(rows) {
+        activities.push(activity(alloc, *name, *row))?;
     }
     Ok(activities)
 }
 
 // An aircraft that is ready at airport 0 at minute 0, with nothing on its counters.
 fn tail(alloc: Global, name: Name, kind: u32, counters: usize) -> Result<Tail, Memory> {
+    let carry = vec![in alloc; 0i64; counters]?;
     Ok(Tail {
         name,
         kind,
@@ -76,27 +81,50 @@ fn tail(alloc: Global, name: Name, kind: u32, counters: usize) -> Result<Tail, M
         fixed: 0,
         tags: Vec::new(alloc),
         avoid: Vec::new(alloc),
-        carry: vec![in alloc; 0i64; counters]?,
+        carry,
     })
 }
 
-// Types of rate 1 and 2, and airports with turns of half an hour.
+// An aircraft of each type.
+fn tails(alloc: Global, counters: usize) -> Result<Vec<Tail>, Memory> {
+    let mut tails = Vec::new(alloc);
+    for (name, kind) in names().iter().zip(0..2u32) {
+        tails.push(tail(alloc, *name, kind, counters)?)?;
+    }
+    Ok(tails)
+}
+
+// Types of rate 1 and 2.
+fn kinds(alloc: Global) -> Result<Vec<AircraftType>, Memory> {
+    let mut kinds = Vec::new(alloc);
+    for (name, rate) in names().iter().zip(1..3u64) {
+        kinds.push(AircraftType {
+            name: *name,
+            rate,
+            turn: 30,
+        })?;
+    }
+    Ok(kinds)
+}
+
+// Airports with turns of half an hour.
+fn airports(alloc: Global) -> Result<Vec<Airport>, Memory> {
+    let mut airports = Vec::new(alloc);
+    for name in names().iter().take(2) {
+        airports.push(Airport {
+            name: *name,
+            offset: 0,
+            turn: 30,
+        })?;
+    }
+    Ok(airports)
+}
+
 fn rules(alloc: Global, counters: Vec<Counter>, bands: Vec<Band>) -> Result<Rules, Memory> {
-    let (p, q) = (Name::new(b"P".as_slice()), Name::new(b"Q".as_slice()));
-    let kind = |name, rate| AircraftType {
-        name,
-        rate,
-        turn: 30,
-    };
-    let (arn, osl) = (Name::new(b"ARN".as_slice()), Name::new(b"OSL".as_slice()));
-    let airport = |name| Airport {
-        name,
-        offset: 0,
-        turn: 30,
-    };
+    let (kinds, airports) = (kinds(alloc)?, airports(alloc)?);
     Ok(Rules {
-        kinds: vec![in alloc; kind(p, 1), kind(q, 2)]?,
-        airports: vec![in alloc; airport(arn), airport(osl)]?,
+        kinds,
+        airports,
         curfews: Vec::new(alloc),
         counters,
         bands,
@@ -110,51 +138,31 @@ fn book(
     counters: Vec<Counter>,
     bands: Vec<Band>,
 ) -> Result<Book, Fail> {
-    let (a, b) = (Name::new(b"A1".as_slice()), Name::new(b"A2".as_slice()));
-    let count = counters.len();
-    let tails = vec![in alloc; tail(alloc, a, 0, count)?, tail(alloc, b, 1, count)?]?;
+    let tails = tails(alloc, counters.len())?;
     let rules = rules(alloc, counters, bands)?;
-    Ok(Book::new(activities(alloc, rows)?, tails, rules).ok_or("no book")?)
+    let book = Book::new(activities(alloc, rows)?, tails, rules);
+    Ok(book.ok_or("no book")?)
 }
 
-// Landings between stops of an hour at airport 0.
-fn landings(limit: i64) -> (CounterKind, i64, i64) {
-    (CounterKind::Landings, limit, 60)
+// A counter of a kind, a limit and a stop, with a base at airport 0.
+fn counter(alloc: Global, name: Name, row: (CounterKind, i64, i64)) -> Result<Counter, Memory> {
+    let (kind, limit, stop) = row;
+    let bases = vec![in alloc; 0u32]?;
+    Ok(Counter {
+        name,
+        kind,
+        limit,
+        bases,
+        stop,
+    })
 }
 
-// Counters with a base at airport 0, under the names 0 to 2.
 fn counters(alloc: Global, rows: &[(CounterKind, i64, i64)]) -> Result<Vec<Counter>, Memory> {
-    let names = [
-        Name::new(b"0".as_slice()),
-        Name::new(b"1".as_slice()),
-        Name::new(b"2".as_slice()),
-    ];
     let mut counters = Vec::new(alloc);
-    for i in 0..rows.len().min(3) {
-        let (kind, limit, stop) = rows[i];
-        let bases = vec![in alloc; 0u32]?;
-        counters.push(Counter {
-            name: names[i],
-            kind,
-            limit,
-            bases,
-            stop,
-        })?;
+    for (name, row) in names().iter().zip(rows) {
+        counters.push(counter(alloc, *name, *row)?)?;
     }
     Ok(counters)
-}
-
-// Whether the numbers in a fact are of the book.
-fn is_of(book: &Book, fact: Fact) -> bool
-    ensures { IsTrue result → IsFactOf book.now fact }
-{
-    let (m, n) = (book.tails.len() as u64, book.activities.len() as u64);
-    match fact {
-        Fact::Bar(k, a) => (k as u64) < m && (a as u64) < n,
-        Fact::Must(k, a) => (k as u64) < m && (a as u64) < n,
-        Fact::Cut(a, b) => (a as u64) < n && (b as u64) < n,
-        Fact::Tie(a, b) => (a as u64) < n && (b as u64) < n,
-    }
 }
 
 // Marks with these facts.
@@ -163,7 +171,7 @@ fn marks(alloc: Global, book: &Book, facts: &[Fact]) -> Result<Marks, Fail>
 {
     let mut marks = Marks::new(alloc, book)?;
     for fact in facts {
-        if is_of(book, *fact) {
+        if fact.is_of(book) {
             marks.add(book, *fact)?;
         }
     }
@@ -204,6 +212,67 @@ fn store(alloc: Global, book: &Book) -> Result<Store, Memory>
     Store::new(alloc, book.activities.len(), width)
 }
 
+// The book's own costs.
+fn costs(alloc: Global, book: &Book) -> Result<CostTable, Memory>
+    ensures { IfOk result (IsTableFor book.now) }
+{
+    own_costs_are_for_book();
+    CostTable::of(alloc, book)
+}
+
+fn duals_of(alloc: Global, duals: &[i64]) -> Result<Duals, Memory> {
+    let mut values = Vec::new(alloc);
+    values.extend_from_slice(duals)?;
+    Ok(Duals { values })
+}
+
+fn priced_by_links(
+    alloc: Global,
+    book: &Book,
+    table: &CostTable,
+    net: &Net,
+    marks: &Marks,
+    duals: &Duals,
+    k: u32,
+    store: &mut Store,
+) -> Result<Priced, Memory>
+    requires table { IsTableFor book.now table.now }
+    requires net { net.now ≡ net_of book.now }
+    requires marks { AreMarksOf book.now marks.now }
+    requires duals { AreDuals table.now book.now duals.now.values }
+    requires aircraft { k < aircraft book.now }
+    requires nodes { length store.old.buckets ≡ activities book.now }
+    requires width { store.old.width ≡ 1 + length book.now.rules.counters }
+{
+    let mut pricer = Pricer::without_lines(alloc, book, table)?;
+    pricer.price(book, table, net, marks, duals, k, store)
+}
+
+// Prices an aircraft with lines or link by link.
+fn priced_in(
+    alloc: Global,
+    book: &Book,
+    table: &CostTable,
+    net: &Net,
+    marks: &Marks,
+    duals: &Duals,
+    k: u32,
+    lines: bool,
+) -> Result<Priced, Memory>
+    requires table { IsTableFor book.now table.now }
+    requires net { net.now ≡ net_of book.now }
+    requires marks { AreMarksOf book.now marks.now }
+    requires duals { AreDuals table.now book.now duals.now.values }
+    requires aircraft { k < aircraft book.now }
+{
+    let mut store = store(alloc, book)?;
+    if lines {
+        price(alloc, book, table, net, marks, duals, k, &mut store)
+    } else {
+        priced_by_links(alloc, book, table, net, marks, duals, k, &mut store)
+    }
+}
+
 // Prices an aircraft by the book's own costs, with lines or link by link; nothing where the book does not have it, or the
 // duals are not in the box.
 fn priced_by(
@@ -214,22 +283,13 @@ fn priced_by(
     k: u32,
     lines: bool,
 ) -> Result<Option<Priced>, Fail> {
-    own_costs_are_for_book();
-    every_book_is_sound(book);
-    let (table, net) = (CostTable::of(alloc, book)?, Net::new(alloc, book)?);
-    let marks = marks(alloc, book, facts)?;
-    let mut values = Vec::new(alloc);
-    values.extend_from_slice(duals)?;
-    let duals = Duals { values };
+    let (table, net) = (costs(alloc, book)?, Net::new(alloc, book)?);
+    let (marks, duals) = (marks(alloc, book, facts)?, duals_of(alloc, duals)?);
     if k as usize >= book.tails.len() || !are_duals(book, &table, &duals) {
         return Ok(None);
     }
-    let mut store = store(alloc, book)?;
-    if lines {
-        return Ok(Some(price(alloc, book, &table, &net, &marks, &duals, k, &mut store)?));
-    }
-    let mut pricer = Pricer::without_lines(alloc, book, &table)?;
-    Ok(Some(pricer.price(book, &table, &net, &marks, &duals, k, &mut store)?))
+    let answer = priced_in(alloc, book, &table, &net, &marks, &duals, k, lines)?;
+    Ok(Some(answer))
 }
 
 fn priced(
@@ -250,122 +310,180 @@ fn weight(answer: &Option<Priced>) -> Option<i64> {
     }
 }
 
-// Whether the answer is this weight and this route; no weight where the aircraft is stuck.
-fn is(answer: &Option<Priced>, want: Option<(i64, &[u32])>) -> bool {
-    match (answer, want) {
-        (Some(Priced::Best { value, route }), Some((weight, activities))) => {
-            *value == weight && route.0.as_slice() == activities
-        }
-        (Some(Priced::Stuck), None) => true,
-        _ => false,
-    }
-}
-
 // To OSL and back, with just the turn between.
 fn there_and_back() -> [Row; 2] {
     [flight((0, 1), (360, 420)), flight((1, 0), (450, 510))]
+}
+
+// Whether the answer is so many of the first two activities, in order.
+fn are_first(route: &Route, count: usize) -> bool {
+    match count {
+        0 => route.0.is_empty(),
+        1 => route.0.as_slice() == [0].as_slice(),
+        _ => route.0.as_slice() == [0, 1].as_slice(),
+    }
 }
 
 // Whether the answer is this weight and so many of the two flights, in order; no weight where the aircraft is stuck.
 fn flies(answer: &Option<Priced>, want: Option<(i64, usize)>) -> bool {
     match (answer, want) {
         (Some(Priced::Best { value, route }), Some((weight, count))) => {
-            *value == weight
-                && match count {
-                    0 => route.0.is_empty(),
-                    1 => route.0.as_slice() == [0].as_slice(),
-                    _ => route.0.as_slice() == [0, 1].as_slice(),
-                }
+            *value == weight && are_first(route, count)
         }
         (Some(Priced::Stuck), None) => true,
         _ => false,
     }
 }
 
-// The empty route weighs nothing. Duals draw the aircraft to what they pay for, and marks keep it from there or hold it
-// to more than it would fly. A bar on the other aircraft changes nothing for this one.
+// Whether the first aircraft, by these facts and duals, weighs so much with so many of the two flights.
+fn is_flown(
+    alloc: Global,
+    book: &Book,
+    facts: &[Fact],
+    duals: &[i64],
+    want: Option<(i64, usize)>,
+) -> Result<bool, Fail> {
+    let answer = priced(alloc, book, facts, duals, 0)?;
+    Ok(flies(&answer, want))
+}
+
+// A book without counters and bands.
+fn plain_book(alloc: Global, rows: &[Row]) -> Result<Book, Fail> {
+    book(alloc, rows, Vec::new(alloc), Vec::new(alloc))
+}
+
+// The empty route weighs nothing. Duals draw the aircraft to what they pay for, and marks keep it from there. A bar on the
+// other aircraft changes nothing for this one.
 #[test]
 fn two_flights(rt: HostRuntime) -> Result<(), Fail> {
-    let none = counters(rt.alloc(), &[])?;
-    let book = book(rt.alloc(), &there_and_back(), none, Vec::new(rt.alloc()))?;
-    let (bar, must, other) = (Fact::Bar(0, 0), Fact::Must(0, 1), Fact::Bar(1, 0));
-    let (cut, tie) = (Fact::Cut(0, 1), Fact::Tie(0, 1));
-    let (zero, high, low) = ([0, 0], [100_000, 100_000], [100_000, 30_000]);
-    for (facts, duals, want) in [
-        ([other, other], zero, Some((0, 0))),
-        ([other, must], zero, Some((120_000, 2))),
-        ([other, other], high, Some((-80_000, 2))),
-        ([other, cut], high, Some((-40_000, 1))),
-        ([other, other], low, Some((-40_000, 1))),
-        ([other, tie], low, Some((-10_000, 2))),
-        ([other, bar], [100_000, 200_000], Some((0, 0))),
-        ([must, bar], zero, None),
-        ([must, cut], zero, None),
-        ([Fact::Must(0, 0), tie], zero, Some((120_000, 2))),
+    let book = plain_book(rt.alloc(), &there_and_back())?;
+    for (fact, duals, weight, count) in [
+        (Fact::Bar(1, 0), [0i64, 0], 0i64, 0usize),
+        (Fact::Must(0, 1), [0, 0], 120_000, 2),
+        (Fact::Bar(1, 0), [100_000, 100_000], -80_000, 2),
+        (Fact::Cut(0, 1), [100_000, 100_000], -40_000, 1),
+        (Fact::Bar(1, 0), [100_000, 30_000], -40_000, 1),
+        (Fact::Tie(0, 1), [100_000, 30_000], -10_000, 2),
+        (Fact::Bar(0, 0), [100_000, 200_000], 0, 0),
     ] {
-        let answer = priced(rt.alloc(), &book, &facts, &duals, 0)?;
-        assert!(rt; flies(&answer, want), "{facts:?}, {duals:?}: {answer:?}");
+        let right = is_flown(
+            rt.alloc(),
+            &book,
+            &[Fact::Bar(1, 0), fact],
+            &duals,
+            Some((weight, count)),
+        )?;
+        assert!(rt; right, "{fact:?}, {duals:?}");
     }
     Ok(())
 }
 
-// Both fly from ARN to OSL, so that each aircraft flies one of them at most. A minute costs A1 1 and A2 2.
+// Two facts hold the aircraft to more than it would fly, or to what it cannot.
+#[test]
+fn two_facts(rt: HostRuntime) -> Result<(), Fail> {
+    let book = plain_book(rt.alloc(), &there_and_back())?;
+    for (must, other, want) in [
+        (Fact::Must(0, 1), Fact::Bar(0, 0), None),
+        (Fact::Must(0, 1), Fact::Cut(0, 1), None),
+        (
+            Fact::Must(0, 0),
+            Fact::Tie(0, 1),
+            Some((120_000i64, 2usize)),
+        ),
+    ] {
+        let right = is_flown(rt.alloc(), &book, &[must, other], &[0, 0], want)?;
+        assert!(rt; right, "{must:?}, {other:?}");
+    }
+    Ok(())
+}
+
+// Whether an aircraft, by these facts, weighs so much at duals of 120 and 180; no weight where it is stuck.
+fn is_weighed(
+    alloc: Global,
+    book: &Book,
+    facts: &[Fact],
+    k: u32,
+    want: Option<i64>,
+) -> Result<bool, Fail> {
+    let answer = priced(alloc, book, facts, &[120_000, 180_000], k)?;
+    Ok(match answer {
+        Some(Priced::Best { value, .. }) => want == Some(value),
+        Some(Priced::Stuck) => want == None,
+        None => false,
+    })
+}
+
+// Both fly from ARN to OSL, so that each aircraft flies one of them at most. A minute costs the first 1 and the second 2.
 #[test]
 fn two_types(rt: HostRuntime) -> Result<(), Fail> {
     let rows = [flight((0, 1), (360, 420)), flight((0, 1), (360, 480))];
-    let none = counters(rt.alloc(), &[])?;
-    let book = book(rt.alloc(), &rows, none, Vec::new(rt.alloc()))?;
-    for (facts, k, want) in [
-        ([].as_slice(), 0, Some(-60_000)),
-        ([].as_slice(), 1, Some(0)),
-        ([Fact::Must(1, 1)].as_slice(), 1, Some(60_000)),
-        ([Fact::Must(0, 0), Fact::Must(0, 1)].as_slice(), 0, None),
-    ] {
-        let answer = priced(rt.alloc(), &book, facts, &[120_000, 180_000], k)?;
-        let value = match &answer {
-            Some(Priced::Best { value, .. }) => Some(*value),
-            _ => None,
-        };
-        assert_eq!(rt; value, want, "{facts:?}, {k}: {answer:?}");
-    }
+    let book = plain_book(rt.alloc(), &rows)?;
+    let first = is_weighed(rt.alloc(), &book, &[], 0, Some(-60_000))?;
+    assert!(rt; first, "the first");
+    let second = is_weighed(rt.alloc(), &book, &[], 1, Some(0))?;
+    assert!(rt; second, "the second");
+    let must = is_weighed(rt.alloc(), &book, &[Fact::Must(1, 1)], 1, Some(60_000))?;
+    assert!(rt; must, "the second, which must fly");
+    let musts = [Fact::Must(0, 0), Fact::Must(0, 1)];
+    let both = is_weighed(rt.alloc(), &book, &musts, 0, None)?;
+    assert!(rt; both, "the first, which must fly both");
     Ok(())
 }
 
-// Through the ground time the aircraft comes to the fourth activity at no cost, but with two landings, and then passes
-// its limit. Straight from the second flight it waits an hour and a half, which costs 500 and clears the counter.
-#[test]
-fn dear_arrival_survives_dominance(rt: HostRuntime) -> Result<(), Fail> {
-    let ground = Row {
-        flight: false,
-        leg: (0, 0),
-        time: (540, 585),
-    };
-    let [out, back] = there_and_back();
-    let (again, home) = (flight((0, 1), (600, 660)), flight((1, 0), (690, 750)));
-    let band = |upto, cost| Band { upto, cost };
+// Nothing for a gap below an hour, and 500 for any other.
+fn bands(alloc: Global) -> Result<Vec<Band>, Memory> {
+    let mut bands = Vec::new(alloc);
+    for (upto, cost) in [(59i64, 0u64), (10_000_000, 500)] {
+        bands.push(Band { upto, cost })?;
+    }
+    Ok(bands)
+}
+
+// There and back twice, with ground time between, and so many landings between stops of an hour at airport 0.
+fn twice(alloc: Global, limit: i64) -> Result<Book, Fail> {
+    let rows = [
+        flight((0, 1), (360, 420)),
+        flight((1, 0), (450, 510)),
+        Row {
+            flight: false,
+            leg: (0, 0),
+            time: (540, 585),
+        },
+        flight((0, 1), (600, 660)),
+        flight((1, 0), (690, 750)),
+    ];
+    let landings = counters(alloc, &[(CounterKind::Landings, limit, 60)])?;
+    book(alloc, &rows, landings, bands(alloc)?)
+}
+
+// Whether the first aircraft, which must fly all four flights, weighs so much by this route.
+fn is_dear(alloc: Global, limit: i64, weight: i64, route: &[u32]) -> Result<bool, Fail> {
     let musts = [
         Fact::Must(0, 0),
         Fact::Must(0, 1),
         Fact::Must(0, 3),
         Fact::Must(0, 4),
     ];
-    for (limit, weight, route) in [
-        (3, 740_000, [0u32, 1, 3, 4].as_slice()),
-        (4, 240_000, [0u32, 1, 2, 3, 4].as_slice()),
-    ] {
-        let bands = vec![in rt.alloc(); band(59, 0), band(10_000_000, 500)]?;
-        let counters = counters(rt.alloc(), &[landings(limit)])?;
-        let book = book(
-            rt.alloc(),
-            &[out, back, ground, again, home],
-            counters,
-            bands,
-        )?;
-        let answer = priced(rt.alloc(), &book, &musts, &[0, 0, 0, 0, 0], 0)?;
-        assert!(rt;
-            is(&answer, Some((weight, route))),
-            "limit {limit}: {answer:?}"
-        );
-    }
+    let book = twice(alloc, limit)?;
+    let answer = priced(alloc, &book, &musts, &[0, 0, 0, 0, 0], 0)?;
+    Ok(match answer {
+        Some(
+            Priced::Best {
+                value,
+                route: answered,
+            },
+        ) => value == weight && answered.0.as_slice() == route,
+        _ => false,
+    })
+}
+
+// Through the ground time the aircraft comes to the fourth activity at no cost, but with two landings, and then passes
+// its limit. Straight from the second flight it waits an hour and a half, which costs 500 and clears the counter.
+#[test]
+fn dear_arrival_survives_dominance(rt: HostRuntime) -> Result<(), Fail> {
+    let three = is_dear(rt.alloc(), 3, 740_000, &[0, 1, 3, 4])?;
+    assert!(rt; three, "three landings");
+    let four = is_dear(rt.alloc(), 4, 240_000, &[0, 1, 2, 3, 4])?;
+    assert!(rt; four, "four landings");
     Ok(())
 }

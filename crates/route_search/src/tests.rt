@@ -1,9 +1,9 @@
 //! Books by hand, whose least weights are known from outside, at cuts beside them; and books by chance, beside all their routes.
 
-ghost use Rattle.std.specs.Prelude.{◌≡◌, ◌<◌, ◌+◌, IfOk, IsTrue, All, length};
-ghost use Rattle.tail_book.specs.Lookup.{activities};
-ghost use Rattle.tail_book.specs.inside.CostTable.{IsInBox};
-ghost use Rattle.branch_marks.specs.Facts.{IsFactOf};
+ghost use Rattle.std.specs.Prelude.{◌≡◌, ◌<◌, IfOk, IsTrue, All};
+ghost use Rattle.tail_book.specs.Lookup.{aircraft};
+ghost use Rattle.tail_book.specs.inside.CostTable.{IsInBox, IsTableFor};
+ghost use Rattle.connection_net.specs.Net.{net_of};
 ghost use Rattle.branch_marks.specs.Settled.{AreDuals};
 ghost use Rattle.branch_marks.specs.inside.MarkTables.{AreMarksOf};
 
@@ -12,7 +12,7 @@ use branch_marks::{Fact, Marks};
 use connection_net::Net;
 use std::alloc::Global;
 use std::test::Fail;
-use tail_book::laws::{every_book_is_sound, own_costs_are_for_book};
+use tail_book::laws::own_costs_are_for_book;
 use tail_book::*;
 
 mod chance;
@@ -35,11 +35,17 @@ fn flight(leg: (u32, u32), time: (i64, i64)) -> Row {
     }
 }
 
-fn activity(alloc: Global, id: Name, row: Row) -> Result<Activity, Memory> {
+// The counters that a row sets to 0.
+fn resets(alloc: Global, row: Row) -> Result<Vec<u32>, Memory> {
     let mut resets = Vec::new(alloc);
     if row.resets {
         resets.push(0)?;
     }
+    Ok(resets)
+}
+
+fn activity(alloc: Global, id: Name, row: Row) -> Result<Activity, Memory> {
+    let resets = resets(alloc, row)?;
     Ok(Activity {
         id,
         flight: row.flight,
@@ -54,25 +60,30 @@ fn activity(alloc: Global, id: Name, row: Row) -> Result<Activity, Memory> {
     })
 }
 
-// At most six activities, under the names 0 to 5.
-fn activities(alloc: Global, rows: &[Row]) -> Result<Vec<Activity>, Memory> {
-    let ids = [
+// Names in order.
+fn names() -> [Name; 6] {
+    [
         Name::new(b"0".as_slice()),
         Name::new(b"1".as_slice()),
         Name::new(b"2".as_slice()),
         Name::new(b"3".as_slice()),
         Name::new(b"4".as_slice()),
         Name::new(b"5".as_slice()),
-    ];
+    ]
+}
+
+// At most six activities.
+fn activities(alloc: Global, rows: &[Row]) -> Result<Vec<Activity>, Memory> {
     let mut activities = Vec::new(alloc);
-    for i in 0..rows.len().min(6) {
-        activities.push(activity(alloc, ids[i], rows[i])?)?;
+    for (name, row) in names().iter().zip(rows) {
+        activities.push(activity(alloc, *name, *row)?)?;
     }
     Ok(activities)
 }
 
 // An aircraft that is ready at airport 0 at minute 0, with nothing on its counters.
 fn tail(alloc: Global, name: Name, kind: u32, counters: usize) -> Result<Tail, Memory> {
+    let carry = vec![in alloc; 0i64; counters]?;
     Ok(Tail {
         name,
         kind,
@@ -81,27 +92,50 @@ fn tail(alloc: Global, name: Name, kind: u32, counters: usize) -> Result<Tail, M
         fixed: 0,
         tags: Vec::new(alloc),
         avoid: Vec::new(alloc),
-        carry: vec![in alloc; 0i64; counters]?,
+        carry,
     })
 }
 
-// Types of rate 1 and 2, and airports with turns of half an hour.
+// An aircraft of each type.
+fn tails(alloc: Global, counters: usize) -> Result<Vec<Tail>, Memory> {
+    let mut tails = Vec::new(alloc);
+    for (name, kind) in names().iter().zip(0..2u32) {
+        tails.push(tail(alloc, *name, kind, counters)?)?;
+    }
+    Ok(tails)
+}
+
+// Types of rate 1 and 2.
+fn kinds(alloc: Global) -> Result<Vec<AircraftType>, Memory> {
+    let mut kinds = Vec::new(alloc);
+    for (name, rate) in names().iter().zip(1..3u64) {
+        kinds.push(AircraftType {
+            name: *name,
+            rate,
+            turn: 30,
+        })?;
+    }
+    Ok(kinds)
+}
+
+// Airports with turns of half an hour.
+fn airports(alloc: Global) -> Result<Vec<Airport>, Memory> {
+    let mut airports = Vec::new(alloc);
+    for name in names().iter().take(2) {
+        airports.push(Airport {
+            name: *name,
+            offset: 0,
+            turn: 30,
+        })?;
+    }
+    Ok(airports)
+}
+
 fn rules(alloc: Global, counters: Vec<Counter>, bands: Vec<Band>) -> Result<Rules, Memory> {
-    let (p, q) = (Name::new(b"P".as_slice()), Name::new(b"Q".as_slice()));
-    let kind = |name, rate| AircraftType {
-        name,
-        rate,
-        turn: 30,
-    };
-    let (arn, osl) = (Name::new(b"ARN".as_slice()), Name::new(b"OSL".as_slice()));
-    let airport = |name| Airport {
-        name,
-        offset: 0,
-        turn: 30,
-    };
+    let (kinds, airports) = (kinds(alloc)?, airports(alloc)?);
     Ok(Rules {
-        kinds: vec![in alloc; kind(p, 1), kind(q, 2)]?,
-        airports: vec![in alloc; airport(arn), airport(osl)]?,
+        kinds,
+        airports,
         curfews: Vec::new(alloc),
         counters,
         bands,
@@ -115,42 +149,31 @@ fn book(
     counters: Vec<Counter>,
     bands: Vec<Band>,
 ) -> Result<Book, Fail> {
-    let (a, b) = (Name::new(b"A1".as_slice()), Name::new(b"A2".as_slice()));
-    let count = counters.len();
-    let tails = vec![in alloc; tail(alloc, a, 0, count)?, tail(alloc, b, 1, count)?]?;
+    let tails = tails(alloc, counters.len())?;
     let rules = rules(alloc, counters, bands)?;
-    Ok(Book::new(activities(alloc, rows)?, tails, rules).ok_or("no book")?)
+    let book = Book::new(activities(alloc, rows)?, tails, rules);
+    Ok(book.ok_or("no book")?)
 }
 
-// Counters of a kind, a limit and a stop, with a base at airport 0, under the names 0 and 1.
+// A counter of a kind, a limit and a stop, with a base at airport 0.
+fn counter(alloc: Global, name: Name, row: (CounterKind, i64, i64)) -> Result<Counter, Memory> {
+    let (kind, limit, stop) = row;
+    let bases = vec![in alloc; 0u32]?;
+    Ok(Counter {
+        name,
+        kind,
+        limit,
+        bases,
+        stop,
+    })
+}
+
 fn counters(alloc: Global, rows: &[(CounterKind, i64, i64)]) -> Result<Vec<Counter>, Memory> {
-    let names = [Name::new(b"0".as_slice()), Name::new(b"1".as_slice())];
     let mut counters = Vec::new(alloc);
-    for i in 0..rows.len().min(2) {
-        let (kind, limit, stop) = rows[i];
-        let bases = vec![in alloc; 0u32]?;
-        counters.push(Counter {
-            name: names[i],
-            kind,
-            limit,
-            bases,
-            stop,
-        })?;
+    for (name, row) in names().iter().zip(rows) {
+        counters.push(counter(alloc, *name, *row)?)?;
     }
     Ok(counters)
-}
-
-// Whether the numbers in a fact are of the book.
-fn is_of(book: &Book, fact: Fact) -> bool
-    ensures { IsTrue result → IsFactOf book.now fact }
-{
-    let (m, n) = (book.tails.len() as u64, book.activities.len() as u64);
-    match fact {
-        Fact::Bar(k, a) => (k as u64) < m && (a as u64) < n,
-        Fact::Must(k, a) => (k as u64) < m && (a as u64) < n,
-        Fact::Cut(a, b) => (a as u64) < n && (b as u64) < n,
-        Fact::Tie(a, b) => (a as u64) < n && (b as u64) < n,
-    }
 }
 
 // Marks with these facts.
@@ -159,7 +182,7 @@ fn marks(alloc: Global, book: &Book, facts: &[Fact]) -> Result<Marks, Fail>
 {
     let mut marks = Marks::new(alloc, book)?;
     for fact in facts {
-        if is_of(book, *fact) {
+        if fact.is_of(book) {
             marks.add(book, *fact)?;
         }
     }
@@ -190,8 +213,47 @@ fn are_duals(book: &Book, table: &CostTable, duals: &Duals) -> bool
     duals.values.len() == book.activities.len() && are_in_box(table, &duals.values)
 }
 
-// The least route of an aircraft at each of these cuts, by the book's own costs and with one search for all; nothing where the
-// book does not have the aircraft, or the duals are not in the box.
+// The book's own costs.
+fn costs(alloc: Global, book: &Book) -> Result<CostTable, Memory>
+    ensures { IfOk result (IsTableFor book.now) }
+{
+    own_costs_are_for_book();
+    CostTable::of(alloc, book)
+}
+
+fn duals_of(alloc: Global, duals: &[i64]) -> Result<Duals, Memory> {
+    let mut values = Vec::new(alloc);
+    values.extend_from_slice(duals)?;
+    Ok(Duals { values })
+}
+
+// The least route of an aircraft at each of these cuts, with one search for all.
+fn found_in(
+    alloc: Global,
+    book: &Book,
+    table: &CostTable,
+    net: &Net,
+    marks: &Marks,
+    duals: &Duals,
+    k: u32,
+    cuts: &[i64],
+    slack: u32,
+) -> Result<Vec<Found>, Memory>
+    requires table { IsTableFor book.now table.now }
+    requires net { net.now ≡ net_of book.now }
+    requires marks { AreMarksOf book.now marks.now }
+    requires duals { AreDuals table.now book.now duals.now.values }
+    requires aircraft { k < aircraft book.now }
+{
+    let mut search = RouteSearch::new(alloc, book)?;
+    let mut all = Vec::new(alloc);
+    for cut in cuts {
+        all.push(search.least_route(book, table, net, marks, duals, k, *cut, slack)?)?;
+    }
+    Ok(all)
+}
+
+// The same by the book's own costs; nothing where the book does not have the aircraft, or the duals are not in the box.
 fn found(
     alloc: Global,
     book: &Book,
@@ -201,23 +263,12 @@ fn found(
     cuts: &[i64],
     slack: u32,
 ) -> Result<Vec<Found>, Fail> {
-    own_costs_are_for_book();
-    every_book_is_sound(book);
-    let (table, net) = (CostTable::of(alloc, book)?, Net::new(alloc, book)?);
-    let marks = marks(alloc, book, facts)?;
-    let mut values = Vec::new(alloc);
-    values.extend_from_slice(duals)?;
-    let duals = Duals { values };
-    let mut all = Vec::new(alloc);
+    let (table, net) = (costs(alloc, book)?, Net::new(alloc, book)?);
+    let (marks, duals) = (marks(alloc, book, facts)?, duals_of(alloc, duals)?);
     if k as usize >= book.tails.len() || !are_duals(book, &table, &duals) {
-        return Ok(all);
+        return Ok(Vec::new(alloc));
     }
-    let mut search = RouteSearch::new(alloc, book)?;
-    for cut in cuts {
-        let found = search.least_route(book, &table, &net, &marks, &duals, k, *cut, slack)?;
-        all.push(found)?;
-    }
-    Ok(all)
+    Ok(found_in(alloc, book, &table, &net, &marks, &duals, k, cuts, slack)?)
 }
 
 // The activities of a route as bits.
@@ -244,6 +295,13 @@ fn is_none(answer: Option<&Found>) -> bool {
     }
 }
 
+// Whether there is nothing at the first two cuts, and this weight and route at the three behind.
+fn are_beside(answers: &[Found], least: i64, flown: u32) -> bool {
+    let none = is_none(answers.get(0)) && is_none(answers.get(1));
+    let best = is_best(answers.get(2), least, flown) && is_best(answers.get(3), least, flown);
+    none && best && is_best(answers.get(4), least, flown)
+}
+
 // Whether aircraft 0 has this least weight at itself and at any larger cut, and nothing within a cut that is a thousandth less.
 fn is_least(
     alloc: Global,
@@ -256,20 +314,18 @@ fn is_least(
     let (below, above) = (least.saturating_sub(1), least.saturating_add(1));
     let cuts = [i64::MIN, below, least, above, i64::MAX];
     let answers = found(alloc, book, facts, duals, 0, &cuts, 0)?;
-    let none = is_none(answers.get(0)) && is_none(answers.get(1));
-    let best = is_best(answers.get(2), least, flown) && is_best(answers.get(3), least, flown);
-    Ok(none && best && is_best(answers.get(4), least, flown))
+    Ok(are_beside(&answers, least, flown))
+}
+
+// A book without counters and bands.
+fn plain_book(alloc: Global, rows: &[Row]) -> Result<Book, Fail> {
+    book(alloc, rows, Vec::new(alloc), Vec::new(alloc))
 }
 
 // To OSL and back, with just the turn between.
-fn there_and_back() -> [Row; 2] {
-    [flight((0, 1), (360, 420)), flight((1, 0), (450, 510))]
-}
-
-// A book of two flights, without counters.
 fn two_flights(alloc: Global) -> Result<Book, Fail> {
-    let none = counters(alloc, &[])?;
-    book(alloc, &there_and_back(), none, Vec::new(alloc))
+    let rows = [flight((0, 1), (360, 420)), flight((1, 0), (450, 510))];
+    plain_book(alloc, &rows)
 }
 
 // The empty route weighs nothing, and duals draw the aircraft to what they pay for. A fact keeps it from there, or holds it to
@@ -291,32 +347,67 @@ fn cuts_beside_the_least(rt: HostRuntime) -> Result<(), Fail> {
     Ok(())
 }
 
+// Whether aircraft 0, which must fly the second flight, has no route within any cut by a fact more.
+fn is_stuck(alloc: Global, book: &Book, fact: Fact) -> Result<bool, Fail> {
+    let facts = [Fact::Must(0, 1), fact];
+    let answers = found(alloc, book, &facts, &[0, 0], 0, &[i64::MAX], 0)?;
+    Ok(is_none(answers.get(0)))
+}
+
 // An aircraft that has to fly what it may not, or that has nothing to come there, has no route within any cut.
 #[test]
 fn stuck_within_any_cut(rt: HostRuntime) -> Result<(), Fail> {
     let book = two_flights(rt.alloc())?;
     for fact in [Fact::Bar(0, 0), Fact::Cut(0, 1)] {
-        let facts = [Fact::Must(0, 1), fact];
-        let answers = found(rt.alloc(), &book, &facts, &[0, 0], 0, &[i64::MAX], 0)?;
-        assert!(rt; is_none(answers.get(0)), "{fact:?}");
+        let stuck = is_stuck(rt.alloc(), &book, fact)?;
+        assert!(rt; stuck, "{fact:?}");
     }
     Ok(())
 }
 
+// Nothing for a gap below an hour, and 500 for any other.
+fn bands(alloc: Global) -> Result<Vec<Band>, Memory> {
+    let mut bands = Vec::new(alloc);
+    for (upto, cost) in [(59i64, 0u64), (10_000_000, 500)] {
+        bands.push(Band { upto, cost })?;
+    }
+    Ok(bands)
+}
+
 // There and back twice, with ground time between that may set the counter of landings to 0.
 fn twice(alloc: Global, limit: i64, resets: bool) -> Result<Book, Fail> {
-    let ground = Row {
-        flight: false,
-        leg: (0, 0),
-        time: (540, 585),
-        resets,
-    };
-    let [out, back] = there_and_back();
-    let (again, home) = (flight((0, 1), (600, 660)), flight((1, 0), (690, 750)));
-    let band = |upto, cost| Band { upto, cost };
-    let bands = vec![in alloc; band(59, 0), band(10_000_000, 500)]?;
+    let rows = [
+        flight((0, 1), (360, 420)),
+        flight((1, 0), (450, 510)),
+        Row {
+            flight: false,
+            leg: (0, 0),
+            time: (540, 585),
+            resets,
+        },
+        flight((0, 1), (600, 660)),
+        flight((1, 0), (690, 750)),
+    ];
     let landings = counters(alloc, &[(CounterKind::Landings, limit, 60)])?;
-    book(alloc, &[out, back, ground, again, home], landings, bands)
+    book(alloc, &rows, landings, bands(alloc)?)
+}
+
+// Whether aircraft 0, which must fly all four flights, has this least weight, with a route of these activities.
+fn is_least_of_four(
+    alloc: Global,
+    limit: i64,
+    resets: bool,
+    least: i64,
+    flown: u32,
+) -> Result<bool, Fail> {
+    let musts = [
+        Fact::Must(0, 0),
+        Fact::Must(0, 1),
+        Fact::Must(0, 3),
+        Fact::Must(0, 4),
+    ];
+    let book = twice(alloc, limit, resets)?;
+    is_least(alloc, &book, &musts, &[0, 0, 0, 0, 0], least, flown)
 }
 
 // Counters aside the aircraft flies all four for 240,000, through the ground time and with two landings on its counter. With a
@@ -324,19 +415,12 @@ fn twice(alloc: Global, limit: i64, resets: bool) -> Result<Book, Fail> {
 // ground time sets the counter to 0 it need not.
 #[test]
 fn counters_are_not_in_the_completion(rt: HostRuntime) -> Result<(), Fail> {
-    let musts = [
-        Fact::Must(0, 0),
-        Fact::Must(0, 1),
-        Fact::Must(0, 3),
-        Fact::Must(0, 4),
-    ];
     for (limit, resets, least, flown) in [
         (3i64, false, 740_000i64, 0b11011u32),
         (3, true, 240_000, 0b11111),
         (4, false, 240_000, 0b11111),
     ] {
-        let book = twice(rt.alloc(), limit, resets)?;
-        let answer = is_least(rt.alloc(), &book, &musts, &[0, 0, 0, 0, 0], least, flown)?;
+        let answer = is_least_of_four(rt.alloc(), limit, resets, least, flown)?;
         assert!(rt; answer, "limit {limit}, {resets}");
     }
     Ok(())

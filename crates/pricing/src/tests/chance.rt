@@ -56,36 +56,35 @@ impl Dice {
         Ok(rows)
     }
 
+    // Minutes or days, their limit and their stop.
+    fn counted(&mut self) -> (CounterKind, i64, i64) {
+        let (kind, limit) = if self.below(2) > 0 {
+            (CounterKind::Minutes, 60 + 60 * self.below(3) as i64)
+        } else {
+            (CounterKind::Days, 1440)
+        };
+        (kind, limit, 30 + self.below(100) as i64)
+    }
+
+    fn landings(&mut self) -> (CounterKind, i64, i64) {
+        let (limit, stop) = (1 + self.below(4) as i64, 30 + self.below(60) as i64);
+        (CounterKind::Landings, limit, stop)
+    }
+
+    fn bands(&mut self, alloc: Global) -> Result<Vec<Band>, Memory> {
+        let mut bands = Vec::new(alloc);
+        for (upto, most) in [(45i64, 50u32), (200, 100)] {
+            let cost = self.below(most) as u64;
+            bands.push(Band { upto, cost })?;
+        }
+        Ok(bands)
+    }
+
     // Two counters: landings, and minutes or days.
     fn book(&mut self, alloc: Global) -> Result<Book, Fail> {
-        let kind = if self.below(2) > 0 {
-            CounterKind::Minutes
-        } else {
-            CounterKind::Days
-        };
-        let limit = if kind == CounterKind::Days {
-            1440
-        } else {
-            60 + 60 * self.below(3) as i64
-        };
-        let landings = (
-            CounterKind::Landings,
-            1 + self.below(4) as i64,
-            30 + self.below(60) as i64,
-        );
-        let other = (kind, limit, 30 + self.below(100) as i64);
-        let counters = counters(alloc, &[landings, other])?;
-        let bands = vec![in alloc;
-            Band {
-                upto: 45,
-                cost: self.below(50) as u64
-            },
-            Band {
-                upto: 200,
-                cost: self.below(100) as u64
-            },
-        ]?;
-        book(alloc, &self.rows(alloc)?, counters, bands)
+        let rows = self.rows(alloc)?;
+        let counters = counters(alloc, &[self.landings(), self.counted()])?;
+        book(alloc, &rows, counters, self.bands(alloc)?)
     }
 
     fn fact(&mut self) -> Fact {
@@ -114,6 +113,21 @@ impl Dice {
         }
         Ok(duals)
     }
+}
+
+// The facts and duals of a question about a book.
+#[derive(Drop)]
+struct Question {
+    book: Book,
+    facts: Vec<Fact>,
+    duals: Vec<i64>,
+}
+
+fn make_question(alloc: Global, seed: u64) -> Result<Question, Fail> {
+    let mut dice = Dice { state: seed };
+    let book = dice.book(alloc)?;
+    let (facts, duals) = (dice.facts(alloc)?, dice.duals(alloc)?);
+    Ok(Question { book, facts, duals })
 }
 
 // What the gap before an activity costs: the first band that reaches it.
@@ -212,44 +226,124 @@ fn lesser(best: Option<i64>, weight: Option<i64>) -> Option<i64> {
 }
 
 // The least weight of all routes, and that of one route. A legal route's numbers rise, so that it is the set of them.
-fn least(
+fn least_of(
     rt: &impl Abort,
     alloc: Global,
     book: &Book,
-    facts: &[Fact],
+    marks: &Marks,
     duals: &[i64],
     k: u32,
     route: &[u32],
-) -> Result<(Option<i64>, Option<i64>), Fail> {
-    let marks = marks(alloc, book, facts)?;
+) -> Result<(Option<i64>, Option<i64>), Memory>
+    requires marks { AreMarksOf book.now marks.now }
+    requires aircraft { k < aircraft book.now }
+{
     let mut values = vec![in alloc; 0i64; book.rules.counters.len()]?;
-    assert!(rt; (k as usize) < book.tails.len());
     let mut best = None;
     for number in 0..64 {
         let route = route_of(alloc, number)?;
-        best = lesser(best, weigh(rt, book, &marks, duals, k, &route, &mut values));
+        best = lesser(best, weigh(rt, book, marks, duals, k, &route, &mut values));
     }
-    Ok((best, weigh(rt, book, &marks, duals, k, route, &mut values)))
+    Ok((best, weigh(rt, book, marks, duals, k, route, &mut values)))
 }
 
-// Lines and single links give the same weight.
+fn least(
+    rt: &impl Abort,
+    alloc: Global,
+    asked: &Question,
+    k: u32,
+    route: &[u32],
+) -> Result<(Option<i64>, Option<i64>), Fail> {
+    assert!(rt; (k as usize) < asked.book.tails.len());
+    let marks = marks(alloc, &asked.book, &asked.facts)?;
+    Ok(least_of(rt, alloc, &asked.book, &marks, &asked.duals, k, route)?)
+}
+
+// What an aircraft weighs with lines or link by link.
+fn weight_by(alloc: Global, asked: &Question, k: u32, lines: bool) -> Result<Option<i64>, Fail> {
+    let answer = priced_by(alloc, &asked.book, &asked.facts, &asked.duals, k, lines)?;
+    Ok(weight(&answer))
+}
+
+// Whether lines and single links give an aircraft the same weight.
+fn are_alike(alloc: Global, asked: &Question, k: u32) -> Result<bool, Fail> {
+    let by_lines = weight_by(alloc, asked, k, true)?;
+    let by_links = weight_by(alloc, asked, k, false)?;
+    Ok(by_lines == by_links)
+}
+
 #[test]
 fn lines_weigh_as_single_links(rt: HostRuntime) -> Result<(), Fail> {
     for seed in 300..400u64 {
-        let mut dice = Dice { state: seed };
-        let book = dice.book(rt.alloc())?;
-        let (facts, duals) = (dice.facts(rt.alloc())?, dice.duals(rt.alloc())?);
+        let asked = make_question(rt.alloc(), seed)?;
         for k in 0..2 {
-            let by_lines = priced(rt.alloc(), &book, &facts, &duals, k)?;
-            let by_links = priced_by(rt.alloc(), &book, &facts, &duals, k, false)?;
-            assert_eq!(rt;
-                weight(&by_lines),
-                weight(&by_links),
-                "seed {seed}, aircraft {k}"
-            );
+            let alike = are_alike(rt.alloc(), &asked, k)?;
+            assert!(rt; alike, "seed {seed}, aircraft {k}");
         }
     }
     Ok(())
+}
+
+// How an aircraft's answer compares with all routes: it is not what they say, or it is and the aircraft is stuck, flies one
+// activity at most, or flies more.
+#[derive(Clone, Copy, Debug)]
+enum Judged {
+    Wrong,
+    Stuck,
+    Short,
+    Long,
+}
+
+// The least weight of all routes and that of the answer's route, beside the answer's.
+fn judged_best(best: Option<i64>, weight: Option<i64>, value: i64, flown: usize) -> Judged {
+    if best != Some(value) || weight != Some(value) {
+        Judged::Wrong
+    } else if flown > 1 {
+        Judged::Long
+    } else {
+        Judged::Short
+    }
+}
+
+fn judge_stuck(rt: &impl Abort, alloc: Global, asked: &Question, k: u32) -> Result<Judged, Fail> {
+    let (best, _) = least(rt, alloc, asked, k, &[])?;
+    match best {
+        None => Ok(Judged::Stuck),
+        Some(_) => Ok(Judged::Wrong),
+    }
+}
+
+fn judge_route(
+    rt: &impl Abort,
+    alloc: Global,
+    asked: &Question,
+    k: u32,
+    value: i64,
+    route: &[u32],
+) -> Result<Judged, Fail> {
+    let (best, weight) = least(rt, alloc, asked, k, route)?;
+    Ok(judged_best(best, weight, value, route.len()))
+}
+
+fn judge_answer(
+    rt: &impl Abort,
+    alloc: Global,
+    asked: &Question,
+    k: u32,
+    answer: &Option<Priced>,
+) -> Result<Judged, Fail> {
+    match answer {
+        None => Ok(Judged::Wrong),
+        Some(Priced::Stuck) => judge_stuck(rt, alloc, asked, k),
+        Some(Priced::Best { value, route }) => {
+            judge_route(rt, alloc, asked, k, *value, &route.0)
+        }
+    }
+}
+
+fn judge(rt: &impl Abort, alloc: Global, asked: &Question, k: u32) -> Result<Judged, Fail> {
+    let answer = priced(alloc, &asked.book, &asked.facts, &asked.duals, k)?;
+    judge_answer(rt, alloc, asked, k, &answer)
 }
 
 // Of 300 books some aircraft are stuck, and some fly more than one activity.
@@ -257,31 +351,13 @@ fn lines_weigh_as_single_links(rt: HostRuntime) -> Result<(), Fail> {
 fn as_all_routes_weigh(rt: HostRuntime) -> Result<(), Fail> {
     let (mut stuck, mut long) = (0u32, 0u32);
     for seed in 0..300u64 {
-        let mut dice = Dice { state: seed };
-        let book = dice.book(rt.alloc())?;
-        let (facts, duals) = (dice.facts(rt.alloc())?, dice.duals(rt.alloc())?);
+        let asked = make_question(rt.alloc(), seed)?;
         for k in 0..2 {
-            match priced(rt.alloc(), &book, &facts, &duals, k)? {
-                None => assert!(rt; false, "not priced"),
-                Some(Priced::Stuck) => {
-                    let (best, _) = least(&rt, rt.alloc(), &book, &facts, &duals, k, &[])?;
-                    assert_eq!(rt; best, None, "seed {seed}, aircraft {k}");
-                    stuck = stuck.saturating_add(1);
-                }
-                Some(Priced::Best { value, route }) => {
-                    let (best, weight) = least(
-                        &rt,
-                        rt.alloc(),
-                        &book,
-                        &facts,
-                        &duals,
-                        k,
-                        &route.0,
-                    )?;
-                    assert_eq!(rt; best, Some(value), "seed {seed}, aircraft {k}");
-                    assert_eq!(rt; weight, Some(value), "seed {seed}, aircraft {k}: {route:?}");
-                    long = long.saturating_add((route.0.len() > 1) as u32);
-                }
+            match judge(&rt, rt.alloc(), &asked, k)? {
+                Judged::Wrong => assert!(rt; false, "seed {seed}, aircraft {k}"),
+                Judged::Stuck => stuck = stuck.saturating_add(1),
+                Judged::Short => (),
+                Judged::Long => long = long.saturating_add(1),
             }
         }
     }

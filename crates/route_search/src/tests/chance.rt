@@ -2,10 +2,13 @@
 
 ghost use Rattle.std.specs.Prelude.{◌≡◌, ◌<◌, length};
 ghost use Rattle.tail_book.specs.Lookup.{aircraft};
+ghost use Rattle.tail_book.specs.inside.CostTable.{IsTableFor};
+ghost use Rattle.connection_net.specs.Net.{net_of};
+ghost use Rattle.branch_marks.specs.Settled.{AreDuals};
 ghost use Rattle.branch_marks.specs.inside.MarkTables.{AreMarksOf};
 ghost use Rattle.maint_counters.specs.inside.StepTable.{IsStepTableOf};
 
-use super::{Row, are_duals, bits, book, counters, flight, found, is_none, marks};
+use super::{Row, are_duals, bits, book, costs, counters, duals_of, flight, found, is_none, marks};
 use crate::{Found, RouteSearch, Suggestions};
 use branch_marks::{Fact, Marks};
 use connection_net::Net;
@@ -14,7 +17,6 @@ use maint_counters::{StepTable, is_legal_route};
 use std::alloc::Global;
 use std::process::Abort;
 use std::test::Fail;
-use tail_book::laws::{every_book_is_sound, own_costs_are_for_book};
 use tail_book::*;
 
 fn row(dice: &mut Dice, start: i64) -> Row {
@@ -37,30 +39,35 @@ fn rows(dice: &mut Dice, alloc: Global) -> Result<Vec<Row>, Memory> {
     Ok(rows)
 }
 
-// Two counters, landings and minutes or days, and two bands.
-fn chance_book(dice: &mut Dice, alloc: Global) -> Result<Book, Fail> {
+// Minutes or days, their limit and their stop.
+fn counted(dice: &mut Dice) -> (CounterKind, i64, i64) {
     let (kind, limit) = if dice.below(2) > 0 {
         (CounterKind::Minutes, 60 + 60 * dice.below(3) as i64)
     } else {
         (CounterKind::Days, 1440)
     };
-    let landings = (
-        CounterKind::Landings,
-        1 + dice.below(4) as i64,
-        30 + dice.below(60) as i64,
-    );
-    let other = (kind, limit, 30 + dice.below(100) as i64);
-    let band = |upto, cost| Band {
-        upto,
-        cost: cost as u64,
-    };
-    let bands = vec![in alloc; band(45, dice.below(50)), band(200, dice.below(100))]?;
-    book(
-        alloc,
-        &rows(dice, alloc)?,
-        counters(alloc, &[landings, other])?,
-        bands,
-    )
+    (kind, limit, 30 + dice.below(100) as i64)
+}
+
+fn landings(dice: &mut Dice) -> (CounterKind, i64, i64) {
+    let (limit, stop) = (1 + dice.below(4) as i64, 30 + dice.below(60) as i64);
+    (CounterKind::Landings, limit, stop)
+}
+
+fn bands(dice: &mut Dice, alloc: Global) -> Result<Vec<Band>, Memory> {
+    let mut bands = Vec::new(alloc);
+    for (upto, most) in [(45i64, 50u32), (200, 100)] {
+        let cost = dice.below(most) as u64;
+        bands.push(Band { upto, cost })?;
+    }
+    Ok(bands)
+}
+
+// Two counters, landings and minutes or days, and two bands.
+fn chance_book(dice: &mut Dice, alloc: Global) -> Result<Book, Fail> {
+    let rows = rows(dice, alloc)?;
+    let counters = counters(alloc, &[landings(dice), counted(dice)])?;
+    book(alloc, &rows, counters, bands(dice, alloc)?)
 }
 
 fn fact(dice: &mut Dice) -> Fact {
@@ -73,16 +80,44 @@ fn fact(dice: &mut Dice) -> Fact {
     }
 }
 
-// At most three facts, and duals of both signs.
-fn question(dice: &mut Dice, alloc: Global) -> Result<(Vec<Fact>, Vec<i64>), Memory> {
-    let (mut facts, mut duals) = (Vec::new(alloc), Vec::new(alloc));
+// At most three facts.
+fn facts(dice: &mut Dice, alloc: Global) -> Result<Vec<Fact>, Memory> {
+    let mut facts = Vec::new(alloc);
     for _ in 0..dice.below(4) {
         facts.push(fact(dice))?;
     }
+    Ok(facts)
+}
+
+// Duals of both signs.
+fn duals(dice: &mut Dice, alloc: Global) -> Result<Vec<i64>, Memory> {
+    let mut duals = Vec::new(alloc);
     for _ in 0..6 {
         duals.push(dice.below(300_000) as i64 - 100_000)?;
     }
-    Ok((facts, duals))
+    Ok(duals)
+}
+
+// A book with facts and duals to ask about, and some slack or none.
+#[derive(Drop)]
+struct Question {
+    book: Book,
+    facts: Vec<Fact>,
+    duals: Vec<i64>,
+    slack: u32,
+}
+
+fn make_question(alloc: Global, seed: u64) -> Result<Question, Fail> {
+    let mut dice = Dice::new(seed);
+    let book = chance_book(&mut dice, alloc)?;
+    let (facts, duals) = (facts(&mut dice, alloc)?, duals(&mut dice, alloc)?);
+    let slack = 50_000 * dice.below(2);
+    Ok(Question {
+        book,
+        facts,
+        duals,
+        slack,
+    })
 }
 
 // What the first band that reaches so many minutes costs.
@@ -95,9 +130,29 @@ fn waiting(book: &Book, minutes: i64) -> i64 {
     0
 }
 
+// The minutes that are flown, by the aircraft's rate.
+fn flown(activity: &Activity, k: u32) -> i64 {
+    if activity.flight {
+        let rate = (k as i64).saturating_add(1);
+        activity
+            .end
+            .saturating_sub(activity.start)
+            .saturating_mul(rate)
+    } else {
+        0
+    }
+}
+
+// What the minutes between an activity and the one before it cost.
+fn stop(book: &Book, activity: &Activity, free: Option<i64>) -> i64 {
+    match free {
+        Some(end) => waiting(book, activity.start.saturating_sub(end)),
+        None => 0,
+    }
+}
+
 // What a route of the book costs, less its duals, in thousandths: minutes flown by the aircraft's rate, and the stops.
 fn weight(book: &Book, duals: &[i64], k: u32, route: &[u32]) -> i64 {
-    let rate = (k as i64).saturating_add(1);
     let (mut weight, mut free) = (0i64, None);
     for a in route {
         let (Some(activity), Some(dual)) = (
@@ -106,16 +161,7 @@ fn weight(book: &Book, duals: &[i64], k: u32, route: &[u32]) -> i64 {
         ) else {
             return i64::MAX;
         };
-        let flown = if activity.flight {
-            activity.end.saturating_sub(activity.start)
-        } else {
-            0
-        };
-        let stop = match free {
-            Some(end) => waiting(book, activity.start.saturating_sub(end)),
-            None => 0,
-        };
-        let cost = flown.saturating_mul(rate).saturating_add(stop);
+        let cost = flown(activity, k).saturating_add(stop(book, activity, free));
         weight = weight
             .saturating_add(cost.saturating_mul(1000))
             .saturating_sub(*dual);
@@ -206,7 +252,7 @@ fn is_of_weight(answer: Option<&Found>, weights: &Weights, least: i64) -> bool {
 }
 
 // All weights of an aircraft of the book.
-fn weights_of(
+fn weights_in(
     rt: &impl Abort,
     alloc: Global,
     book: &Book,
@@ -219,35 +265,62 @@ fn weights_of(
     weigh_all(alloc, book, &marks, &steps, duals, k)
 }
 
-// Whether a search answers as the weights say, at cuts below, at and above the least of them.
-fn answers(
-    alloc: Global,
-    book: &Book,
-    facts: &[Fact],
-    duals: &[i64],
-    k: u32,
-    slack: u32,
-    weights: &Weights,
-) -> Result<bool, Fail> {
-    let Some(least) = weights.least(0) else {
-        let answers = found(alloc, book, facts, duals, k, &[i64::MAX], slack)?;
-        return Ok(is_none(answers.get(0)));
-    };
-    let (below, above) = (least.saturating_sub(1), least.saturating_add(70_000));
-    let answers = found(
+fn weights_of(rt: &impl Abort, alloc: Global, asked: &Question, k: u32) -> Result<Weights, Fail> {
+    weights_in(rt, alloc, &asked.book, &asked.facts, &asked.duals, k)
+}
+
+// What is found at these cuts.
+fn found_at(alloc: Global, asked: &Question, k: u32, cuts: &[i64]) -> Result<Vec<Found>, Fail> {
+    found(
         alloc,
-        book,
-        facts,
-        duals,
+        &asked.book,
+        &asked.facts,
+        &asked.duals,
         k,
-        &[below, least, above, i64::MAX],
-        slack,
-    )?;
-    let mut right = is_none(answers.get(0));
-    for i in 1..4usize {
-        right &= is_of_weight(answers.get(i), weights, least);
+        cuts,
+        asked.slack,
+    )
+}
+
+// Whether there is nothing at the first cut, and this weight at the three behind.
+fn are_right(answers: &[Found], weights: &Weights, least: i64) -> bool {
+    is_none(answers.get(0))
+        && is_of_weight(answers.get(1), weights, least)
+        && is_of_weight(answers.get(2), weights, least)
+        && is_of_weight(answers.get(3), weights, least)
+}
+
+// Whether a search finds nothing within any cut.
+fn is_stuck(alloc: Global, asked: &Question, k: u32) -> Result<bool, Fail> {
+    let answers = found_at(alloc, asked, k, &[i64::MAX])?;
+    Ok(is_none(answers.get(0)))
+}
+
+// Whether a search answers as the weights say, at cuts below, at and above the least of them.
+fn answers_at(
+    alloc: Global,
+    asked: &Question,
+    k: u32,
+    weights: &Weights,
+    least: i64,
+) -> Result<bool, Fail> {
+    let (below, above) = (least.saturating_sub(1), least.saturating_add(70_000));
+    let answers = found_at(alloc, asked, k, &[below, least, above, i64::MAX])?;
+    Ok(are_right(&answers, weights, least))
+}
+
+// Whether a search answers as all routes say, and the aircraft is stuck or has a route.
+fn judge_least(
+    rt: &impl Abort,
+    alloc: Global,
+    asked: &Question,
+    k: u32,
+) -> Result<(bool, bool), Fail> {
+    let weights = weights_of(rt, alloc, asked, k)?;
+    match weights.least(0) {
+        Some(least) => Ok((answers_at(alloc, asked, k, &weights, least)?, false)),
+        None => Ok((is_stuck(alloc, asked, k)?, true)),
     }
-    Ok(right)
 }
 
 // With and without slack. Of 300 books some aircraft are stuck.
@@ -255,46 +328,74 @@ fn answers(
 fn as_all_routes_weigh(rt: HostRuntime) -> Result<(), Fail> {
     let mut stuck = 0u32;
     for seed in 0..300u64 {
-        let mut dice = Dice::new(seed);
-        let book = chance_book(&mut dice, rt.alloc())?;
-        let (facts, duals) = question(&mut dice, rt.alloc())?;
-        let slack = 50_000 * dice.below(2);
+        let asked = make_question(rt.alloc(), seed)?;
         for k in 0..2 {
-            let weights = weights_of(&rt, rt.alloc(), &book, &facts, &duals, k)?;
-            let right = answers(rt.alloc(), &book, &facts, &duals, k, slack, &weights)?;
+            let (right, none) = judge_least(&rt, rt.alloc(), &asked, k)?;
             assert!(rt; right, "seed {seed}, aircraft {k}");
-            stuck = stuck.saturating_add(weights.routes.is_empty() as u32);
+            stuck = stuck.saturating_add(none as u32);
         }
     }
     assert!(rt; stuck > 30, "{stuck} stuck");
     Ok(())
 }
 
-// What a search within a cut suggests, all routes in one list; nothing where the duals are not in the box.
-fn suggested(
+// What a search within a cut suggests, all routes in one list.
+fn suggested_in(
+    alloc: Global,
+    book: &Book,
+    table: &CostTable,
+    net: &Net,
+    marks: &Marks,
+    duals: &Duals,
+    k: u32,
+    cut: i64,
+) -> Result<Suggestions, Memory>
+    requires table { IsTableFor book.now table.now }
+    requires net { net.now ≡ net_of book.now }
+    requires marks { AreMarksOf book.now marks.now }
+    requires duals { AreDuals table.now book.now duals.now.values }
+    requires aircraft { k < aircraft book.now }
+{
+    let mut search = RouteSearch::new(alloc, book)?;
+    let mut into = Suggestions::new(alloc);
+    search.least_route(book, table, net, marks, duals, k, cut, 60_000)?;
+    search.suggest(book, table, net, marks, duals, k, cut, &mut into)?;
+    Ok(into)
+}
+
+// The same by the book's own costs.
+fn suggested_by(
     rt: &impl Abort,
     alloc: Global,
     book: &Book,
     facts: &[Fact],
     duals: &[i64],
-    k: u32,
     cut: i64,
-    slack: u32,
 ) -> Result<Suggestions, Fail> {
-    own_costs_are_for_book();
-    every_book_is_sound(book);
-    assert!(rt; (k as usize) < book.tails.len());
-    let (table, net) = (CostTable::of(alloc, book)?, Net::new(alloc, book)?);
-    let marks = marks(alloc, book, facts)?;
-    let mut values = Vec::new(alloc);
-    values.extend_from_slice(duals)?;
-    let duals = Duals { values };
+    let (table, net) = (costs(alloc, book)?, Net::new(alloc, book)?);
+    let (marks, duals) = (marks(alloc, book, facts)?, duals_of(alloc, duals)?);
+    assert!(rt; book.tails.len() > 0);
     assert!(rt; are_duals(book, &table, &duals));
-    let mut search = RouteSearch::new(alloc, book)?;
-    let mut into = Suggestions::new(alloc);
-    search.least_route(book, &table, &net, &marks, &duals, k, cut, slack)?;
-    search.suggest(book, &table, &net, &marks, &duals, k, cut, &mut into)?;
-    Ok(into)
+    Ok(suggested_in(alloc, book, &table, &net, &marks, &duals, 0, cut)?)
+}
+
+// What the first aircraft is suggested.
+fn suggested(
+    rt: &impl Abort,
+    alloc: Global,
+    asked: &Question,
+    cut: i64,
+) -> Result<Suggestions, Fail> {
+    suggested_by(rt, alloc, &asked.book, &asked.facts, &asked.duals, cut)
+}
+
+// Lowers what is known of each activity of a route to its weight.
+fn lower(best: &mut [i64; 6], route: &[u32], weight: i64) {
+    for a in route {
+        if let Some(known) = best.get_mut(*a as usize) {
+            *known = weight.min(*known);
+        }
+    }
 }
 
 // For each activity the least weight of the suggested routes that have it; nothing where one of them is none of these, or is past the cut.
@@ -311,11 +412,7 @@ fn best_suggested(
         if weight > cut || route.is_empty() {
             return None;
         }
-        for a in route {
-            if let Some(known) = best.get_mut(*a as usize) {
-                *known = weight.min(*known);
-            }
-        }
+        lower(&mut best, route, weight);
     }
     Some(best)
 }
@@ -333,24 +430,53 @@ fn best_through(weights: &Weights, cut: i64) -> [i64; 6] {
     best
 }
 
+// How the suggestions of a question compare with all routes: some are not the best ones, or they are, at most one or more.
+#[derive(Clone, Copy, Debug)]
+enum Judged {
+    Wrong,
+    Few,
+    Many,
+}
+
+fn judged_within(
+    rt: &impl Abort,
+    alloc: Global,
+    asked: &Question,
+    weights: &Weights,
+    cut: i64,
+) -> Result<Judged, Fail> {
+    let into = suggested(rt, alloc, asked, cut)?;
+    let best = best_suggested(&asked.book, &into, weights, cut);
+    Ok(if best != Some(best_through(weights, cut)) {
+        Judged::Wrong
+    } else if into.count() > 1 {
+        Judged::Many
+    } else {
+        Judged::Few
+    })
+}
+
+fn judge(rt: &impl Abort, alloc: Global, asked: &Question) -> Result<Judged, Fail> {
+    let weights = weights_of(rt, alloc, asked, 0)?;
+    match weights.least(0) {
+        Some(least) => {
+            let cut = least.saturating_add(60_000);
+            judged_within(rt, alloc, asked, &weights, cut)
+        }
+        None => Ok(Judged::Few),
+    }
+}
+
 // With so few rests nothing is missed: the best route through each activity within the cut is there, and no other one.
 #[test]
 fn suggestions_are_the_best_through_each(rt: HostRuntime) -> Result<(), Fail> {
     let mut many = 0u32;
     for seed in 0..150u64 {
-        let mut dice = Dice::new(seed);
-        let book = chance_book(&mut dice, rt.alloc())?;
-        let (facts, duals) = question(&mut dice, rt.alloc())?;
-        let weights = weights_of(&rt, rt.alloc(), &book, &facts, &duals, 0)?;
-        if let Some(least) = weights.least(0) {
-            let cut = least.saturating_add(60_000);
-            let into = suggested(&rt, rt.alloc(), &book, &facts, &duals, 0, cut, 60_000)?;
-            let best = best_suggested(&book, &into, &weights, cut);
-            assert!(rt;
-                best == Some(best_through(&weights, cut)),
-                "seed {seed}: {best:?}"
-            );
-            many = many.saturating_add((into.count() > 1) as u32);
+        let asked = make_question(rt.alloc(), seed)?;
+        match judge(&rt, rt.alloc(), &asked)? {
+            Judged::Wrong => assert!(rt; false, "seed {seed}"),
+            Judged::Few => (),
+            Judged::Many => many = many.saturating_add(1),
         }
     }
     assert!(rt; many > 30, "{many} with more than one");
