@@ -1,11 +1,12 @@
 //! Books by hand, whose least weights are known from outside; and books by chance, beside all their routes.
 
-ghost use Rattle.std.specs.Prelude.{◌≡◌, ◌<◌, ◌+◌, IfOk, IsTrue, All, length};
+ghost use Rattle.std.specs.Prelude.{◌≡◌, ◌<◌, ◌+◌, IfOk, IsSome, IsTrue, All, length};
 ghost use Rattle.tail_book.specs.Lookup.{activities, aircraft};
 ghost use Rattle.tail_book.specs.inside.CostTable.{IsInBox, IsTableFor};
 ghost use Rattle.connection_net.specs.Net.{net_of};
 ghost use Rattle.branch_marks.specs.Settled.{AreDuals};
 ghost use Rattle.branch_marks.specs.inside.MarkTables.{AreMarksOf};
+ghost use Rattle.pricing.specs.Price.{IsPriceOf};
 
 use crate::{Priced, Pricer, price};
 use branch_marks::{Fact, Marks};
@@ -226,6 +227,28 @@ fn duals_of(alloc: Global, duals: &[i64]) -> Result<Duals, Memory> {
     Ok(Duals { values })
 }
 
+// Prices an aircraft with lines.
+fn priced_in_lines(
+    alloc: Global,
+    book: &Book,
+    table: &CostTable,
+    net: &Net,
+    marks: &Marks,
+    duals: &Duals,
+    k: u32,
+) -> Result<Priced, Memory>
+    requires table { IsTableFor book.now table.now }
+    requires net { net.now ≡ net_of book.now }
+    requires marks { AreMarksOf book.now marks.now }
+    requires duals { AreDuals table.now book.now duals.now.values }
+    requires aircraft { k < aircraft book.now }
+    ensures { IfOk result (IsPriceOf table.now book.now marks.now.facts k duals.now.values) }
+{
+    let mut store = store(alloc, book)?;
+    price(alloc, book, table, net, marks, duals, k, &mut store)
+}
+
+// Prices an aircraft link by link.
 fn priced_by_links(
     alloc: Global,
     book: &Book,
@@ -234,18 +257,17 @@ fn priced_by_links(
     marks: &Marks,
     duals: &Duals,
     k: u32,
-    store: &mut Store,
 ) -> Result<Priced, Memory>
     requires table { IsTableFor book.now table.now }
     requires net { net.now ≡ net_of book.now }
     requires marks { AreMarksOf book.now marks.now }
     requires duals { AreDuals table.now book.now duals.now.values }
     requires aircraft { k < aircraft book.now }
-    requires nodes { length store.old.buckets ≡ activities book.now }
-    requires width { store.old.width ≡ 1 + length book.now.rules.counters }
+    ensures { IfOk result (IsPriceOf table.now book.now marks.now.facts k duals.now.values) }
 {
+    let mut store = store(alloc, book)?;
     let mut pricer = Pricer::without_lines(alloc, book, table)?;
-    pricer.price(book, table, net, marks, duals, k, store)
+    pricer.price(book, table, net, marks, duals, k, &mut store)
 }
 
 // Prices an aircraft with lines or link by link.
@@ -264,13 +286,59 @@ fn priced_in(
     requires marks { AreMarksOf book.now marks.now }
     requires duals { AreDuals table.now book.now duals.now.values }
     requires aircraft { k < aircraft book.now }
+    ensures { IfOk result (IsPriceOf table.now book.now marks.now.facts k duals.now.values) }
 {
-    let mut store = store(alloc, book)?;
     if lines {
-        price(alloc, book, table, net, marks, duals, k, &mut store)
+        priced_in_lines(alloc, book, table, net, marks, duals, k)
     } else {
-        priced_by_links(alloc, book, table, net, marks, duals, k, &mut store)
+        priced_by_links(alloc, book, table, net, marks, duals, k)
     }
+}
+
+// Prices an aircraft, if the book has it and the duals are in the box.
+fn priced_if(
+    alloc: Global,
+    book: &Book,
+    table: &CostTable,
+    net: &Net,
+    marks: &Marks,
+    duals: &Duals,
+    k: u32,
+    lines: bool,
+) -> Result<Option<Priced>, Memory>
+    requires table { IsTableFor book.now table.now }
+    requires net { net.now ≡ net_of book.now }
+    requires marks { AreMarksOf book.now marks.now }
+    ensures { IfOk result (λ answer. IsSome answer → k < aircraft book.now) }
+{
+    if k as usize >= book.tails.len() || !are_duals(book, table, duals) {
+        return Ok(None);
+    }
+    match priced_in(alloc, book, table, net, marks, duals, k, lines) {
+        Ok(answer) => Ok(Some(answer)),
+        Err(error) => Err(error),
+    }
+}
+
+// Prices an aircraft by marks of these facts and by these duals.
+fn priced_under(
+    alloc: Global,
+    book: &Book,
+    table: &CostTable,
+    net: &Net,
+    facts: &[Fact],
+    duals: &[i64],
+    k: u32,
+    lines: bool,
+) -> Result<Option<Priced>, Fail>
+    requires table { IsTableFor book.now table.now }
+    requires net { net.now ≡ net_of book.now }
+    ensures { IfOk result (λ answer. IsSome answer → k < aircraft book.now) }
+{
+    let marks = marks(alloc, book, facts)?;
+    let duals = duals_of(alloc, duals)?;
+    let answer = priced_if(alloc, book, table, net, &marks, &duals, k, lines)?;
+    Ok(answer)
 }
 
 // Prices an aircraft by the book's own costs, with lines or link by link; nothing where the book does not have it, or the
@@ -282,14 +350,12 @@ fn priced_by(
     duals: &[i64],
     k: u32,
     lines: bool,
-) -> Result<Option<Priced>, Fail> {
-    let (table, net) = (costs(alloc, book)?, Net::new(alloc, book)?);
-    let (marks, duals) = (marks(alloc, book, facts)?, duals_of(alloc, duals)?);
-    if k as usize >= book.tails.len() || !are_duals(book, &table, &duals) {
-        return Ok(None);
-    }
-    let answer = priced_in(alloc, book, &table, &net, &marks, &duals, k, lines)?;
-    Ok(Some(answer))
+) -> Result<Option<Priced>, Fail>
+    ensures { IfOk result (λ answer. IsSome answer → k < aircraft book.now) }
+{
+    let table = costs(alloc, book)?;
+    let net = Net::new(alloc, book)?;
+    priced_under(alloc, book, &table, &net, facts, duals, k, lines)
 }
 
 fn priced(
@@ -298,7 +364,9 @@ fn priced(
     facts: &[Fact],
     duals: &[i64],
     k: u32,
-) -> Result<Option<Priced>, Fail> {
+) -> Result<Option<Priced>, Fail>
+    ensures { IfOk result (λ answer. IsSome answer → k < aircraft book.now) }
+{
     priced_by(alloc, book, facts, duals, k, true)
 }
 

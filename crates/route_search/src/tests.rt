@@ -1,6 +1,6 @@
 //! Books by hand, whose least weights are known from outside, at cuts beside them; and books by chance, beside all their routes.
 
-ghost use Rattle.std.specs.Prelude.{◌≡◌, ◌<◌, IfOk, IsTrue, All};
+ghost use Rattle.std.specs.Prelude.{◌≡◌, ◌<◌, IfOk, IsTrue, All, length};
 ghost use Rattle.tail_book.specs.Lookup.{aircraft};
 ghost use Rattle.tail_book.specs.inside.CostTable.{IsInBox, IsTableFor};
 ghost use Rattle.connection_net.specs.Net.{net_of};
@@ -244,12 +244,58 @@ fn found_in(
     requires marks { AreMarksOf book.now marks.now }
     requires duals { AreDuals table.now book.now duals.now.values }
     requires aircraft { k < aircraft book.now }
+    ensures { IfOk result (λ _. k < aircraft book.now) }
 {
     let mut search = RouteSearch::new(alloc, book)?;
     let mut all = Vec::new(alloc);
     for cut in cuts {
         all.push(search.least_route(book, table, net, marks, duals, k, *cut, slack)?)?;
     }
+    Ok(all)
+}
+
+// The same, if the book has the aircraft and the duals are in the box.
+fn found_if(
+    alloc: Global,
+    book: &Book,
+    table: &CostTable,
+    net: &Net,
+    marks: &Marks,
+    duals: &Duals,
+    k: u32,
+    cuts: &[i64],
+    slack: u32,
+) -> Result<Vec<Found>, Memory>
+    requires table { IsTableFor book.now table.now }
+    requires net { net.now ≡ net_of book.now }
+    requires marks { AreMarksOf book.now marks.now }
+    ensures { IfOk result (λ all. 0 < length all.items → k < aircraft book.now) }
+{
+    if k as usize >= book.tails.len() || !are_duals(book, table, duals) {
+        return Ok(Vec::new(alloc));
+    }
+    found_in(alloc, book, table, net, marks, duals, k, cuts, slack)
+}
+
+// The same by marks of these facts and by these duals.
+fn found_under(
+    alloc: Global,
+    book: &Book,
+    table: &CostTable,
+    net: &Net,
+    facts: &[Fact],
+    duals: &[i64],
+    k: u32,
+    cuts: &[i64],
+    slack: u32,
+) -> Result<Vec<Found>, Fail>
+    requires table { IsTableFor book.now table.now }
+    requires net { net.now ≡ net_of book.now }
+    ensures { IfOk result (λ all. 0 < length all.items → k < aircraft book.now) }
+{
+    let marks = marks(alloc, book, facts)?;
+    let duals = duals_of(alloc, duals)?;
+    let all = found_if(alloc, book, table, net, &marks, &duals, k, cuts, slack)?;
     Ok(all)
 }
 
@@ -262,13 +308,12 @@ fn found(
     k: u32,
     cuts: &[i64],
     slack: u32,
-) -> Result<Vec<Found>, Fail> {
-    let (table, net) = (costs(alloc, book)?, Net::new(alloc, book)?);
-    let (marks, duals) = (marks(alloc, book, facts)?, duals_of(alloc, duals)?);
-    if k as usize >= book.tails.len() || !are_duals(book, &table, &duals) {
-        return Ok(Vec::new(alloc));
-    }
-    Ok(found_in(alloc, book, &table, &net, &marks, &duals, k, cuts, slack)?)
+) -> Result<Vec<Found>, Fail>
+    ensures { IfOk result (λ all. 0 < length all.items → k < aircraft book.now) }
+{
+    let table = costs(alloc, book)?;
+    let net = Net::new(alloc, book)?;
+    found_under(alloc, book, &table, &net, facts, duals, k, cuts, slack)
 }
 
 // The activities of a route as bits.

@@ -1,6 +1,6 @@
 //! Books, marks and duals by chance: the answer at each cut is that of all routes, and so is what is suggested.
 
-ghost use Rattle.std.specs.Prelude.{◌≡◌, ◌<◌, length};
+ghost use Rattle.std.specs.Prelude.{◌≡◌, ◌<◌, IfOk};
 ghost use Rattle.tail_book.specs.Lookup.{aircraft};
 ghost use Rattle.tail_book.specs.inside.CostTable.{IsTableFor};
 ghost use Rattle.connection_net.specs.Net.{net_of};
@@ -198,6 +198,7 @@ fn weigh_all(
     requires marks { AreMarksOf book.now marks.now }
     requires steps { IsStepTableOf book.now steps.now }
     requires aircraft { k < aircraft book.now }
+    ensures { IfOk result (λ _. k < aircraft book.now) }
 {
     let mut values = vec![in alloc; 0i64; book.rules.counters.len()]?;
     let mut routes = Vec::new(alloc);
@@ -261,7 +262,8 @@ fn weights_in(
     k: u32,
 ) -> Result<Weights, Fail> {
     assert!(rt; (k as usize) < book.tails.len());
-    let (marks, steps) = (marks(alloc, book, facts)?, StepTable::of(alloc, book)?);
+    let marks = marks(alloc, book, facts)?;
+    let steps = StepTable::of(alloc, book)?;
     weigh_all(alloc, book, &marks, &steps, duals, k)
 }
 
@@ -355,11 +357,35 @@ fn suggested_in(
     requires marks { AreMarksOf book.now marks.now }
     requires duals { AreDuals table.now book.now duals.now.values }
     requires aircraft { k < aircraft book.now }
+    ensures { IfOk result (λ _. k < aircraft book.now) }
 {
     let mut search = RouteSearch::new(alloc, book)?;
     let mut into = Suggestions::new(alloc);
     search.least_route(book, table, net, marks, duals, k, cut, 60_000)?;
     search.suggest(book, table, net, marks, duals, k, cut, &mut into)?;
+    Ok(into)
+}
+
+// The same for the first aircraft, by marks of these facts and by these duals.
+fn suggested_under(
+    rt: &impl Abort,
+    alloc: Global,
+    book: &Book,
+    table: &CostTable,
+    net: &Net,
+    facts: &[Fact],
+    duals: &[i64],
+    cut: i64,
+) -> Result<Suggestions, Fail>
+    requires table { IsTableFor book.now table.now }
+    requires net { net.now ≡ net_of book.now }
+    ensures { IfOk result (λ _. 0 < aircraft book.now) }
+{
+    let marks = marks(alloc, book, facts)?;
+    let duals = duals_of(alloc, duals)?;
+    assert!(rt; book.tails.len() > 0);
+    assert!(rt; are_duals(book, table, &duals));
+    let into = suggested_in(alloc, book, table, net, &marks, &duals, 0, cut)?;
     Ok(into)
 }
 
@@ -372,11 +398,9 @@ fn suggested_by(
     duals: &[i64],
     cut: i64,
 ) -> Result<Suggestions, Fail> {
-    let (table, net) = (costs(alloc, book)?, Net::new(alloc, book)?);
-    let (marks, duals) = (marks(alloc, book, facts)?, duals_of(alloc, duals)?);
-    assert!(rt; book.tails.len() > 0);
-    assert!(rt; are_duals(book, &table, &duals));
-    Ok(suggested_in(alloc, book, &table, &net, &marks, &duals, 0, cut)?)
+    let table = costs(alloc, book)?;
+    let net = Net::new(alloc, book)?;
+    suggested_under(rt, alloc, book, &table, &net, facts, duals, cut)
 }
 
 // What the first aircraft is suggested.
