@@ -1,0 +1,10 @@
+use Rattle.std.proofs.Common.{ap, arith, length}
+use Rattle.floor_rows.specs.inside.FloorRow.{FloorRowSeen}
+use Rattle.floor_rows.proofs.KeptFloors.{kept_length}
+use Rattle.floor_rows.proofs.floor_row.FloorRow.is.Goals as goal
+
+pub is_row-requires-clause-place : goal.is_row-requires-clause-place
+is_row-requires-clause-place c =
+    let all = kept_length c.self.inside.width c.self.inside.known.items c.self.inside.values.items in
+    let seen = ap (λ (row : FloorRowSeen). length row.floors) c.self.view_is in
+    omega (arith, all, seen)

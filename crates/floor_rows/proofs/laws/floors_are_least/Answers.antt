@@ -1,0 +1,5 @@
+use Rattle.floor_rows.proofs.LeastOver.{floors_least}
+use Rattle.floor_rows.proofs.laws.floors_are_least.Goals as goal
+
+pub returns : goal.returns
+returns c = floors_least

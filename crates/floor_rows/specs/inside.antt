@@ -1,0 +1,4 @@
+-- What only proofs, and calls further in, cite.
+pub mod FloorRow
+pub mod LeastOver
+pub mod Neighbours

@@ -1,0 +1,44 @@
+-- The floor at an activity as the least of what each place before it brings.
+use Rattle.std.specs.Prelude.{ℕ, ℤ, ◌≡◌, ◌<◌, false, List, [], ◌∷◌, Option, Some, None}
+use Rattle.std.specs.List.{range_with_len}
+use Rattle.tail_book.specs.Seen.{BookSeen}
+use Rattle.tail_book.specs.declared.place.Place.TheVariants.{Carry, After}
+use Rattle.tail_book.specs.Lookup.{activities, carry_of}
+use Rattle.branch_marks.specs.declared.fact.Fact.{Fact}
+use Rattle.branch_marks.specs.inside.MarkTests.{is_alive}
+use Rattle.branch_marks.specs.Floors.{lesser_floor, stepped_floor, floor_at}
+
+-- the floor of aircraft k at activity a
+abbrev pub floor_of : BookSeen → List Fact → ℕ → ℕ → Option (List ℤ)
+floor_of book marks k a = floor_at book marks k (After a)
+
+-- the least of what the places of these numbers bring
+abbrev pub least_over : (ℕ → Option (List ℤ)) → List ℕ → Option (List ℤ)
+least_over brings [] = None
+least_over brings (x ∷ places) = lesser_floor (brings x) (least_over brings places)
+
+-- what the carry-in of aircraft k brings to b, and what activity x does, where these are the floors
+abbrev pub brought_first : BookSeen → List Fact → ℕ → ℕ → Option (List ℤ)
+brought_first book marks k b = stepped_floor book marks k Carry b (Some (carry_of book k))
+
+abbrev pub brought : BookSeen → List Fact → ℕ → ℕ → (ℕ → Option (List ℤ)) → ℕ → Option (List ℤ)
+brought book marks k b floor x = stepped_floor book marks k (After x) b (floor x)
+
+-- the least at b over the carry-in and the activities before b, where these are the floors
+abbrev pub least_at : BookSeen → List Fact → ℕ → (ℕ → Option (List ℤ)) → ℕ → Option (List ℤ)
+least_at book marks k floor b = lesser_floor (brought_first book marks k b) (least_over (brought book marks k b floor) (range_with_len 0 b))
+
+-- the law of floors: each is the least of what is brought
+abbrev pub FloorsAreLeast : Type 0
+FloorsAreLeast = (book : BookSeen) (marks : List Fact) (k b : ℕ) → b < activities book
+    → floor_of book marks k b ≡ least_at book marks k (floor_of book marks k) b
+
+-- and nothing else is
+abbrev pub LeastAreFloors : Type 0
+LeastAreFloors = (book : BookSeen) (marks : List Fact) (k : ℕ) (floor : ℕ → Option (List ℤ))
+    → ((b : ℕ) → b < activities book → floor b ≡ least_at book marks k floor b)
+    → (b : ℕ) → b < activities book → floor b ≡ floor_of book marks k b
+
+-- where an activity is not alive, there is no floor
+abbrev pub NoFloorWithout : Type 0
+NoFloorWithout = (book : BookSeen) (marks : List Fact) (k b : ℕ) → b < activities book → is_alive book marks k b ≡ false → floor_of book marks k b ≡ None

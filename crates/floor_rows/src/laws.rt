@@ -1,0 +1,59 @@
+//! Laws over the definitions alone: the contract of each function is the law.
+
+ghost use Rattle.floor_rows.specs.inside.LeastOver.{FloorsAreLeast, NoFloorWithout};
+ghost use Rattle.floor_rows.specs.inside.Neighbours.{PredecessorsComeBefore, PredecessorsBringAll, SuccessorsAreOfBook, SuccessorsTell};
+ghost use Rattle.tail_book.specs.Seen.{BookSeen};
+ghost use Rattle.std.specs.Prelude.{ℕ, ℤ, List};
+ghost use Rattle.branch_marks.specs.declared.fact.Fact.{Fact as MarkFact};
+
+use branch_marks::laws::usable_decides;
+use connection_net::laws::{predecessors_are_links, rows_rise, successors_are_links};
+use tail_book::laws::{limits_decide, links_rise};
+
+/// Each floor is the least of what the places before it bring.
+pub fn floors_are_least()
+    ensures { FloorsAreLeast }
+{}
+
+/// Where an activity is not alive, there is no floor.
+pub fn no_floor_without()
+    ensures { NoFloorWithout }
+{
+    floors_are_least();
+}
+
+/// Predecessors have smaller numbers.
+pub fn predecessors_come_before()
+    ensures { PredecessorsComeBefore }
+{
+    predecessors_are_links();
+    rows_rise();
+    links_rise();
+}
+
+/// What is brought to an activity is brought by its predecessors.
+pub fn predecessors_bring_all()
+    ensures { PredecessorsBringAll }
+{
+    predecessors_are_links();
+    rows_rise();
+    links_rise();
+    usable_decides();
+}
+
+/// Successors are of the book.
+pub fn successors_are_of_book()
+    ensures { SuccessorsAreOfBook }
+{
+    rows_rise();
+}
+
+/// Successors tell whether an aircraft can go on.
+pub fn successors_tell()
+    ensures { (book : BookSeen) (marks : List MarkFact) (k a : ℕ) (values : List ℤ) → SuccessorsTell book marks k a values }
+{
+    successors_are_links();
+    rows_rise();
+    usable_decides();
+    limits_decide();
+}
