@@ -1,0 +1,5 @@
+pub mod BranchLists
+pub mod Bucketed
+pub mod FollowingTold
+pub mod MetWays
+pub mod ShownFamilies

@@ -1,0 +1,5 @@
+-- What only proofs, and calls further in, cite.
+pub mod Buckets
+pub mod Means
+pub mod OpenBranches
+pub mod Ways

@@ -1,0 +1,345 @@
+//! Whether a fact follows from marks, a pair is undecided, and nobody is alive at an activity.
+//!
+//! A fact is tested for the aircraft and the activities that it names, and for nothing else: a Bar asks for the floors of its
+//! aircraft up to its activity, a Cut for those of each aircraft that may use the link, up to one that goes on over it.
+
+ghost use Rattle.std.specs.Prelude.{◌≡◌, ◌<◌, ◌≤◌, ◌↔◌, ℤ, ℕ, List, None, Some, IsTrue, IfSome, IfNone, true, false, length};
+ghost use Rattle.tail_book.specs.Lookup.{activities, aircraft};
+ghost use Rattle.tail_book.specs.declared.place.Place.TheVariants.{After as PlaceAfter};
+ghost use Rattle.branch_marks.specs.Branches.{IsPairOf};
+ghost use Rattle.branch_marks.specs.Facts.{IsFactOf};
+ghost use Rattle.branch_marks.specs.Following.{IsDead, IsDeadConnection, IsOnlyCarrier};
+ghost use Rattle.branch_marks.specs.declared.fact.Fact.TheVariants.{Bar as FactBar, Cut as FactCut, Must as FactMust};
+ghost use Rattle.branch_marks.specs.inside.Below.{some_below};
+ghost use Rattle.branch_marks.specs.inside.BranchTests.{is_undecided};
+ghost use Rattle.branch_marks.specs.inside.FollowingTests.{follows};
+ghost use Rattle.branch_marks.specs.inside.MarkTables.{AreMarksOf};
+ghost use Rattle.branch_marks.specs.inside.MarkTests.{is_usable};
+ghost use Rattle.branch_marks.specs.inside.TreeTests.{is_hole};
+ghost use Rattle.floor_rows.specs.inside.FloorRow.{IsRowOf, floor_in};
+ghost use Rattle.floor_rows.specs.inside.LeastOver.{floor_of};
+ghost use Rattle.floor_rows.specs.inside.Neighbours.{goes_on_from, goes_on_to};
+ghost use Rattle.tree_tests.specs.inside.Means.{AreMeansOf};
+
+use crate::means::Means;
+use branch_marks::laws::{alive_decides, follows_decides, usable_decides};
+use branch_marks::{Fact, Marks, Pair};
+use connection_net::laws::rows_for_each;
+use floor_rows::laws::{successors_are_of_book, successors_tell};
+use floor_rows::{FloorRow, goes_on_over, goes_to, put_floors};
+use tail_book::laws::{every_book_is_sound, limits_decide};
+use tail_book::{Book, Place};
+
+// Whether an aircraft can go on from an activity to another one, by its floor there.
+fn goes_on_to(
+    book: &Book,
+    means: &Means,
+    marks: &Marks,
+    k: u32,
+    a: u32,
+    b: u32,
+    row: &FloorRow,
+    values: &mut [i64],
+) -> bool
+    requires means { AreMeansOf book.now means.now }
+    requires marks { AreMarksOf book.now marks.now }
+    requires aircraft { k < aircraft book.now }
+    requires place { a < activities book.now }
+    requires activity { b < activities book.now }
+    requires row { IsRowOf book.now row.now }
+    requires width { length values.old ≡ length book.now.rules.counters }
+    ensures { (low : List ℤ) → floor_in row.now a ≡ Some low → result ≡ goes_on_to book.now marks.now.facts k a low b }
+{
+    row.read(a as usize, values)
+        && goes_to(book, &means.steps, marks, k, Place::After(a), b, values)
+}
+
+// Whether an aircraft can go on from an activity, by its floor there.
+fn goes_on(
+    book: &Book,
+    means: &Means,
+    marks: &Marks,
+    k: u32,
+    a: u32,
+    row: &FloorRow,
+    values: &mut [i64],
+) -> bool
+    requires means { AreMeansOf book.now means.now }
+    requires marks { AreMarksOf book.now marks.now }
+    requires aircraft { k < aircraft book.now }
+    requires activity { a < activities book.now }
+    requires row { IsRowOf book.now row.now }
+    requires width { length values.old ≡ length book.now.rules.counters }
+    ensures { (low : List ℤ) → floor_in row.now a ≡ Some low → result ≡ goes_on_from book.now marks.now.facts k a low }
+{
+    rows_for_each();
+    successors_are_of_book();
+    for b in means.net.successors(a) {
+        if goes_on_to(book, means, marks, k, a, *b, row, values) {
+            return true;
+        }
+    }
+    false
+}
+
+// Whether an activity is dead for an aircraft.
+// Where the aircraft may end is asked before where it may go on, since it takes no step.
+fn is_dead(
+    book: &Book,
+    means: &Means,
+    marks: &Marks,
+    k: u32,
+    a: u32,
+    row: &mut FloorRow,
+    values: &mut [i64],
+) -> bool
+    requires means { AreMeansOf book.now means.now }
+    requires marks { AreMarksOf book.now marks.now }
+    requires aircraft { k < aircraft book.now }
+    requires activity { a < activities book.now }
+    requires row { IsRowOf book.now row.old }
+    requires width { length values.old ≡ length book.now.rules.counters }
+    ensures means { IsTrue result ↔ IsDead book.now marks.now.facts k a }
+    ensures row { IsRowOf book.now row.new }
+{
+    every_book_is_sound(book);
+    successors_tell();
+    if !marks.alive(book, k, a) {
+        return false;
+    }
+    put_floors(book, &means.net, &means.steps, marks, k, a + 1, row, values);
+    if !row.has(a as usize) {
+        return true;
+    }
+    if marks.may_end(book, k, Place::After(a)) {
+        return false;
+    }
+    !goes_on(book, means, marks, k, a, row, values)
+}
+
+// The only carrier of an activity, if there is one that no Must names yet.
+fn carrier_at(book: &Book, marks: &Marks, a: u32) -> Option<u32>
+    requires marks { AreMarksOf book.now marks.now }
+    requires activity { a < activities book.now }
+    ensures some { IfSome result (λ k. IsOnlyCarrier book.now marks.now.facts k a) }
+    ensures none { IfNone result ((k : ℕ) → ¬ IsOnlyCarrier book.now marks.now.facts k a) }
+{
+    alive_decides();
+    marks.facts_are_of_book(book);
+    let m = book.tails.len() as u32;
+    let k = marks.next_alive(book, a, 0);
+    if k == m {
+        return None;
+    }
+    if marks.next_alive(book, a, k + 1) < m {
+        return None;
+    }
+    if marks.has(Fact::Must(k, a)) {
+        return None;
+    }
+    Some(k)
+}
+
+// Whether an aircraft is the only carrier of an activity.
+fn is_only_carrier(book: &Book, marks: &Marks, k: u32, a: u32) -> bool
+    requires marks { AreMarksOf book.now marks.now }
+    requires activity { a < activities book.now }
+    ensures { IsTrue result ↔ IsOnlyCarrier book.now marks.now.facts k a }
+{
+    match carrier_at(book, marks, a) {
+        Some(carrier) => carrier == k,
+        None => false,
+    }
+}
+
+// Whether an aircraft that may use a link can go on over it, by its floors.
+fn goes_over(
+    book: &Book,
+    means: &Means,
+    marks: &Marks,
+    k: u32,
+    a: u32,
+    b: u32,
+    row: &mut FloorRow,
+    values: &mut [i64],
+) -> bool
+    requires means { AreMeansOf book.now means.now }
+    requires marks { AreMarksOf book.now marks.now }
+    requires aircraft { k < aircraft book.now }
+    requires from { a < activities book.now }
+    requires to { b < activities book.now }
+    requires row { IsRowOf book.now row.old }
+    requires width { length values.old ≡ length book.now.rules.counters }
+    requires usable { is_usable book.now marks.now.facts k (PlaceAfter a) b ≡ true }
+    ensures some { (low : List ℤ) → floor_of book.now marks.now.facts k a ≡ Some low → result ≡ goes_on_to book.now marks.now.facts k a low b }
+    ensures none { floor_of book.now marks.now.facts k a ≡ None → result ≡ false }
+    ensures row { IsRowOf book.now row.new }
+{
+    every_book_is_sound(book);
+    put_floors(book, &means.net, &means.steps, marks, k, a + 1, row, values);
+    goes_on_over(book, &means.steps, k, a, b, row, values)
+}
+
+// Whether a link is a dead connection.
+fn is_dead_connection(
+    book: &Book,
+    means: &Means,
+    marks: &Marks,
+    a: u32,
+    b: u32,
+    row: &mut FloorRow,
+    values: &mut [i64],
+) -> bool
+    requires means { AreMeansOf book.now means.now }
+    requires marks { AreMarksOf book.now marks.now }
+    requires from { a < activities book.now }
+    requires to { b < activities book.now }
+    requires row { IsRowOf book.now row.old }
+    requires width { length values.old ≡ length book.now.rules.counters }
+    ensures means { IsTrue result ↔ IsDeadConnection book.now marks.now.facts a b }
+    ensures row { IsRowOf book.now row.new }
+{
+    alive_decides();
+    usable_decides();
+    limits_decide();
+    marks.facts_are_of_book(book);
+    if marks.has(Fact::Cut(a, b)) {
+        return false;
+    }
+    let mut used = false;
+    let mut k = marks.next_alive(book, a, 0);
+    while (k as usize) < book.tails.len() {
+        if marks.usable(book, k, Place::After(a), b) {
+            if goes_over(book, means, marks, k, a, b, row, values) {
+                return false;
+            }
+            used = true;
+        }
+        k = marks.next_alive(book, a, k + 1);
+    }
+    used
+}
+
+// Whether a Bar follows.
+fn bar_follows(
+    book: &Book,
+    means: &Means,
+    marks: &Marks,
+    k: u32,
+    a: u32,
+    row: &mut FloorRow,
+    values: &mut [i64],
+) -> bool
+    requires means { AreMeansOf book.now means.now }
+    requires marks { AreMarksOf book.now marks.now }
+    requires aircraft { k < aircraft book.now }
+    requires activity { a < activities book.now }
+    requires row { IsRowOf book.now row.old }
+    requires width { length values.old ≡ length book.now.rules.counters }
+    ensures tests { result ≡ follows book.now marks.now.facts (FactBar k a) }
+    ensures row { IsRowOf book.now row.new }
+{
+    follows_decides();
+    is_dead(book, means, marks, k, a, row, values)
+}
+
+// Whether a Must follows.
+fn must_follows(book: &Book, marks: &Marks, k: u32, a: u32) -> bool
+    requires marks { AreMarksOf book.now marks.now }
+    requires activity { a < activities book.now }
+    ensures { result ≡ follows book.now marks.now.facts (FactMust k a) }
+{
+    follows_decides();
+    is_only_carrier(book, marks, k, a)
+}
+
+// Whether a Cut follows.
+fn cut_follows(
+    book: &Book,
+    means: &Means,
+    marks: &Marks,
+    a: u32,
+    b: u32,
+    row: &mut FloorRow,
+    values: &mut [i64],
+) -> bool
+    requires means { AreMeansOf book.now means.now }
+    requires marks { AreMarksOf book.now marks.now }
+    requires from { a < activities book.now }
+    requires to { b < activities book.now }
+    requires row { IsRowOf book.now row.old }
+    requires width { length values.old ≡ length book.now.rules.counters }
+    ensures tests { result ≡ follows book.now marks.now.facts (FactCut a b) }
+    ensures row { IsRowOf book.now row.new }
+{
+    follows_decides();
+    is_dead_connection(book, means, marks, a, b, row, values)
+}
+
+/// Whether a fact of the book follows from the marks.
+pub fn follows(
+    book: &Book,
+    means: &Means,
+    marks: &Marks,
+    fact: Fact,
+    row: &mut FloorRow,
+    values: &mut [i64],
+) -> bool
+    requires means { AreMeansOf book.now means.now }
+    requires marks { AreMarksOf book.now marks.now }
+    requires fact { IsFactOf book.now fact }
+    requires row { IsRowOf book.now row.old }
+    requires width { length values.old ≡ length book.now.rules.counters }
+    ensures tests { result ≡ follows book.now marks.now.facts fact }
+    ensures row { IsRowOf book.now row.new }
+{
+    match fact {
+        Fact::Bar(k, a) => bar_follows(book, means, marks, k, a, row, values),
+        Fact::Must(k, a) => must_follows(book, marks, k, a),
+        Fact::Cut(a, b) => cut_follows(book, means, marks, a, b, row, values),
+        Fact::Tie(_, _) => false,
+    }
+}
+
+// Whether one of the aircraft below a number may use a link.
+fn some_use(book: &Book, marks: &Marks, m: u32, a: u32, b: u32) -> bool
+    requires marks { AreMarksOf book.now marks.now }
+    requires fleet { m ≤ aircraft book.now }
+    requires from { a < activities book.now }
+    requires to { b < activities book.now }
+    ensures { result ≡ some_below (λ k. is_usable book.now marks.now.facts k (PlaceAfter a) b) m }
+{
+    for k in (0..m).rev() {
+        if marks.usable(book, k, Place::After(a), b) {
+            return true;
+        }
+    }
+    false
+}
+
+/// Whether the marks leave a pair of the book undecided.
+pub fn undecided(book: &Book, marks: &Marks, pair: Pair) -> bool
+    requires marks { AreMarksOf book.now marks.now }
+    requires pair { IsPairOf book.now pair }
+    ensures { result ≡ is_undecided book.now marks.now.facts pair }
+{
+    marks.facts_are_of_book(book);
+    match pair {
+        Pair::Fly(k, a) => marks.alive(book, k, a) && !marks.has(Fact::Must(k, a)),
+        Pair::Link(a, b) => {
+            some_use(book, marks, book.tails.len() as u32, a, b)
+                && !marks.has(Fact::Cut(a, b))
+                && !marks.has(Fact::Tie(a, b))
+        }
+    }
+}
+
+/// Whether an activity of the book is alive for nobody.
+pub fn hole(book: &Book, marks: &Marks, a: u32) -> bool
+    requires marks { AreMarksOf book.now marks.now }
+    requires activity { a < activities book.now }
+    ensures { result ≡ is_hole book.now marks.now.facts a }
+{
+    let m = book.tails.len() as u32;
+    marks.next_alive(book, a, 0) == m
+}
