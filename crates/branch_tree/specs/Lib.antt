@@ -10,5 +10,6 @@ pub mod Closing
 pub mod SearchTree
 pub mod Stops
 pub mod Step
+pub mod Search
 pub mod Laws
 pub mod inside

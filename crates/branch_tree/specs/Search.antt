@@ -1,0 +1,30 @@
+-- What a search answers: the tree of the run, which was told, and what comes only at a limit.
+use Rattle.std.specs.Prelude.{◌≡◌, ℕ, ⊤}
+use Rattle.tail_book.specs.Seen.{BookSeen}
+use Rattle.tail_book.specs.inside.Seen.{CostTableSeen}
+use Rattle.tail_book.specs.declared.outcome.Outcome.{Outcome}
+use Rattle.tail_book.specs.declared.outcome.Outcome.TheVariants.{Optimal, Infeasible, Between, Above}
+use Rattle.branch_marks.specs.LogShown.{LogShown}
+use Rattle.branch_marks.specs.TreeLog.{Notes}
+use Rattle.branch_tree.specs.declared.limit.Limit.{Limit}
+use Rattle.branch_tree.specs.declared.limit.Limit.TheVariants.{Free, Nodes}
+use Rattle.branch_tree.specs.NodeEvents.{events_of}
+use Rattle.branch_tree.specs.SearchTree.{SearchTree, nodes_of, IsSearchTree}
+
+-- the search ended with this outcome: its tree is a search tree of the outcome, and all events of the tree were told
+pub record IsSearched (table : CostTableSeen) (book : BookSeen) (limit : Limit) (old new : LogShown) (outcome : Outcome) : Type 0 where
+  pub tree : SearchTree
+  pub is : IsSearchTree table book limit outcome tree
+  pub told : Notes old new (events_of (nodes_of tree))
+
+-- so many nodes are those of the limit
+abbrev pub IsLimitOf : Limit → ℕ → Type 0
+IsLimitOf Free nodes = ⊥
+IsLimitOf (Nodes most) nodes = nodes ≡ most
+
+-- what is not final comes only under a limit of nodes, and names that limit
+abbrev pub EndsUnder : Limit → Outcome → Type 0
+EndsUnder limit (Optimal plan cost) = ⊤
+EndsUnder limit Infeasible = ⊤
+EndsUnder limit (Between plan low high nodes) = IsLimitOf limit nodes
+EndsUnder limit (Above low nodes) = IsLimitOf limit nodes
