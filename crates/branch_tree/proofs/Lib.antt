@@ -18,3 +18,8 @@ pub mod Visits
 pub mod PairChoices
 pub mod LineFacts
 pub mod Carriers
+pub mod Stopping
+pub mod OpenPlaces
+pub mod Room
+pub mod LeastLeft
+pub mod OneMore

@@ -1,5 +1,5 @@
 -- What a search answers: the tree of the run, which was told, and what comes only at a limit.
-use Rattle.std.specs.Prelude.{◌≡◌, ℕ, ⊤}
+use Rattle.std.specs.Prelude.{⊤}
 use Rattle.tail_book.specs.Seen.{BookSeen}
 use Rattle.tail_book.specs.inside.Seen.{CostTableSeen}
 use Rattle.tail_book.specs.declared.outcome.Outcome.{Outcome}
@@ -7,9 +7,8 @@ use Rattle.tail_book.specs.declared.outcome.Outcome.TheVariants.{Optimal, Infeas
 use Rattle.branch_marks.specs.LogShown.{LogShown}
 use Rattle.branch_marks.specs.TreeLog.{Notes}
 use Rattle.branch_tree.specs.declared.limit.Limit.{Limit}
-use Rattle.branch_tree.specs.declared.limit.Limit.TheVariants.{Free, Nodes}
 use Rattle.branch_tree.specs.NodeEvents.{events_of}
-use Rattle.branch_tree.specs.SearchTree.{SearchTree, nodes_of, IsSearchTree}
+use Rattle.branch_tree.specs.SearchTree.{SearchTree, nodes_of, HasReached, IsSearchTree}
 
 -- the search ended with this outcome: its tree is a search tree of the outcome, and all events of the tree were told
 pub record IsSearched (table : CostTableSeen) (book : BookSeen) (limit : Limit) (old new : LogShown) (outcome : Outcome) : Type 0 where
@@ -17,14 +16,9 @@ pub record IsSearched (table : CostTableSeen) (book : BookSeen) (limit : Limit) 
   pub is : IsSearchTree table book limit outcome tree
   pub told : Notes old new (events_of (nodes_of tree))
 
--- so many nodes are those of the limit
-abbrev pub IsLimitOf : Limit → ℕ → Type 0
-IsLimitOf Free nodes = ⊥
-IsLimitOf (Nodes most) nodes = nodes ≡ most
-
--- what is not final comes only under a limit of nodes, and names that limit
+-- what is not final comes only at a limit of nodes, and names that many
 abbrev pub EndsUnder : Limit → Outcome → Type 0
 EndsUnder limit (Optimal plan cost) = ⊤
 EndsUnder limit Infeasible = ⊤
-EndsUnder limit (Between plan low high nodes) = IsLimitOf limit nodes
-EndsUnder limit (Above low nodes) = IsLimitOf limit nodes
+EndsUnder limit (Between plan low high nodes) = HasReached limit nodes
+EndsUnder limit (Above low nodes) = HasReached limit nodes

@@ -6,3 +6,4 @@ pub mod Choosing
 pub mod Stepping
 pub mod Pooling
 pub mod Weighing
+pub mod Searching

@@ -1,0 +1,65 @@
+-- One node more: what a visit and a closing leave at a place, and a stop once the node was told.
+use Rattle.std.proofs.Common.{◌≡◌, ◌∙◌, ℕ, ℤ, List, [], ◌∷◌, ◌++◌, Option, sym, ap, subst}
+use Rattle.tail_book.specs.Seen.{BookSeen}
+use Rattle.tail_book.specs.inside.Seen.{CostTableSeen}
+use Rattle.branch_marks.specs.declared.event.Event.{Event}
+use Rattle.branch_marks.specs.declared.fact.Fact.{Fact}
+use Rattle.branch_marks.specs.LogShown.{LogShown}
+use Rattle.branch_marks.specs.TreeLog.{Notes}
+use Rattle.branch_tree.specs.declared.leaf.PricedLeaf.{PricedLeaf}
+use Rattle.branch_tree.specs.declared.step.Step.{Step}
+use Rattle.branch_tree.specs.Closing.{IsLowest}
+use Rattle.branch_tree.specs.Node.{Node, branches, closed_marks, IsShownNode}
+use Rattle.branch_tree.specs.Place.{Open}
+use Rattle.branch_tree.specs.Step.{IsVisit}
+use Rattle.branch_tree.specs.Stops.{StopsIn}
+use Rattle.branch_tree.specs.inside.Leaf.{AnswersLeaf, IsLeafPriced}
+use Rattle.branch_tree.specs.inside.Searching.{IsVisited, IsOneClosed}
+use Rattle.branch_tree.proofs.LeastLeft.{closing_node, closing_events, is_closing}
+use Rattle.branch_tree.proofs.Runs.{grows_one, events_one}
+use Rattle.branch_tree.proofs.Stopping.{stops_between}
+
+-- marks that hold the facts of a place stand at it
+pub same_place : (marks facts : List Fact) (duals : List ℤ) (here : Open) → marks ≡ facts → record { marks = facts; duals = duals } ≡ here
+    → record { marks = marks; duals = duals } ≡ here
+same_place marks facts duals here is same = subst (λ (m : List Fact). record { marks = m; duals = duals } ≡ here) (sym is) same
+
+module _ (table : CostTableSeen) (book : BookSeen) (at here : Open) (same : at ≡ here) (old new : LogShown) where
+  pub visit_of : (marks : List Fact) (duals : List ℤ) (target : ℕ) (answer : Step) (visit : IsVisit table book at marks duals target old new answer) (others places : List Open)
+      → places ≡ branches marks visit.node.ending ++ others → IsVisited table book here others places target old new
+  visit_of marks duals target answer visit others places opened =
+      let visited : IsVisited table book at others places target old new =
+      record {
+        node = visit.node;
+        counted = visit.counted;
+        goal = visit.goal;
+        left = opened ∙ ap (λ (m : List Fact). branches m visit.node.ending ++ others) visit.closed;
+        told = visit.told;
+      } in
+      subst (λ (o : Open). IsVisited table book o others places target old new) same visited
+
+  -- the whole node was told
+  pub visit_stops : (marks : List Fact) (duals : List ℤ) (target : ℕ) (answer : Step) → IsVisit table book at marks duals target old new answer
+      → StopsIn old new table book (here ∷ [])
+  visit_stops marks duals target answer visit =
+      let node = visit.node in
+      let told = subst (λ (due : List Event). Notes old new due) (sym (events_one node)) visit.told in
+      subst (λ (o : Open). StopsIn old new table book (o ∷ [])) same
+      (stops_between table book old new (at ∷ []) (node ∷ []) (branches (closed_marks at node) node.ending ++ [])
+      (grows_one (IsShownNode table book) at [] node visit.counted.shown) told)
+
+  pub place_stops : StopsIn old new table book (at ∷ []) → StopsIn old new table book (here ∷ [])
+  place_stops stops = subst (λ (o : Open). StopsIn old new table book (o ∷ [])) same stops
+
+  pub closing_of : (target : ℕ) (low least : Option ℕ) (answer : PricedLeaf) → IsLeafPriced table book at old new answer
+      → ((nodes : List Node) (node : Node) → IsLowest target nodes low → AnswersLeaf node.ending answer → IsLowest target (nodes ++ node ∷ []) least)
+      → IsOneClosed table book target here low least old new
+  closing_of target low least answer priced lower =
+      let closed : IsOneClosed table book target at low least old new =
+      record {
+        node = closing_node table book target priced.ending;
+        closing = is_closing table book target at priced.ending priced.shown priced.priced;
+        lowest = λ nodes lowest. lower nodes (closing_node table book target priced.ending) lowest priced.answers;
+        told = subst (λ (due : List Event). Notes old new due) (closing_events table book target priced.ending) priced.told;
+      } in
+      subst (λ (o : Open). IsOneClosed table book target o low least old new) same closed

@@ -1,0 +1,41 @@
+//! What a search keeps between two nodes.
+
+ghost use Rattle.std.specs.Prelude.{◌≡◌, [], ◌∷◌, IfOk};
+ghost use Rattle.tail_book.specs.inside.CostTable.{IsTableFor};
+ghost use Rattle.branch_tree.specs.Place.{root};
+ghost use Rattle.branch_tree.specs.Target.{no_target};
+ghost use Rattle.branch_tree.specs.inside.Searching.{IsStateFor};
+
+use crate::{Best, NodeTools, OpenNodes};
+use connection_net::Net;
+use restricted_master::Pool;
+use std::alloc::Global;
+use tail_book::{Book, CostTable, Memory};
+
+/// The network, the open places, the routes that were found, the best plan so far, and the tools of a step.
+#[derive(Debug, Drop)]
+pub struct SearchState {
+    pub net: Net,
+    pub places: OpenNodes,
+    pub pool: Pool,
+    pub best: Best,
+    pub tools: NodeTools,
+}
+
+impl SearchState {
+    /// A search that has not begun: the root alone is open, and there is no plan.
+    pub fn new(alloc: Global, book: &Book, table: &CostTable) -> Result<SearchState, Memory>
+        requires { IsTableFor book.now table.now }
+        ensures state { IfOk result (IsStateFor table.now book.now) }
+        ensures root { IfOk result (λ state. state.places ≡ root book.now ∷ []) }
+        ensures first { IfOk result (λ state. state.best.target ≡ no_target table.now) }
+    {
+        Ok(SearchState {
+            net: Net::new(alloc, book)?,
+            places: OpenNodes::with_root(alloc, book)?,
+            pool: Pool::new(alloc)?,
+            best: Best::none(table),
+            tools: NodeTools::new(alloc, book, table)?,
+        })
+    }
+}
