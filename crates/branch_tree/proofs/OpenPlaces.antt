@@ -53,8 +53,7 @@ module _ (pairs : UndecidedPairsAreOfBook) (facts_of_book : FollowingFactsAreOfB
   branches_are marks target (Bounded duals covers) owed facts shown is places = places
   branches_are marks target (Split pair duals routes dive) owed facts shown is places = (
     record { facts = new_then book [] marks (first_branch pair ∷ []) facts (first_new pairs book marks pair shown); duals = is.settled.in_box },
-    record { facts = new_then book [] marks (second_branch pair ∷ []) facts (second_new pairs book marks pair shown); duals = is.settled.in_box },
-    places,
+    (record { facts = new_then book [] marks (second_branch pair ∷ []) facts (second_new pairs book marks pair shown); duals = is.settled.in_box }, places),
   )
 
   places_are : (owed : List Open) (nodes : List Node) (left : List Open) → Grows (IsCounted table book) owed nodes left → ArePlaces table book owed

@@ -1,4 +1,4 @@
-use Rattle.std.proofs.Common.{◌+◌, ◌≤◌, inl, inr, ℕ, List, [], ◌∷◌, ◌++◌, length, arith, rules, sym, subst, ◌∙◌, length-append}
+use Rattle.std.proofs.Common.{◌≡◌, false, ◌+◌, ◌≤◌, inl, inr, ℕ, List, [], ◌∷◌, ◌++◌, length, arith, rules, sym, subst, ◌∙◌, length-append}
 use Rattle.branch_marks.specs.declared.event.Event.{Event}
 use Rattle.branch_marks.specs.TreeLog.{Notes}
 use Rattle.branch_tree.specs.Counted.{IsCounted}
@@ -95,13 +95,14 @@ returns-in_default-clause-grown g c =
       reached = inl none.1;
     }
 
-pub returns-after-nodes-clause-grown : goal.returns-after-nodes-clause-grown
-returns-after-nodes-clause-grown g c =
+pub returns-clause-grown : goal.returns-clause-grown
+returns-clause-grown g c =
     let run = c.nodes.invariant.grown in
-    record { run = run; reached = inr (stopped_there c.args.limit c.nodes.counter (length run.counted) (search rules) run.counts) }
+    let no_more : c.allows.result ≡ false = search rules in
+    record { run = run; reached = inr (stopped_there c.args.limit c.nodes.counter (length run.counted) (c.allows.ensures.none no_more) run.counts) }
 
-pub returns-after-nodes-clause-places : goal.returns-after-nodes-clause-places
-returns-after-nodes-clause-places g c =
+pub returns-clause-places : goal.returns-clause-places
+returns-clause-places g c =
     let run = c.nodes.invariant.grown in
     left_are c.undecided_pairs_are_of_book.ensures c.following_facts_are_of_book.ensures c.following_facts_are_new.ensures c.zeros_are_duals.ensures
     c.args.table.now c.args.book.now run.counted c.nodes.state.places run.grown
