@@ -1,10 +1,12 @@
-use Rattle.std.proofs.Common.{List, [], ◌∷◌, ◌++◌, sym, subst}
+use Rattle.std.proofs.Common.{◌≡◌, List, [], ◌∷◌, ◌++◌, sym, subst}
 use Rattle.branch_marks.specs.declared.event.Event.{Event}
 use Rattle.branch_marks.specs.TreeLog.{Notes}
+use Rattle.branch_tree.specs.declared.best.Best.{Best}
 use Rattle.branch_tree.specs.Counted.{IsCounted}
 use Rattle.branch_tree.specs.Node.{IsShownNode}
 use Rattle.branch_tree.specs.NodeEvents.{events_of}
 use Rattle.branch_tree.specs.Place.{root}
+use Rattle.branch_tree.specs.inside.Searching.{outcome_for}
 use Rattle.branch_tree.proofs.Cuts.{notes_then}
 use Rattle.branch_tree.proofs.LeastLeft.{ends_under, search_tree}
 use Rattle.branch_tree.proofs.Runs.{grows_weaker, events_then}
@@ -29,11 +31,12 @@ returns-in-Ok-close-clause-tree g c =
     let grown = c.in-Ok-grow.ensures.grown in let run = grown.run in let closed = c.in-Ok-close.ensures.closed in
     let table = c.args.table.now in let book = c.args.book.now in let best = c.grow.new.state.best in
     let old = g.L.TreeLog.shows c.args.log.now in let between = g.L.TreeLog.shows c.grow.new.log in let new = g.L.TreeLog.shows c.close.new.log in
+    let same = subst (λ (b : Best). c.outcome_of.result ≡ outcome_for b.plan b.target c.in-Ok-close.low c.in-Ok-grow.counter) c.close.ensures.best c.outcome_of.ensures in
     let told = notes_then old between new (events_of run.counted) (events_of closed.closing) c.in-Ok-close.ensures.later run.told closed.told in
     record {
       tree = record { counted = run.counted; closing = closed.closing };
       is = search_tree table book c.args.limit run.counted closed.closing c.grow.new.state.places best.target c.in-Ok-grow.counter run.counts grown.reached closed.closed
-          best.plan c.in-Ok-close.low c.outcome_of.result (search rules) run.grown run.falls c.grow.ensures.state.best closed.lowest;
+          best.plan c.in-Ok-close.low c.outcome_of.result same run.grown run.falls c.grow.ensures.state.best closed.lowest;
       told = subst (λ (due : List Event). Notes old new due) (sym (events_then run.counted closed.closing)) told;
     }
 
