@@ -4,7 +4,7 @@ use Rattle.tail_book.specs.Truth.{IsTrueOutcome}
 use Rattle.tail_book.specs.declared.outcome.Outcome.{Outcome}
 use Rattle.tail_outside.specs.Outside.{Takes}
 use Rattle.tail_outside.specs.Shown.{SinkShown}
-use Rattle.plan_enumeration.specs.inside.Decided.{IsDecided}
+use Rattle.branch_tree.specs.Decided.{IsDecided}
 use Rattle.plan_audit.specs.Broken.{IsAuditOf}
 use Rattle.plan_audit.specs.declared.broken.Audit.{Audit}
 use Rattle.plan_report.specs.inside.AuditText.{audit_text}

@@ -4,16 +4,15 @@ ghost use Rattle.std.specs.Prelude.{OnOk, IsErrOf};
 ghost use Rattle.tail_outside.specs.Outside.{PieceHasFailed};
 ghost use Rattle.sample_calls.specs.Printing.{PrintsAudit, PrintsLeastPlan};
 
+use branch_tree::least_plan;
 use plan_audit::audit;
-use plan_enumeration::least_plan;
 use plan_report::laws::{audits_can_be_written, true_outcomes_can_be_written};
 use plan_report::{ReportFail, write_audit, write_report};
 use std::alloc::Global;
 use tail_book::{Book, RawPlan, laws};
 use tail_outside::Sink;
 
-/// Finds a plan of least cost and prints its report, or that no plan is legal. All assignments are tried, so the book
-/// has to be small: the planner takes ten activities and four aircraft.
+/// Finds a plan of least cost and prints its report, or that no plan is legal.
 pub fn print_least_plan<S: Sink>(alloc: Global, book: &Book, out: &mut S) -> Result<(), ReportFail>
     ensures printed { OnOk result (PrintsLeastPlan book.now (S.shows out.old) (S.shows out.new)) }
     ensures cause { IsErrOf result ReportFail.Write → PieceHasFailed (S.shows out.old) (S.shows out.new) }

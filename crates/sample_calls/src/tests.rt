@@ -1,9 +1,9 @@
 //! Each caller once, where memory is ample: on two flights of which one aircraft may fly both, and another one alone.
 
 use crate::*;
+use branch_tree::least_plan;
 use maint_counters::StepTable;
 use plan_audit::Broken;
-use plan_enumeration::least_plan;
 use plan_report::laws::true_outcomes_can_be_written;
 use plan_report::read_plan;
 use std::alloc::Global;

@@ -1,4 +1,3 @@
 pub mod Examples
-pub mod SmallBook
 pub mod WordLaws
 pub mod Promised

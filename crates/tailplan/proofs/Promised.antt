@@ -7,42 +7,36 @@ use Rattle.tail_book.specs.declared.outcome.Outcome.TheVariants.{Optimal, Infeas
 use Rattle.tail_outside.specs.Outside.{PieceHasFailed, Takes}
 use Rattle.tail_outside.specs.Shown.{FilesShown, SinkShown}
 use Rattle.tail_text.specs.declared.refusal.Refusal.{Refusal}
+use Rattle.book_maker.specs.Made.{book_of}
 use Rattle.plan_report.specs.Report.{report, report_lines}
 use Rattle.run_frame.proofs.Ending as ending
-use Rattle.run_frame.proofs.Fronts.{tables-same}
+use Rattle.run_frame.proofs.Fronts.{book_of-fronts}
 use Rattle.run_frame.proofs.Held.{OfHeld-map}
 use Rattle.run_frame.specs.inside.Answer.{IsAnswerTo, IsPrintable as IsPrintableBy, IsPrinted, status_of}
 use Rattle.run_frame.specs.Answer.{IsUnlessStopped}
-use Rattle.run_frame.specs.inside.TableFiles.{front, fronts}
+use Rattle.run_frame.specs.inside.TableFiles.{fronts}
 use Rattle.run_frame.specs.TableFiles.{tables_held}
 use Rattle.run_frame.specs.Tables.{NamesSeen, TablesSeen}
 use Rattle.run_frame.specs.declared.answer.Answer.TheVariants.{ReadFailed}
-use Rattle.tailplan.proofs.SmallBook.{small_books_are_books}
 use Rattle.tailplan.specs.Answers.{Answer, AreRefused, AreSolved, IsTrueAnswer, OfTables, answer_text}
 use Rattle.tailplan.specs.inside.Outcomes.{IsPrintable, outcome_status}
 use Rattle.tailplan.specs.Promises.{IsVerdict, JudgesBook, Promise, RefusesTables}
-use Rattle.tailplan.specs.SmallBook.{small_book_of, small_made_of}
 use Rattle.tailplan.specs.Usage.{usage_line}
 use Rattle.tailplan.specs.Words.{run_of}
 use Rattle.tailplan.specs.declared.answer.Solved.{Solved}
-
--- the book of the tables that were read is that of the whole tables, and so is the first refusal
-small_book_of-fronts : (tables : TablesSeen) → small_book_of (front tables.timetable) (front tables.fleet) (front tables.rules) ≡ small_book_of tables.timetable tables.fleet tables.rules
-unfolding small_book_of
-small_book_of-fronts tables = tables-same small_made_of tables
 
 -- an answer to the tables that were read is a true answer to the words
 pub true_answer : (words : List (List ℕ)) (files : FilesShown) (names : NamesSeen) (read : TablesSeen) (answer : Answer) → run_of words ≡ Some names
     → IfSome (tables_held files names) (λ tables. read ≡ fronts tables) → IsAnswerTo AreRefused AreSolved read answer → IsTrueAnswer words files answer
 true_answer words files = ending.true_answer (run_of words) (tables_held files) AreRefused AreSolved fronts
-    (λ tables refusal h. sym (small_book_of-fronts tables) ∙ h) (λ tables solved h. (sym (small_book_of-fronts tables) ∙ h.0, h.1))
+    (λ tables refusal h. sym (book_of-fronts tables) ∙ h) (λ tables solved h. (sym (book_of-fronts tables) ∙ h.0, h.1))
 
 -- a book is no refusal
-apart : (tables : TablesSeen) (book : BookSeen) (refusal : Refusal) → small_book_of tables.timetable tables.fleet tables.rules ≡ Ok book → AreRefused tables refusal → ⊥
+apart : (tables : TablesSeen) (book : BookSeen) (refusal : Refusal) → book_of tables.timetable tables.fleet tables.rules ≡ Ok book → AreRefused tables refusal → ⊥
 apart tables book refusal is refused = let both = sym is ∙ refused in cc
 
 -- the tables are one book
-same_book : (tables : TablesSeen) (a b : BookSeen) → small_book_of tables.timetable tables.fleet tables.rules ≡ Ok a → small_book_of tables.timetable tables.fleet tables.rules ≡ Ok b → a ≡ b
+same_book : (tables : TablesSeen) (a b : BookSeen) → book_of tables.timetable tables.fleet tables.rules ≡ Ok a → book_of tables.timetable tables.fleet tables.rules ≡ Ok b → a ≡ b
 same_book tables a b first second = let both = sym first ∙ second in cc
 
 -- the statuses of outcomes are 0, 1 and 4
@@ -68,19 +62,19 @@ decides book (Above low nodes) status truth fit is = absurd fit.1
 module _ (words : List (List ℕ)) (files : FilesShown) (before after : SinkShown) where
   -- an outcome that was printed promises what its status says
   found : (book : BookSeen) (outcome : Outcome) → IsPrintable book outcome
-      → OfTables words files (λ tables. (small_book_of tables.timetable tables.fleet tables.rules ≡ Ok book) × IsTrueOutcome book outcome)
+      → OfTables words files (λ tables. (book_of tables.timetable tables.fleet tables.rules ≡ Ok book) × IsTrueOutcome book outcome)
       → Takes before after (report book outcome) → Promise words files before after (outcome_status outcome)
   found book (Optimal plan cost) fit k took = OfHeld-map (run_of words) (tables_held files) _ _ (λ tables own. record {
     book = book;
     plan = plan;
     cost = cost;
-    is = small_books_are_books tables.timetable tables.fleet tables.rules book own.0;
+    is = own.0;
     truth = own.1;
     printed = took;
   }) k
   found book Infeasible fit k took = OfHeld-map (run_of words) (tables_held files) _ _ (λ tables own. record {
     book = book;
-    is = small_books_are_books tables.timetable tables.fleet tables.rules book own.0;
+    is = own.0;
     truth = own.1.claim;
     printed = took;
   }) k
@@ -112,5 +106,5 @@ module _ (words : List (List ℕ)) (files : FilesShown) (before after : SinkShow
 
     pub judged : IsPrintableBy (λ solved. IsPrintable solved.book solved.outcome) answer → JudgesBook words files status
     judged fit = ending.judged (run_of words) (tables_held files) AreRefused AreSolved usage_line (λ solved. report_lines solved.book solved.outcome) (λ solved. outcome_status solved.outcome)
-        before after status answer truth printed (λ tables book. small_book_of tables.timetable tables.fleet tables.rules ≡ Ok book) IsVerdict (λ solved. IsPrintable solved.book solved.outcome) fit apart
+        before after status answer truth printed (λ tables book. book_of tables.timetable tables.fleet tables.rules ≡ Ok book) IsVerdict (λ solved. IsPrintable solved.book solved.outcome) fit apart
         (λ tables book solved is own fits s. subst (λ (b : BookSeen). IsVerdict b status) (same_book tables solved.book book own.0 is) (decides solved.book solved.outcome status own.1 fits s))

@@ -3,13 +3,13 @@ use Rattle.std.specs.Prelude.{ℕ, ◌≡◌, List, Ok, Err, IfSome}
 use Rattle.tail_book.specs.Truth.{IsTrueOutcome}
 use Rattle.tail_outside.specs.Shown.{FilesShown}
 use Rattle.tail_text.specs.declared.refusal.Refusal.{Refusal}
+use Rattle.book_maker.specs.Made.{book_of}
 use Rattle.plan_report.specs.Lines.{text_of}
 use Rattle.plan_report.specs.Report.{report_lines}
 use Rattle.run_frame.specs.Answer.{IsTrueAnswer as IsTrueOf, lines_of}
 use Rattle.run_frame.specs.TableFiles.{MayReadTables, OfHeld, tables_held}
 use Rattle.run_frame.specs.Tables.{TablesSeen}
 use Rattle.run_frame.specs.declared.answer.Answer.{Answer as AnswerOf}
-use Rattle.tailplan.specs.SmallBook.{small_book_of}
 use Rattle.tailplan.specs.Usage.{usage_line}
 use Rattle.tailplan.specs.Words.{run_of}
 use Rattle.tailplan.specs.declared.answer.Solved.{Solved}
@@ -28,11 +28,11 @@ OfTables words files P = OfHeld (run_of words) (tables_held files) P
 
 -- this is the first refusal of the tables
 abbrev pub AreRefused : TablesSeen → Refusal → Type 0
-AreRefused tables refusal = small_book_of tables.timetable tables.fleet tables.rules ≡ Err refusal
+AreRefused tables refusal = book_of tables.timetable tables.fleet tables.rules ≡ Err refusal
 
 -- the tables are this book, of which this is true
 abbrev pub AreSolved : TablesSeen → Solved → Type 0
-AreSolved tables solved = (small_book_of tables.timetable tables.fleet tables.rules ≡ Ok solved.book) × IsTrueOutcome solved.book solved.outcome
+AreSolved tables solved = (book_of tables.timetable tables.fleet tables.rules ≡ Ok solved.book) × IsTrueOutcome solved.book solved.outcome
 
 -- the answer is true of these words and files
 abbrev pub IsTrueAnswer : List (List ℕ) → FilesShown → Answer → Type 0

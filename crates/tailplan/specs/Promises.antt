@@ -12,7 +12,6 @@ use Rattle.run_frame.specs.Promise.{ElsePromise, Judges, Refuses}
 use Rattle.run_frame.specs.TableFiles.{tables_held}
 use Rattle.run_frame.specs.Tables.{TablesSeen}
 use Rattle.tailplan.specs.Answers.{AreRefused, IsTrueAnswer, OfTables, answer_text}
-use Rattle.tailplan.specs.SmallBook.{small_book_of}
 use Rattle.tailplan.specs.Usage.{usage_line}
 use Rattle.tailplan.specs.Words.{run_of}
 
@@ -55,4 +54,4 @@ RefusesTables words files status = Refuses (run_of words) (tables_held files) Ar
 -- of a book it is said whether some plan is legal, unless a read or a write failed or memory was wanting
 abbrev pub JudgesBook : List (List ℕ) → FilesShown → ℕ → Type 0
 JudgesBook words files status = Judges (run_of words) (tables_held files)
-    (λ tables book. small_book_of tables.timetable tables.fleet tables.rules ≡ Ok book) IsVerdict status
+    (λ tables book. book_of tables.timetable tables.fleet tables.rules ≡ Ok book) IsVerdict status

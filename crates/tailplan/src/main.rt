@@ -3,7 +3,6 @@
 
 mod answer;
 mod run;
-mod small_book;
 mod usage;
 mod words;
 

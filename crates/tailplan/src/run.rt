@@ -12,10 +12,10 @@ ghost use Rattle.tailplan.specs.Promises.{JudgesBook, Promise, RefusesTables};
 ghost use Rattle.tailplan.specs.Words.{run_of};
 
 use crate::answer::Solved;
-use crate::small_book::small_book;
 use crate::usage::usage_line;
 use crate::words::run_of;
-use plan_enumeration::least_plan;
+use book_maker::read_book;
+use branch_tree::least_plan;
 use plan_report::laws::true_outcomes_can_be_written;
 use run_frame::{Answer, Ran, Tables, print, read_tables};
 use std::alloc::Global;
@@ -80,7 +80,7 @@ fn solved(alloc: Global, tables: &Tables) -> Answer<Solved>
     ensures answer { IsAnswerTo AreRefused AreSolved tables.now result }
     ensures printable { IsPrintableBy (λ solved. IsPrintable solved.book solved.outcome) result }
 {
-    let book = match small_book(alloc, &tables.timetable, &tables.fleet, &tables.rules) {
+    let book = match read_book(alloc, &tables.timetable, &tables.fleet, &tables.rules) {
         Ok(book) => book,
         Err(Stopped::Refused(refusal)) => return Answer::Refused(refusal),
         Err(Stopped::Memory) => return Answer::Memory,

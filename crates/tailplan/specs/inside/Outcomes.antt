@@ -3,7 +3,7 @@ use Rattle.std.specs.Prelude.{ℕ}
 use Rattle.tail_book.specs.Seen.{BookSeen}
 use Rattle.tail_book.specs.declared.outcome.Outcome.{Outcome}
 use Rattle.tail_book.specs.declared.outcome.Outcome.TheVariants.{Optimal, Infeasible, Between, Above}
-use Rattle.plan_enumeration.specs.inside.Decided.{IsDecided}
+use Rattle.branch_tree.specs.Decided.{IsDecided}
 use Rattle.plan_report.specs.inside.Report.{HasPlanFor}
 
 -- the status of an outcome that was printed

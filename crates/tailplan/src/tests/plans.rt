@@ -89,9 +89,9 @@ F2,flight,OSL,ARN,2025-03-03T07:30,2025-03-03T08:30,,,,\n",
     Ok(())
 }
 
-// As many activities and aircraft as a plan is made for: any of the four may fly each of the ten.
+// Any of the four may fly each of the ten.
 #[test]
-fn the_largest_tables_are_planned(rt: HostRuntime) -> Result<(), Fail> {
+fn the_aircraft_without_a_dear_start_flies_all(rt: HostRuntime) -> Result<(), Fail> {
     let ends = ends_so(
         rt.alloc(),
         TEN_AT_ARLANDA,
@@ -101,6 +101,37 @@ A3,P,ARN,2025-03-03T05:00,1,,,\nA4,P,ARN,2025-03-03T05:00,4,,,\n",
         0,
         "optimal 610\nA1:\nA2:\nA3: F0 F1 F2 F3 F4 F5 F6 F7 F8 F9\nA4:\n",
     )?;
+    assert!(rt; ends);
+    Ok(())
+}
+
+// An eleventh flight and a fifth aircraft: one flies them all.
+#[test]
+fn five_aircraft_and_eleven_flights_are_planned(rt: HostRuntime) -> Result<(), Fail> {
+    let mut records = String::from_str(rt.alloc(), TEN_AT_ARLANDA)?;
+    records.push_str("FA,flight,ARN,ARN,2025-03-03T21:00,2025-03-03T22:00,,,,\n")?;
+    let ends = ends_so(
+        rt.alloc(),
+        &records,
+        "A1,P,ARN,2025-03-03T05:00,3,,,\nA2,P,ARN,2025-03-03T05:00,2,,,\n\
+A3,P,ARN,2025-03-03T05:00,1,,,\nA4,P,ARN,2025-03-03T05:00,4,,,\nA5,P,ARN,2025-03-03T05:00,5,,,\n",
+        "",
+        0,
+        "optimal 661\nA1:\nA2:\nA3: F0 F1 F2 F3 F4 F5 F6 F7 F8 F9 FA\nA4:\nA5:\n",
+    )?;
+    assert!(rt; ends);
+    Ok(())
+}
+
+// Eleven flights at once leave no plan for one aircraft.
+#[test]
+fn eleven_flights_at_once_need_more_than_one(rt: HostRuntime) -> Result<(), Fail> {
+    let mut records = String::new(rt.alloc());
+    for name in ["F0", "F1", "F2", "F3", "F4", "F5", "F6", "F7", "F8", "F9", "FA"] {
+        records.push_str(name)?;
+        records.push_str(",flight,ARN,OSL,2025-03-03T06:00,2025-03-03T07:00,,,,\n")?;
+    }
+    let ends = ends_so(rt.alloc(), &records, ONE, "", 1, "infeasible\n")?;
     assert!(rt; ends);
     Ok(())
 }

@@ -8,21 +8,6 @@ use std::test::Fail;
 
 const WORDS: [&str; 4] = ["tailplan", "t", "f", "r"];
 
-const ELEVEN: &str = "F0,flight,ARN,OSL,2025-03-03T06:00,2025-03-03T07:00,,,,\n\
-F1,flight,ARN,OSL,2025-03-03T06:00,2025-03-03T07:00,,,,\n\
-F2,flight,ARN,OSL,2025-03-03T06:00,2025-03-03T07:00,,,,\n\
-F3,flight,ARN,OSL,2025-03-03T06:00,2025-03-03T07:00,,,,\n\
-F4,flight,ARN,OSL,2025-03-03T06:00,2025-03-03T07:00,,,,\n\
-F5,flight,ARN,OSL,2025-03-03T06:00,2025-03-03T07:00,,,,\n\
-F6,flight,ARN,OSL,2025-03-03T06:00,2025-03-03T07:00,,,,\n\
-F7,flight,ARN,OSL,2025-03-03T06:00,2025-03-03T07:00,,,,\n\
-F8,flight,ARN,OSL,2025-03-03T06:00,2025-03-03T07:00,,,,\n\
-F9,flight,ARN,OSL,2025-03-03T06:00,2025-03-03T07:00,,,,\n\
-F10,flight,ARN,OSL,2025-03-03T06:00,2025-03-03T07:00,,,,\n";
-
-const FIVE: &str = "A1,P,ARN,2025-03-03T05:00,0,,,\nA2,P,ARN,2025-03-03T05:00,0,,,\n\
-A3,P,ARN,2025-03-03T05:00,0,,,\nA4,P,ARN,2025-03-03T05:00,0,,,\nA5,P,ARN,2025-03-03T05:00,0,,,\n";
-
 const ARLANDA_AGAIN: &str = "[[airport]]\nname = \"ARN\"\noffset = 0\nturn = 0\n";
 
 // A timetable that is refused for one of its records.
@@ -188,24 +173,6 @@ fn tables_are_judged_in_their_order(rt: HostRuntime) -> Result<(), Fail> {
     ] {
         let ends = ends_so(rt.alloc(), records, aircraft, more_rules, 3, printed)?;
         assert!(rt; ends, "{records}{aircraft}{more_rules}");
-    }
-    Ok(())
-}
-
-// An eleventh activity and a fifth aircraft are refused after each table by itself, and before any name.
-#[test]
-fn more_than_a_plan_is_made_for_is_refused(rt: HostRuntime) -> Result<(), Fail> {
-    for (records, aircraft, more_rules, printed) in [
-        (ELEVEN, ONE, "", "refused 10 timetable 12\n"),
-        (THERE, FIVE, "", "refused 10 fleet 6\n"),
-        (ELEVEN, FIVE, "", "refused 10 timetable 12\n"),
-        (ELEVEN, FIVE, ARLANDA_AGAIN, "refused 10 timetable 12\n"),
-        (THERE, FIVE, ARLANDA_AGAIN, "refused 10 fleet 6\n"),
-        (ELEVEN, "A1,P,ARN\n", "", "refused 4 fleet 2\n"),
-        (ELEVEN, FIVE, "[[type", "refused 13 rules 0\n"),
-    ] {
-        let ends = ends_so(rt.alloc(), records, aircraft, more_rules, 3, printed)?;
-        assert!(rt; ends, "{printed}{more_rules}");
     }
     Ok(())
 }
