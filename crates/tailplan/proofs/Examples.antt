@@ -1,16 +1,26 @@
 -- What the words mean, at command lines that are written out.
 use Rattle.std.proofs.Common.{◌≡◌, ℕ, List, [], ◌∷◌, Option, Some, None, codes, refl}
 use Rattle.clap.proofs.OnLiterals.{clap_on_literals}
+use Rattle.branch_tree.specs.declared.limit.Limit.TheVariants.{Free, Nodes}
 use Rattle.run_frame.specs.Tables.{NamesSeen}
+use Rattle.tailplan.specs.Tasks.{TaskNamesSeen}
 use Rattle.tailplan.specs.Words.{run_of}
 
 -- the words after the program's name
-abbrev after_name : List (List ℕ) → Option NamesSeen
+abbrev after_name : List (List ℕ) → Option TaskNamesSeen
 after_name words = run_of (codes "tailplan" ∷ words)
 
--- the words name these tables
-abbrev named : List ℕ → List ℕ → List ℕ → Option NamesSeen
-named timetable fleet rules = Some (record { timetable = timetable; fleet = fleet; rules = rules })
+-- the tables `t`, `f` and `r`
+abbrev t_f_r : NamesSeen
+t_f_r = record { timetable = codes "t"; fleet = codes "f"; rules = codes "r" }
+
+-- the words name these tables, and no limit
+abbrev named : List ℕ → List ℕ → List ℕ → Option TaskNamesSeen
+named timetable fleet rules = Some (record { tables = record { timetable = timetable; fleet = fleet; rules = rules }; limit = Free })
+
+-- they name the tables `t`, `f` and `r`, and this limit
+abbrev limited : ℕ → Option TaskNamesSeen
+limited most = Some (record { tables = t_f_r; limit = Nodes most })
 
 -- no words at all, or the program's name alone, give no names
 no_words : (run_of [] ≡ None) × (after_name [] ≡ None)
@@ -71,12 +81,26 @@ no_help : (after_name (codes "--help" ∷ []) ≡ None)
 unfolding clap_on_literals run_of
 no_help = (refl, refl, refl, refl, refl, refl, refl)
 
--- no option is taken, in whatever way it is written
-no_options : (after_name (codes "t" ∷ codes "f" ∷ codes "r" ∷ codes "--nodes" ∷ codes "5" ∷ []) ≡ None)
-    × (after_name (codes "--nodes=5" ∷ codes "t" ∷ codes "f" ∷ codes "r" ∷ []) ≡ None)
-    × (after_name (codes "t" ∷ codes "--cert" ∷ codes "c" ∷ codes "f" ∷ codes "r" ∷ []) ≡ None)
+-- a limit is a number, wherever it stands and in either way that it is written
+limits : (after_name (codes "t" ∷ codes "f" ∷ codes "r" ∷ codes "--nodes" ∷ codes "5" ∷ []) ≡ limited 5)
+    × (after_name (codes "--nodes=5" ∷ codes "t" ∷ codes "f" ∷ codes "r" ∷ []) ≡ limited 5)
+    × (after_name (codes "t" ∷ codes "--nodes" ∷ codes "0" ∷ codes "f" ∷ codes "r" ∷ []) ≡ limited 0)
+unfolding clap_on_literals run_of
+limits = (refl, refl, refl)
+
+-- it stands once, with a value that is a number with no zero in front
+no_limits : (after_name (codes "t" ∷ codes "f" ∷ codes "r" ∷ codes "--nodes" ∷ []) ≡ None)
+    × (after_name (codes "t" ∷ codes "f" ∷ codes "r" ∷ codes "--nodes" ∷ codes "5" ∷ codes "--nodes" ∷ codes "5" ∷ []) ≡ None)
+    × (after_name (codes "t" ∷ codes "f" ∷ codes "r" ∷ codes "--nodes=05" ∷ []) ≡ None)
+    × (after_name (codes "t" ∷ codes "f" ∷ codes "r" ∷ codes "--nodes=-5" ∷ []) ≡ None)
+    × (after_name (codes "t" ∷ codes "f" ∷ codes "r" ∷ codes "--nodes=" ∷ []) ≡ None)
+unfolding clap_on_literals run_of
+no_limits = (refl, refl, refl, refl, refl)
+
+-- no other option is taken, in whatever way it is written
+no_options : (after_name (codes "t" ∷ codes "--cert" ∷ codes "c" ∷ codes "f" ∷ codes "r" ∷ []) ≡ None)
     × (after_name (codes "t" ∷ codes "f" ∷ codes "r" ∷ codes "--cert=c" ∷ []) ≡ None)
     × (after_name (codes "--cert" ∷ codes "f" ∷ codes "r" ∷ []) ≡ None)
     × (after_name (codes "t" ∷ codes "f" ∷ codes "r" ∷ codes "--rules=x" ∷ []) ≡ None)
 unfolding clap_on_literals run_of
-no_options = (refl, refl, refl, refl, refl, refl)
+no_options = (refl, refl, refl, refl)

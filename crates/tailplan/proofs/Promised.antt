@@ -1,4 +1,5 @@
 -- From an answer that is true and printed to what a run promises.
+use Rattle.std.specs.Prelude.{option_map}
 use Rattle.std.proofs.Common.{◌≡◌, ◌≢◌, ◌∙◌, ℕ, ◌⊎◌, inl, inr, arith, List, Option, Ok, Err, None, Some, IfSome, subst, sym}
 use Rattle.tail_book.specs.Seen.{BookSeen}
 use Rattle.tail_book.specs.Truth.{IsTrueOutcome}
@@ -8,7 +9,11 @@ use Rattle.tail_outside.specs.Outside.{PieceHasFailed, Takes}
 use Rattle.tail_outside.specs.Shown.{FilesShown, SinkShown}
 use Rattle.tail_text.specs.declared.refusal.Refusal.{Refusal}
 use Rattle.book_maker.specs.Made.{book_of}
+use Rattle.branch_tree.specs.SearchTree.{HasReached}
+use Rattle.branch_tree.specs.declared.limit.Limit.{Limit}
+use Rattle.branch_tree.specs.declared.limit.Limit.TheVariants.{Free, Nodes}
 use Rattle.plan_report.specs.Report.{report, report_lines}
+use Rattle.plan_report.specs.inside.Report.{HasPlanFor}
 use Rattle.run_frame.proofs.Ending as ending
 use Rattle.run_frame.proofs.Fronts.{book_of-fronts}
 use Rattle.run_frame.proofs.Held.{OfHeld-map}
@@ -16,28 +21,51 @@ use Rattle.run_frame.specs.inside.Answer.{IsAnswerTo, IsPrintable as IsPrintable
 use Rattle.run_frame.specs.Answer.{IsUnlessStopped}
 use Rattle.run_frame.specs.inside.TableFiles.{fronts}
 use Rattle.run_frame.specs.TableFiles.{tables_held}
-use Rattle.run_frame.specs.Tables.{NamesSeen, TablesSeen}
+use Rattle.run_frame.specs.Tables.{TablesSeen}
 use Rattle.run_frame.specs.declared.answer.Answer.TheVariants.{ReadFailed}
-use Rattle.tailplan.specs.Answers.{Answer, AreRefused, AreSolved, IsTrueAnswer, OfTables, answer_text}
-use Rattle.tailplan.specs.inside.Outcomes.{IsPrintable, outcome_status}
-use Rattle.tailplan.specs.Promises.{IsVerdict, JudgesBook, Promise, RefusesTables}
+use Rattle.tailplan.specs.Answers.{Answer, AreRefused, AreSolved, HasTree, IsBookOf, IsTrueAnswer, OfTask, answer_text}
+use Rattle.tailplan.specs.inside.Outcomes.{outcome_status}
+use Rattle.tailplan.specs.inside.Tasks.{task_fronts}
+use Rattle.tailplan.specs.Promises.{Case, IsCaseOf, IsNumber, IsVerdict, JudgesBook, Promise, RefusesTables}
+use Rattle.tailplan.specs.Tasks.{TaskNamesSeen, TaskSeen, task_held}
 use Rattle.tailplan.specs.Usage.{usage_line}
 use Rattle.tailplan.specs.Words.{run_of}
 use Rattle.tailplan.specs.declared.answer.Solved.{Solved}
 
+abbrev Same : TaskSeen → TaskSeen → Type 0
+Same a b = a ≡ b
+
+-- tables that were read up to the limit are the fronts of the files
+pub task-read : (files : FilesShown) (names : TaskNamesSeen) (read : TablesSeen) → IfSome (tables_held files names.tables) (λ whole. read ≡ fronts whole)
+    → IfSome (task_held files names) (λ whole. record { tables = read; limit = names.limit } ≡ task_fronts whole)
+task-read files names read h = each (tables_held files names.tables) h
+  where
+    alike : {t u : TablesSeen} → t ≡ u → Same (record { tables = t; limit = names.limit }) (record { tables = u; limit = names.limit })
+    alike same = rw same refl
+
+    each : (t : Option TablesSeen) → IfSome t (λ whole. read ≡ fronts whole)
+        → IfSome (option_map (λ tables. record { tables = tables; limit = names.limit }) t) (λ whole. record { tables = read; limit = names.limit } ≡ task_fronts whole)
+    each None a = tt
+    each (Some tables) a = alike a
+
 -- an answer to the tables that were read is a true answer to the words
-pub true_answer : (words : List (List ℕ)) (files : FilesShown) (names : NamesSeen) (read : TablesSeen) (answer : Answer) → run_of words ≡ Some names
-    → IfSome (tables_held files names) (λ tables. read ≡ fronts tables) → IsAnswerTo AreRefused AreSolved read answer → IsTrueAnswer words files answer
-true_answer words files = ending.true_answer (run_of words) (tables_held files) AreRefused AreSolved fronts
-    (λ tables refusal h. sym (book_of-fronts tables) ∙ h) (λ tables solved h. (sym (book_of-fronts tables) ∙ h.0, h.1))
+pub true_answer : (words : List (List ℕ)) (files : FilesShown) (names : TaskNamesSeen) (read : TaskSeen) (answer : Answer) → run_of words ≡ Some names
+    → IfSome (task_held files names) (λ task. read ≡ task_fronts task) → IsAnswerTo AreRefused AreSolved read answer → IsTrueAnswer words files answer
+true_answer words files = ending.true_answer (run_of words) (task_held files) AreRefused AreSolved task_fronts
+    (λ task refusal h. sym (book_of-fronts task.tables) ∙ h) (λ task solved h. (sym (book_of-fronts task.tables) ∙ h.0, h.1))
 
 -- a book is no refusal
-apart : (tables : TablesSeen) (book : BookSeen) (refusal : Refusal) → book_of tables.timetable tables.fleet tables.rules ≡ Ok book → AreRefused tables refusal → ⊥
-apart tables book refusal is refused = let both = sym is ∙ refused in cc
+apart : (task : TaskSeen) (book : BookSeen) (refusal : Refusal) → IsBookOf task book → AreRefused task refusal → ⊥
+apart task book refusal is refused = let both = sym is ∙ refused in cc
 
 -- the tables are one book
-same_book : (tables : TablesSeen) (a b : BookSeen) → book_of tables.timetable tables.fleet tables.rules ≡ Ok a → book_of tables.timetable tables.fleet tables.rules ≡ Ok b → a ≡ b
-same_book tables a b first second = let both = sym first ∙ second in cc
+same_book : (task : TaskSeen) (a b : BookSeen) → IsBookOf task a → IsBookOf task b → a ≡ b
+same_book task a b first second = let both = sym first ∙ second in cc
+
+-- only a number is reached
+reached : (limit : Limit) (count : ℕ) → HasReached limit count → IsNumber limit
+reached Free count h = h
+reached (Nodes most) count h = tt
 
 -- the statuses of outcomes are 0, 1 and 4
 never_five : (outcome : Outcome) → outcome_status outcome ≢ 5
@@ -52,19 +80,19 @@ never_six Infeasible e = absurd (omega (arith, e))
 never_six (Between plan low high nodes) e = absurd (omega (arith, e))
 never_six (Above low nodes) e = absurd (omega (arith, e))
 
--- a true outcome says whether some plan is legal
-decides : (book : BookSeen) (outcome : Outcome) (status : ℕ) → IsTrueOutcome book outcome → IsPrintable book outcome → status ≡ outcome_status outcome → IsVerdict book status
-decides book (Optimal plan cost) status truth fit is = inl (is, (plan, truth.plan.legal))
-decides book Infeasible status truth fit is = inr (is, truth.claim)
-decides book (Between plan low high nodes) status truth fit is = absurd fit.1
-decides book (Above low nodes) status truth fit is = absurd fit.1
+-- a true outcome says whether some plan is legal, or a number was reached
+decides : (book : BookSeen) (limit : Limit) (outcome : Outcome) (status : ℕ) → IsTrueOutcome book outcome → HasTree book limit outcome → status ≡ outcome_status outcome
+    → IsVerdict (record { book = book; limit = limit }) status
+decides book limit (Optimal plan cost) status truth tree is = inl (is, (plan, truth.plan.legal))
+decides book limit Infeasible status truth tree is = inr (inl (is, truth.claim))
+decides book limit (Between plan low high nodes) status truth tree is = inr (inr (is, reached limit nodes tree.1.answered.2.2.2.0))
+decides book limit (Above low nodes) status truth tree is = inr (inr (is, reached limit nodes tree.1.answered.2.2.0))
 
 module _ (words : List (List ℕ)) (files : FilesShown) (before after : SinkShown) where
   -- an outcome that was printed promises what its status says
-  found : (book : BookSeen) (outcome : Outcome) → IsPrintable book outcome
-      → OfTables words files (λ tables. (book_of tables.timetable tables.fleet tables.rules ≡ Ok book) × IsTrueOutcome book outcome)
+  found : (book : BookSeen) (outcome : Outcome) → OfTask words files (λ task. IsBookOf task book × IsTrueOutcome book outcome × HasTree book task.limit outcome)
       → Takes before after (report book outcome) → Promise words files before after (outcome_status outcome)
-  found book (Optimal plan cost) fit k took = OfHeld-map (run_of words) (tables_held files) _ _ (λ tables own. record {
+  found book (Optimal plan cost) k took = OfHeld-map (run_of words) (task_held files) _ _ (λ task own. record {
     book = book;
     plan = plan;
     cost = cost;
@@ -72,39 +100,56 @@ module _ (words : List (List ℕ)) (files : FilesShown) (before after : SinkShow
     truth = own.1;
     printed = took;
   }) k
-  found book Infeasible fit k took = OfHeld-map (run_of words) (tables_held files) _ _ (λ tables own. record {
+  found book Infeasible k took = OfHeld-map (run_of words) (task_held files) _ _ (λ task own. record {
     book = book;
     is = own.0;
     truth = own.1.claim;
     printed = took;
   }) k
-  found book (Between plan low high nodes) fit k took = absurd fit.1
-  found book (Above low nodes) fit k took = absurd fit.1
+  found book (Between plan low high nodes) k took = OfHeld-map (run_of words) (task_held files) _ _ (λ task own. record {
+    book = book;
+    outcome = Between plan low high nodes;
+    is = own.0;
+    bound = tt;
+    truth = own.1;
+    tree = own.2;
+    printed = took;
+  }) k
+  found book (Above low nodes) k took = OfHeld-map (run_of words) (task_held files) _ _ (λ task own. record {
+    book = book;
+    outcome = Above low nodes;
+    is = own.0;
+    bound = tt;
+    truth = own.1;
+    tree = own.2;
+    printed = took;
+  }) k
 
   module _ (status : ℕ) (answer : Answer) (truth : IsTrueAnswer words files answer)
       (printed : IsPrinted (answer_text answer) (status_of (λ solved. outcome_status solved.outcome) answer) before after status) where
-    pub promise : IsPrintableBy (λ solved. IsPrintable solved.book solved.outcome) answer → Promise words files before after status
-    promise fit = ending.promise (run_of words) (tables_held files) AreRefused AreSolved usage_line (λ solved. report_lines solved.book solved.outcome) (λ solved. outcome_status solved.outcome)
-        before after status answer truth printed (Promise words files before after) (λ solved. IsPrintable solved.book solved.outcome) fit
-        (λ h. h) (λ h. h) (λ h. h) (λ h. h) (λ h. h) (λ solved fits k took. found solved.book solved.outcome fits k took)
+    pub promise : IsPrintableBy (λ solved. HasPlanFor solved.book solved.outcome) answer → Promise words files before after status
+    promise fit = ending.promise (run_of words) (task_held files) AreRefused AreSolved usage_line (λ solved. report_lines solved.book solved.outcome) (λ solved. outcome_status solved.outcome)
+        before after status answer truth printed (Promise words files before after) (λ solved. HasPlanFor solved.book solved.outcome) fit
+        (λ h. h) (λ h. h) (λ h. h) (λ h. h) (λ h. h) (λ solved fits k took. found solved.book solved.outcome k took)
 
     pub piece_failed : status ≡ 6 → PieceHasFailed before after
-    piece_failed = ending.piece_failed (run_of words) (tables_held files) AreRefused AreSolved usage_line (λ solved. report_lines solved.book solved.outcome) (λ solved. outcome_status solved.outcome)
+    piece_failed = ending.piece_failed (run_of words) (task_held files) AreRefused AreSolved usage_line (λ solved. report_lines solved.book solved.outcome) (λ solved. outcome_status solved.outcome)
         before after status answer truth printed (λ solved. never_six solved.outcome)
 
     pub read_failed : (Cause : Type 0) → (answer ≡ ReadFailed → Cause) → status ≡ 5 → Cause
-    read_failed Cause cause = ending.read_failed (run_of words) (tables_held files) AreRefused AreSolved usage_line (λ solved. report_lines solved.book solved.outcome) (λ solved. outcome_status solved.outcome)
+    read_failed Cause cause = ending.read_failed (run_of words) (task_held files) AreRefused AreSolved usage_line (λ solved. report_lines solved.book solved.outcome) (λ solved. outcome_status solved.outcome)
         before after status answer truth printed Cause cause (λ solved. never_five solved.outcome)
 
     pub words_refused : run_of words ≡ None → IsUnlessStopped 2 status
-    words_refused = ending.words_refused (run_of words) (tables_held files) AreRefused AreSolved usage_line (λ solved. report_lines solved.book solved.outcome) (λ solved. outcome_status solved.outcome)
+    words_refused = ending.words_refused (run_of words) (task_held files) AreRefused AreSolved usage_line (λ solved. report_lines solved.book solved.outcome) (λ solved. outcome_status solved.outcome)
         before after status answer truth printed
 
     pub tables_refused : RefusesTables words files status
-    tables_refused = ending.refused (run_of words) (tables_held files) AreRefused AreSolved usage_line (λ solved. report_lines solved.book solved.outcome) (λ solved. outcome_status solved.outcome)
-        before after status answer truth printed (λ tables refusal solved is own. apart tables solved.book refusal own.0 is)
+    tables_refused = ending.refused (run_of words) (task_held files) AreRefused AreSolved usage_line (λ solved. report_lines solved.book solved.outcome) (λ solved. outcome_status solved.outcome)
+        before after status answer truth printed (λ task refusal solved is own. apart task solved.book refusal own.0 is)
 
-    pub judged : IsPrintableBy (λ solved. IsPrintable solved.book solved.outcome) answer → JudgesBook words files status
-    judged fit = ending.judged (run_of words) (tables_held files) AreRefused AreSolved usage_line (λ solved. report_lines solved.book solved.outcome) (λ solved. outcome_status solved.outcome)
-        before after status answer truth printed (λ tables book. book_of tables.timetable tables.fleet tables.rules ≡ Ok book) IsVerdict (λ solved. IsPrintable solved.book solved.outcome) fit apart
-        (λ tables book solved is own fits s. subst (λ (b : BookSeen). IsVerdict b status) (same_book tables solved.book book own.0 is) (decides solved.book solved.outcome status own.1 fits s))
+    pub judged : IsPrintableBy (λ solved. HasPlanFor solved.book solved.outcome) answer → JudgesBook words files status
+    judged fit = ending.judged (run_of words) (task_held files) AreRefused AreSolved usage_line (λ solved. report_lines solved.book solved.outcome) (λ solved. outcome_status solved.outcome)
+        before after status answer truth printed IsCaseOf IsVerdict (λ solved. HasPlanFor solved.book solved.outcome) fit (λ task case refusal is. apart task case.book refusal is.0)
+        (λ task case solved is own fits s. subst (λ (b : BookSeen). IsVerdict (record { book = b; limit = case.limit }) status) (same_book task solved.book case.book own.0 is.0)
+        (decides solved.book case.limit solved.outcome status own.1 (subst (λ (limit : Limit). HasTree solved.book limit solved.outcome) is.1 own.2) s))

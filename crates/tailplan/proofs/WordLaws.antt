@@ -1,12 +1,13 @@
 -- What the words mean, whatever the names are.
 use Rattle.std.proofs.Common.{false, ◌==◌, ◌≡◌, ℕ, List, [], ◌∷◌, ◌++◌, Option, Some, None, codes, refl}
 use Rattle.clap.proofs.OnLiterals.{clap_on_literals}
-use Rattle.run_frame.specs.Tables.{NamesSeen}
+use Rattle.branch_tree.specs.declared.limit.Limit.TheVariants.{Free}
+use Rattle.tailplan.specs.Tasks.{TaskNamesSeen}
 use Rattle.tailplan.specs.Words.{run_of}
 
--- the words name these files
-abbrev named : List ℕ → List ℕ → List ℕ → Option NamesSeen
-named timetable fleet rules = Some (record { timetable = timetable; fleet = fleet; rules = rules })
+-- the words name these files, and no limit
+abbrev named : List ℕ → List ℕ → List ℕ → Option TaskNamesSeen
+named timetable fleet rules = Some (record { tables = record { timetable = timetable; fleet = fleet; rules = rules }; limit = Free })
 
 -- the program's name does not matter
 whatever_it_is_called : (one other : List ℕ) (words : List (List ℕ)) → run_of (one ∷ words) ≡ run_of (other ∷ words)
@@ -28,8 +29,3 @@ plain_names : (program timetable fleet rules_file : List ℕ) (t f r : ℕ) → 
     → run_of (program ∷ (t ∷ timetable) ∷ (f ∷ fleet) ∷ (r ∷ rules_file) ∷ []) ≡ named (t ∷ timetable) (f ∷ fleet) (r ∷ rules_file)
 unfolding clap_on_literals run_of
 plain_names program timetable fleet rules_file t f r et ef er = simp (et, ef, er) refl
-
--- whatever else is written behind two dashes in one word, no option of that name is taken
-no_option_first : (program : List ℕ) (sign : ℕ) (name : List ℕ) (words : List (List ℕ)) → run_of (program ∷ (codes "--" ++ sign ∷ name) ∷ words) ≡ None
-unfolding clap_on_literals run_of
-no_option_first program sign name words = refl

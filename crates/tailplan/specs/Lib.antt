@@ -1,4 +1,5 @@
 pub mod Usage
+pub mod Tasks
 pub mod Words
 pub mod Answers
 pub mod Promises

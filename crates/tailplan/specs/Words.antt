@@ -1,13 +1,38 @@
--- The reading of the words: the program's name and the names of three tables.
-use Rattle.std.specs.Prelude.{ℕ, List, codes, Option, option_and_then}
-use Rattle.clap.specs.Words.{App}
-use Rattle.run_frame.specs.Tables.{NamesSeen}
+-- The reading of the words: the program's name, the names of three tables, and how many nodes may be counted.
+use Rattle.std.specs.Prelude.{ℕ, List, codes, Option, Some, None, Result, Ok, Err, option_and_then, option_map}
+use Rattle.clap.specs.Words.{App, Row, Rule, first_of, new_rule, with_rule}
+use Rattle.tail_text.specs.Number.{number_of}
+use Rattle.tail_text.specs.declared.bad.Bad.{Bad}
+use Rattle.branch_tree.specs.declared.limit.Limit.{Limit}
+use Rattle.branch_tree.specs.declared.limit.Limit.TheVariants.{Free, Nodes}
 use Rattle.run_frame.specs.Words.{matched, tables_command, tables_in}
+use Rattle.tailplan.specs.Tasks.{TaskNamesSeen}
+use Rattle.tailplan.specs.declared.words.TheConstants.{NODE_LIMIT}
 
--- the command: three places, and no option
+-- an option that may be given, once and with one value
+abbrev pub optional : List ℕ → Rule
+optional id = record (new_rule id) { long = Some id }
+
+-- the command: three places and one option
 abbrev pub command : App
-command = tables_command (codes "tailplan")
+command = with_rule (tables_command (codes "tailplan")) (optional (codes "nodes"))
 
--- the names that the words give; words that the command refuses give none
-unfoldable pub run_of : List (List ℕ) → Option NamesSeen
-run_of words = option_and_then tables_in (matched command words)
+-- a number limits the nodes, and any other text is refused
+abbrev pub limited : Result ℕ Bad → Option Limit
+limited (Ok most) = Some (Nodes most)
+limited (Err bad) = None
+
+-- the limit that a value of the option gives; without one the nodes are free
+abbrev pub limit_of : Option (List ℕ) → Option Limit
+limit_of None = Some Free
+limit_of (Some text) = limited (number_of NODE_LIMIT text)
+
+-- the names and the limit among what the command matched
+abbrev pub names_in : List Row → Option TaskNamesSeen
+names_in rows =
+    option_and_then (λ tables. option_map (λ limit. record { tables = tables; limit = limit }) (limit_of (first_of (codes "nodes") rows)))
+    (tables_in rows)
+
+-- what the words give; words that the command refuses give nothing
+unfoldable pub run_of : List (List ℕ) → Option TaskNamesSeen
+run_of words = option_and_then names_in (matched command words)

@@ -2,7 +2,8 @@
 
 ghost use Rattle.std.specs.Prelude.{◌≡◌, ◌≤◌, ℕ, false, List, OnErr, OnOk, IsErrOf};
 ghost use Rattle.plan_report.specs.Report.{report_lines};
-ghost use Rattle.tailplan.specs.inside.Outcomes.{IsPrintable, outcome_status};
+ghost use Rattle.plan_report.specs.inside.Report.{HasPlanFor};
+ghost use Rattle.tailplan.specs.inside.Outcomes.{outcome_status};
 
 use plan_report::{ReportFail, write_report};
 use run_frame::{Finding, Status};
@@ -24,7 +25,7 @@ impl Finding for Solved {
 
     ghost code = { λ s. outcome_status s.outcome };
 
-    ghost is_printable = { λ s. IsPrintable s.book s.outcome };
+    ghost is_printable = { λ s. HasPlanFor s.book s.outcome };
 
     fn status(&self) -> Status {
         Status(match &self.outcome {

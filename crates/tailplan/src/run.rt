@@ -1,13 +1,13 @@
-//! A whole run: the words, the three tables, the least plan, and what is printed.
+//! A whole run: the words, the three tables, the search for a least plan, and what is printed.
 
 ghost use Rattle.std.specs.Prelude.{◌≡◌, ◌≤◌, None, false};
 ghost use Rattle.tail_outside.specs.Outside.{OnlyRead, PieceHasFailed, ReadHasFailed};
+ghost use Rattle.plan_report.specs.inside.Report.{HasPlanFor};
 ghost use Rattle.run_frame.specs.inside.Answer.{IsAnswerTo, IsPrintable as IsPrintableBy};
 ghost use Rattle.run_frame.specs.Answer.{IsUnlessStopped};
 ghost use Rattle.run_frame.specs.Spelled.{spelled};
 ghost use Rattle.run_frame.specs.declared.answer.Answer.TheVariants.{ReadFailed};
 ghost use Rattle.tailplan.specs.Answers.{AreRefused, AreSolved, IsTrueAnswer, MayRead};
-ghost use Rattle.tailplan.specs.inside.Outcomes.{IsPrintable};
 ghost use Rattle.tailplan.specs.Promises.{JudgesBook, Promise, RefusesTables};
 ghost use Rattle.tailplan.specs.Words.{run_of};
 
@@ -15,16 +15,18 @@ use crate::answer::Solved;
 use crate::usage::usage_line;
 use crate::words::run_of;
 use book_maker::read_book;
-use branch_tree::least_plan;
+use branch_marks::NoLog;
+use branch_tree::{Limit, search};
 use plan_report::laws::true_outcomes_can_be_written;
 use run_frame::{Answer, Ran, Tables, print, read_tables};
 use std::alloc::Global;
-use tail_book::laws;
+use tail_book::CostTable;
+use tail_book::laws::{every_book_is_sound, own_costs_are_for_book, own_costs_keep_outcomes};
 use tail_outside::{Files, ReadFail, Sink};
 use tail_text::Stopped;
 
 /// Plans the timetable, the fleet and the rules that the words name: prints a legal plan of least cost, or that no
-/// plan is legal, or why the words or a table are refused. The files are handed back as they stand.
+/// plan is legal, or, at a limit of nodes, a bound with the best plan found, or why the words or a table are refused. The files are handed back as they stand.
 pub fn solve_run<F: Files, S: Sink>(
     alloc: Global,
     words: &[String],
@@ -59,7 +61,7 @@ pub fn solve_run<F: Files, S: Sink>(
 fn answer_of<F: Files>(alloc: Global, words: &[String], files: &mut F) -> Answer<Solved>
     requires { MayRead (spelled words.now) (F.shows files.old) }
     ensures answer { IsTrueAnswer (spelled words.now) (F.shows files.old) result }
-    ensures printable { IsPrintableBy (λ solved. IsPrintable solved.book solved.outcome) result }
+    ensures printable { IsPrintableBy (λ solved. HasPlanFor solved.book solved.outcome) result }
     ensures same { OnlyRead (F.shows files.old) (F.shows files.new) }
     ensures cause { result ≡ ReadFailed → ReadHasFailed (F.shows files.old) (F.shows files.new) }
 {
@@ -68,26 +70,32 @@ fn answer_of<F: Files>(alloc: Global, words: &[String], files: &mut F) -> Answer
         Ok(None) => return Answer::Usage,
         Err(_) => return Answer::Memory,
     };
-    match read_tables(alloc, files, &names) {
-        Ok(tables) => solved(alloc, &tables),
+    match read_tables(alloc, files, &names.tables) {
+        Ok(tables) => solved(alloc, &tables, names.limit),
         Err(ReadFail::Failed) => Answer::ReadFailed,
         Err(ReadFail::Memory) => Answer::Memory,
     }
 }
 
-// The answer to the tables.
-fn solved(alloc: Global, tables: &Tables) -> Answer<Solved>
-    ensures answer { IsAnswerTo AreRefused AreSolved tables.now result }
-    ensures printable { IsPrintableBy (λ solved. IsPrintable solved.book solved.outcome) result }
+// The answer to the tables, under a limit.
+fn solved(alloc: Global, tables: &Tables, limit: Limit) -> Answer<Solved>
+    ensures answer { IsAnswerTo AreRefused AreSolved (record { tables = tables.now; limit = limit }) result }
+    ensures printable { IsPrintableBy (λ solved. HasPlanFor solved.book solved.outcome) result }
 {
     let book = match read_book(alloc, &tables.timetable, &tables.fleet, &tables.rules) {
         Ok(book) => book,
         Err(Stopped::Refused(refusal)) => return Answer::Refused(refusal),
         Err(Stopped::Memory) => return Answer::Memory,
     };
-    laws::every_book_is_sound(&book);
+    every_book_is_sound(&book);
     true_outcomes_can_be_written();
-    match least_plan(alloc, &book) {
+    own_costs_are_for_book();
+    own_costs_keep_outcomes();
+    let table = match CostTable::of(alloc, &book) {
+        Ok(table) => table,
+        Err(_) => return Answer::Memory,
+    };
+    match search(alloc, &book, &table, limit, &mut NoLog) {
         Ok(outcome) => Answer::Found(Solved { book, outcome }),
         Err(_) => Answer::Memory,
     }

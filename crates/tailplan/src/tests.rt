@@ -4,6 +4,7 @@ mod costs;
 mod counters;
 mod curfews;
 mod faults;
+mod limits;
 mod links;
 mod name_faults;
 mod permissions;
@@ -110,14 +111,27 @@ fn run_over(alloc: Global, words: &[&str], files: Vec<MemFile>) -> Result<Seen, 
 
 // A run over the texts of three tables.
 fn run_on(alloc: Global, timetable: &[&str], fleet: &[&str], rules: &[&str]) -> Result<Seen, Fail> {
+    run_with(
+        alloc,
+        &["tailplan", "t", "f", "r"],
+        timetable,
+        fleet,
+        rules,
+    )
+}
+
+// The same by these words.
+fn run_with(
+    alloc: Global,
+    words: &[&str],
+    timetable: &[&str],
+    fleet: &[&str],
+    rules: &[&str],
+) -> Result<Seen, Fail> {
     let timetable = text_of(alloc, timetable)?;
     let fleet = text_of(alloc, fleet)?;
     let rules = text_of(alloc, rules)?;
-    run_over(
-        alloc,
-        &["tailplan", "t", "f", "r"],
-        files_of(alloc, timetable, fleet, rules)?,
-    )
+    run_over(alloc, words, files_of(alloc, timetable, fleet, rules)?)
 }
 
 fn is_so(seen: &Seen, status: u8, printed: &str) -> bool {

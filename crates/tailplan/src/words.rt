@@ -1,32 +1,67 @@
-//! The reading of the words: which tables a run is over.
+//! The reading of the words: which tables a run is over, and how many nodes it may count.
 
 ghost use Rattle.std.specs.Prelude.{◌≡◌, IfOk, option_map};
-ghost use Rattle.clap.specs.Words.{app_of};
-ghost use Rattle.run_frame.specs.inside.TableFiles.{names_seen};
+ghost use Rattle.clap.specs.Words.{app_of, found_of, rows_of};
 ghost use Rattle.run_frame.specs.Spelled.{spelled};
-ghost use Rattle.tailplan.specs.Words.{command, run_of};
+ghost use Rattle.tailplan.specs.Words.{command, limit_of, names_in, run_of};
+ghost use Rattle.tailplan.specs.inside.Tasks.{task_names_seen};
 
-use clap::Command;
+use branch_tree::Limit;
 use clap::error::ErrorKind;
-use run_frame::{TableNames, tables_command, tables_in};
+use clap::{Arg, ArgMatches, Command};
+use run_frame::{TableNames, tables_command, tables_in, value_of};
 use std::alloc::{AllocError, Global};
 use tail_book::Memory;
+use tail_text::number;
 
-// The command: three words that have to stand in their places.
+/// The most nodes that a limit may name.
+pub const NODE_LIMIT: u64 = 1_000_000_000_000;
+
+/// The names of the three tables, and the limit of nodes, as the words give them.
+#[derive(Clone, Copy, PartialEq, Eq, Debug)]
+pub struct TaskNames<'a> {
+    pub tables: TableNames<'a>,
+    pub limit: Limit,
+}
+
+// The command: three words that have to stand in their places, and an option that may be given.
 fn command<'a>(alloc: Global) -> Result<Command<'a>, AllocError>
     ensures { IfOk result (λ c. app_of c ≡ command) }
 {
-    tables_command(alloc, "tailplan")
+    tables_command(alloc, "tailplan")?.arg(Arg::new(alloc, "nodes").long("nodes"))
 }
 
-/// The names of the tables, or nothing where the words are refused. The words begin with the program's name.
+// The limit that a value of the option gives, or nothing where it is no number that a limit may be.
+fn limit_of(text: Option<&str>) -> Option<Limit>
+    ensures { result ≡ limit_of (option_map (λ s. s.now) text) }
+{
+    match text {
+        None => Some(Limit::Free),
+        Some(text) => match number(text.as_bytes(), NODE_LIMIT) {
+            Ok(most) => Some(Limit::Nodes(most)),
+            Err(_) => None,
+        },
+    }
+}
+
+// The names and the limit among what the command matched.
+fn names_in<'a>(matches: &ArgMatches<'a>) -> Option<TaskNames<'a>>
+    ensures { option_map task_names_seen result ≡ names_in (rows_of (found_of matches.now)) }
+{
+    let tables = tables_in(matches)?;
+    let limit = limit_of(value_of(matches, "nodes"))?;
+    Some(TaskNames { tables, limit })
+}
+
+/// The names of the tables and the limit, or nothing where the words are refused. The words begin with the program's
+/// name.
 #[tactic(auto, unfolding(crate::specs::Words::run_of))]
-pub fn run_of<'a>(alloc: Global, words: &'a [String]) -> Result<Option<TableNames<'a>>, Memory>
-    ensures { IfOk result (λ names. option_map names_seen names ≡ run_of (spelled words.now)) }
+pub fn run_of<'a>(alloc: Global, words: &'a [String]) -> Result<Option<TaskNames<'a>>, Memory>
+    ensures { IfOk result (λ names. option_map task_names_seen names ≡ run_of (spelled words.now)) }
 {
     let command = command(alloc)?;
     match command.try_get_matches_from(words) {
-        Ok(matches) => Ok(tables_in(&matches)),
+        Ok(matches) => Ok(names_in(&matches)),
         Err(error) if error.kind() == ErrorKind::OutOfMemory => Err(Memory),
         Err(_) => Ok(None),
     }
@@ -45,16 +80,28 @@ mod tests {
         Ok(all)
     }
 
-    fn named<'a>(timetable: &'a str, fleet: &'a str, rules: &'a str) -> TableNames<'a> {
-        TableNames {
-            timetable,
-            fleet,
-            rules,
+    fn limited<'a>(
+        timetable: &'a str,
+        fleet: &'a str,
+        rules: &'a str,
+        limit: Limit,
+    ) -> TaskNames<'a> {
+        TaskNames {
+            tables: TableNames {
+                timetable,
+                fleet,
+                rules,
+            },
+            limit,
         }
     }
 
+    fn named<'a>(timetable: &'a str, fleet: &'a str, rules: &'a str) -> TaskNames<'a> {
+        limited(timetable, fleet, rules, Limit::Free)
+    }
+
     // Whether the words are read as these names, or refused where none are given.
-    fn are_read_as(alloc: Global, words: &[&str], names: Option<TableNames>) -> Result<bool, Fail> {
+    fn are_read_as(alloc: Global, words: &[&str], names: Option<TaskNames>) -> Result<bool, Fail> {
         let words = strings_of(alloc, words)?;
         Ok(run_of(alloc, &words)? == names)
     }
@@ -96,6 +143,26 @@ mod tests {
         Ok(())
     }
 
+    // A limit stands anywhere before two dashes, with a blank or a sign of equality.
+    #[test]
+    fn limits_are_numbers(rt: HostRuntime) -> Result<(), Fail> {
+        for (words, most) in [
+            (["tailplan", "t", "f", "r", "--nodes", "5"].as_slice(), 5),
+            (&["tailplan", "--nodes=5", "t", "f", "r"], 5),
+            (&["tailplan", "t", "--nodes", "0", "f", "r"], 0),
+            (&["tailplan", "--nodes", "7", "--", "t", "f", "r"], 7),
+            (
+                &["tailplan", "t", "f", "r", "--nodes", "1000000000000"],
+                NODE_LIMIT,
+            ),
+        ] {
+            let names = limited("t", "f", "r", Limit::Nodes(most));
+            let are_read = are_read_as(rt.alloc(), words, Some(names))?;
+            assert!(rt; are_read, "{words:?}");
+        }
+        Ok(())
+    }
+
     // Other numbers of names, names that begin with a dash, flags, and options that are not built yet.
     #[test]
     fn other_words_are_refused(rt: HostRuntime) -> Result<(), Fail> {
@@ -118,8 +185,17 @@ mod tests {
             &["tailplan", "-V"],
             &["tailplan", "t", "f", "r", "--help"],
             &["tailplan", "-h", "t", "f", "r"],
-            &["tailplan", "t", "f", "r", "--nodes", "5"],
-            &["tailplan", "--nodes=5", "t", "f", "r"],
+            &["tailplan", "t", "f", "r", "--nodes"],
+            &["tailplan", "t", "f", "r", "--nodes", "5", "--nodes", "5"],
+            &["tailplan", "t", "f", "r", "--nodes", "5", "x"],
+            &["tailplan", "t", "f", "r", "--nodes", "-5"],
+            &["tailplan", "t", "f", "r", "--nodes=-5"],
+            &["tailplan", "t", "f", "r", "--nodes", ""],
+            &["tailplan", "t", "f", "r", "--nodes", "05"],
+            &["tailplan", "t", "f", "r", "--nodes", "+5"],
+            &["tailplan", "t", "f", "r", "--nodes", "5 "],
+            &["tailplan", "t", "f", "r", "--nodes", "1000000000001"],
+            &["tailplan", "--nodes", "t", "f", "r"],
             &["tailplan", "t", "--cert", "c", "f", "r"],
             &["tailplan", "t", "f", "r", "--cert=c"],
             &["tailplan", "--cert", "f", "r"],
