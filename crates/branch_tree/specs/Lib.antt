@@ -11,5 +11,6 @@ pub mod SearchTree
 pub mod Stops
 pub mod Step
 pub mod Search
+pub mod Decided
 pub mod Laws
 pub mod inside
