@@ -1,0 +1,2 @@
+pub mod CertText
+pub mod Trailer

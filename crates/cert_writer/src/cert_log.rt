@@ -1,0 +1,152 @@
+//! A log that writes each event to a sink, as a line of a certificate.
+//!
+//! It tells a list where the sink tells the header's line and the lines of the list, and is torn where the sink took only a
+//! front of the next line.
+
+ghost use Rattle.std.specs.Prelude.{◌≡◌, ◌≤◌, ◌∷◌, [], false, OnOk, OnErr, IsErrOf, length};
+ghost use Rattle.tail_book.specs.Lookup.{activities, aircraft};
+ghost use Rattle.tail_outside.specs.Outside.{PieceHasFailed, Takes, TakesFront};
+ghost use Rattle.cert_checker.specs.Certificate.{text_of};
+ghost use Rattle.cert_writer.specs.Trailer.{trailer_lines, IsSpelled};
+ghost use Rattle.cert_lines.specs.declared.cert_line.CertLine.TheVariants.{Header as HeaderLine};
+
+use crate::trailer::{add_line, add_trailer};
+use branch_marks::{Event, LogFail, TreeLog};
+use cert_lines::CertLine;
+use std::alloc::Global;
+use tail_book::laws::every_book_is_sound;
+use tail_book::{Book, Outcome};
+use tail_outside::{Fault, Sink};
+use tail_text::Line;
+
+/// A certificate that is being written. The line is kept for its room.
+#[derive(Drop)]
+pub struct CertLog<S: Sink + Drop> {
+    /// How many activities, aircraft and counters the book has.
+    pub activities: u32,
+    pub aircraft: u32,
+    pub counters: u32,
+    line: Line,
+    /// Where the lines go.
+    pub sink: S,
+}
+
+impl<S: Sink + Drop> CertLog<S> {
+    /// A certificate of the book, of which nothing is written yet. The line has to be empty.
+    pub fn new(book: &Book, line: Line, sink: S) -> CertLog<S>
+        ensures activities { result.activities ≡ activities book.now }
+        ensures aircraft { result.aircraft ≡ aircraft book.now }
+        ensures counters { result.counters ≡ length book.now.rules.counters }
+        ensures sink { result.sink ≡ sink }
+    {
+        every_book_is_sound(book);
+        CertLog {
+            activities: book.activities.len() as u32,
+            aircraft: book.tails.len() as u32,
+            counters: book.rules.counters.len() as u32,
+            line,
+            sink,
+        }
+    }
+
+    /// Writes the header.
+    pub fn begin(&mut self) -> Result<(), LogFail>
+        ensures taken { OnOk result (Takes (S.shows self.old.sink) (S.shows self.new.sink) (text_of (HeaderLine 1 self.old.activities self.old.aircraft self.old.counters ∷ []))) }
+        ensures front { OnErr result (TakesFront (S.shows self.old.sink) (S.shows self.new.sink) (text_of (HeaderLine 1 self.old.activities self.old.aircraft self.old.counters ∷ []))) }
+        ensures beside { S.beside self.old.sink self.new.sink }
+        ensures activities { self.new.activities ≡ self.old.activities }
+        ensures aircraft { self.new.aircraft ≡ self.old.aircraft }
+        ensures counters { self.new.counters ≡ self.old.counters }
+        ensures ceases { (S.shows self.new.sink).ceased ≡ false → (S.shows self.old.sink).ceased ≡ false }
+        ensures counts { (S.shows self.old.sink).faults ≤ (S.shows self.new.sink).faults }
+        ensures cause { IsErrOf result LogFail.Write → PieceHasFailed (S.shows self.old.sink) (S.shows self.new.sink) }
+    {
+        let header = CertLine::Header {
+            version: 1,
+            n: self.activities,
+            m: self.aircraft,
+            c: self.counters,
+        };
+        self.line.clear();
+        if add_line(&header, &mut self.line).is_err() {
+            return Err(LogFail::Memory);
+        }
+        put(&mut self.sink, &self.line)
+    }
+
+    /// Writes the plan of an outcome, where it has one, and its claim. All of it is one piece.
+    pub fn finish(&mut self, alloc: Global, outcome: &Outcome) -> Result<(), LogFail>
+        requires { IsSpelled self.old.aircraft outcome.now }
+        ensures taken { OnOk result (Takes (S.shows self.old.sink) (S.shows self.new.sink) (text_of (trailer_lines self.old.activities outcome.now))) }
+        ensures front { OnErr result (TakesFront (S.shows self.old.sink) (S.shows self.new.sink) (text_of (trailer_lines self.old.activities outcome.now))) }
+        ensures beside { S.beside self.old.sink self.new.sink }
+        ensures activities { self.new.activities ≡ self.old.activities }
+        ensures aircraft { self.new.aircraft ≡ self.old.aircraft }
+        ensures counters { self.new.counters ≡ self.old.counters }
+        ensures ceases { (S.shows self.new.sink).ceased ≡ false → (S.shows self.old.sink).ceased ≡ false }
+        ensures counts { (S.shows self.old.sink).faults ≤ (S.shows self.new.sink).faults }
+        ensures cause { IsErrOf result LogFail.Write → PieceHasFailed (S.shows self.old.sink) (S.shows self.new.sink) }
+    {
+        self.line.clear();
+        if add_trailer(
+            alloc,
+            outcome,
+            self.activities,
+            self.aircraft,
+            &mut self.line,
+        )
+        .is_err()
+        {
+            return Err(LogFail::Memory);
+        }
+        put(&mut self.sink, &self.line)
+    }
+
+    /// The sink as it stands.
+    pub fn into_sink(self) -> S
+        ensures { result ≡ self.entry.sink }
+    {
+        let CertLog { sink, .. } = self;
+        sink
+    }
+}
+
+// Puts what a line holds.
+fn put<S: Sink>(sink: &mut S, line: &Line) -> Result<(), LogFail>
+    ensures taken { OnOk result (Takes (S.shows sink.old) (S.shows sink.new) line.now) }
+    ensures front { OnErr result (TakesFront (S.shows sink.old) (S.shows sink.new) line.now) }
+    ensures beside { S.beside sink.old sink.new }
+    ensures ceases { (S.shows sink.new).ceased ≡ false → (S.shows sink.old).ceased ≡ false }
+    ensures counts { (S.shows sink.old).faults ≤ (S.shows sink.new).faults }
+    ensures cause { IsErrOf result LogFail.Write → PieceHasFailed (S.shows sink.old) (S.shows sink.new) }
+{
+    match sink.put(line.bytes()) {
+        Ok(()) => Ok(()),
+        Err(Fault::Failed) => Err(LogFail::Write),
+        Err(Fault::Memory) => Err(LogFail::Memory),
+    }
+}
+
+impl<S: Sink + Drop> TreeLog for CertLog<S> {
+    ghost use Rattle.std.specs.Prelude.{◌≡◌, refl};
+    ghost use Rattle.std.proofs.Common.{◌∙◌};
+    ghost use Rattle.cert_lines.specs.declared.cert_line.CertLine.TheVariants.{Header};
+    ghost use Rattle.cert_writer.specs.CertText.{log_over};
+
+    ghost shows = { λ c. log_over (Header 1 c.activities c.aircraft c.counters) (S.shows c.sink) };
+
+    // The numbers of the header stay.
+    ghost beside = { λ a b. S.beside a.sink b.sink × (b.activities ≡ a.activities) × (b.aircraft ≡ a.aircraft) × (b.counters ≡ a.counters) };
+
+    fn note(&mut self, event: &Event) -> Result<(), LogFail> {
+        self.line.clear();
+        if add_line(&CertLine::Event(*event), &mut self.line).is_err() {
+            return Err(LogFail::Memory);
+        }
+        put(&mut self.sink, &self.line)
+    }
+
+    ghost beside_same = { λ c. (S.beside_same c.sink, refl, refl, refl) };
+
+    ghost beside_chains = { λ a b c h k. (S.beside_chains a.sink b.sink c.sink h.0 k.0, k.1 ∙ h.1, k.2 ∙ h.2, k.3 ∙ h.3) };
+}

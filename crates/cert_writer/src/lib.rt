@@ -1,0 +1,10 @@
+//! Certificates, written line by line to a sink: the header, what a search tells of its tree, the plan and the claim.
+#![tactic(auto)]
+
+mod cert_log;
+mod trailer;
+
+pub use cert_log::CertLog;
+
+#[cfg(test)]
+mod tests;

@@ -1,0 +1,96 @@
+//! The end of a certificate: who flies each activity, where there is a plan, and the claim.
+
+ghost use Rattle.std.specs.Prelude.{◌≡◌, ◌<◌, ◌++◌, ◌∷◌, [], All, IfOk, OnOk, length};
+ghost use Rattle.tail_book.specs.Truth.{claim_of};
+ghost use Rattle.tail_book.specs.inside.Fliers.{fliers_of};
+ghost use Rattle.cert_checker.specs.Certificate.{fly_lines, plan_lines, text_of};
+ghost use Rattle.cert_lines.specs.Grammar.{IsLine};
+ghost use Rattle.cert_writer.specs.CertText.{line_text};
+ghost use Rattle.cert_writer.specs.Trailer.{trailer_lines, IsSpelled};
+
+use cert_lines::{CertLine, write_line};
+use std::alloc::Global;
+use tail_book::{Claim, Memory, Outcome, Route};
+use tail_text::Line;
+
+/// Appends a line with its newline.
+pub fn add_line(cert: &CertLine, line: &mut Line) -> Result<(), Memory>
+    requires { IsLine cert.now }
+    ensures { OnOk result (line.new ≡ line.old ++ line_text cert.now) }
+{
+    write_line(cert, line)?;
+    line.text(b"\n")
+}
+
+// Notes the activities of a route as flown by an aircraft, where no aircraft before it flies them.
+fn note_route(route: &[u32], k: u32, none: u32, fliers: &mut [u32]) {
+    for a in route {
+        let a = *a as usize;
+        if a < fliers.len() && fliers[a] == none {
+            fliers[a] = k;
+        }
+    }
+}
+
+// For each of n activities the first aircraft whose route has it, and the number of aircraft where none has.
+fn fliers(alloc: Global, routes: &[Route], n: u32) -> Result<Vec<u32>, Memory>
+    requires { length routes.now < 2 ^ 32 }
+    ensures { IfOk result (λ fliers. fliers.items ≡ fliers_of routes.now n) }
+{
+    let none = routes.len() as u32;
+    let mut fliers = vec![in alloc; none; n as usize]?;
+    for k in 0..none {
+        note_route(&routes[k as usize].0, k, none, &mut fliers);
+    }
+    Ok(fliers)
+}
+
+// Appends a plan: who flies each activity.
+fn add_plan(fliers: &[u32], line: &mut Line) -> Result<(), Memory>
+    requires { length fliers.now < 2 ^ 32 }
+    ensures { OnOk result (line.new ≡ line.old ++ text_of (plan_lines (Some fliers.now))) }
+{
+    add_line(&CertLine::Plan, line)?;
+    for a in 0..fliers.len() as u32 {
+        add_line(&CertLine::Fly(a, fliers[a as usize]), line)?;
+    }
+    Ok(())
+}
+
+// What an outcome claims.
+fn claim_of(outcome: &Outcome) -> Claim
+    ensures { result ≡ claim_of outcome.now }
+{
+    match outcome {
+        Outcome::Optimal(_, cost) => Claim::Optimal(*cost),
+        Outcome::Infeasible => Claim::Infeasible,
+        Outcome::Between { low, high, .. } => Claim::Limit {
+            low: *low,
+            high: Some(*high),
+        },
+        Outcome::Above { low, .. } => Claim::Limit {
+            low: *low,
+            high: None,
+        },
+    }
+}
+
+/// Appends the lines that end a certificate of n activities and m aircraft.
+pub fn add_trailer(
+    alloc: Global,
+    outcome: &Outcome,
+    n: u32,
+    m: u32,
+    line: &mut Line,
+) -> Result<(), Memory>
+    requires { IsSpelled m outcome.now }
+    ensures { OnOk result (line.new ≡ line.old ++ text_of (trailer_lines n outcome.now)) }
+{
+    match outcome {
+        Outcome::Optimal(plan, _) => add_plan(&fliers(alloc, &plan.0, n)?, line)?,
+        Outcome::Between { plan, .. } => add_plan(&fliers(alloc, &plan.0, n)?, line)?,
+        Outcome::Infeasible => {}
+        Outcome::Above { .. } => {}
+    }
+    add_line(&CertLine::Claim(claim_of(outcome)), line)
+}
