@@ -40,7 +40,8 @@ fn fliers(alloc: Global, routes: &[Route], n: u32) -> Result<Vec<u32>, Memory>
     let none = routes.len() as u32;
     let mut fliers = vec![in alloc; none; n as usize]?;
     for k in 0..none {
-        note_route(&routes[k as usize].0, k, none, &mut fliers);
+        let route = &routes[k as usize];
+        note_route(&route.0, k, none, &mut fliers);
     }
     Ok(fliers)
 }
