@@ -64,9 +64,9 @@ module _ (table : CostTableSeen) (book : BookSeen) where
   pub stops_between : (old new : LogShown) (owed : List Open) (nodes : List Node) (left : List Open) → Grows (IsShownNode table book) owed nodes left
       → Notes old new (events_of nodes) → StopsIn old new table book owed
   stops_between old new owed nodes left grows notes = λ told runs was. (
-      record { nodes = nodes; part = None },
-      record { left = left; grown = grows; part = tt },
-      record { front = events_of nodes; rest = []; split = refl; state = inl (notes told runs was) },
+    record { nodes = nodes; part = None },
+    record { left = left; grown = grows; part = tt },
+    record { front = events_of nodes; rest = []; split = refl; state = inl (notes told runs was) },
   )
 
   -- a stop before anything was told

@@ -137,10 +137,12 @@ fn rules(alloc: Global, most: i64) -> Result<Rules, Memory> {
 }
 
 fn book(alloc: Global, rows: &[Row], most: i64) -> Result<Book, Fail> {
-    Ok(
-        Book::new(activities(alloc, rows)?, tails(alloc, 1)?, rules(alloc, most)?)
-            .ok_or("no book")?,
+    Ok(Book::new(
+        activities(alloc, rows)?,
+        tails(alloc, 1)?,
+        rules(alloc, most)?,
     )
+    .ok_or("no book")?)
 }
 
 // Six flights of 30 to 60 minutes between two airports, in order of their starts, which two aircraft can fly, as far as
@@ -202,7 +204,10 @@ fn least_cost(alloc: Global, book: &Book, table: &CostTable) -> Result<Option<u6
 fn nodes_in(events: &[Event]) -> u64 {
     let mut nodes = 0u64;
     for event in events {
-        if matches!(event, Event::Split(_) | Event::Hole(_) | Event::Stuck(_) | Event::Bound) {
+        if matches!(
+            event,
+            Event::Split(_) | Event::Hole(_) | Event::Stuck(_) | Event::Bound
+        ) {
             nodes = nodes.saturating_add(1);
         }
     }
@@ -215,7 +220,10 @@ fn is_right(outcome: &Outcome, least: Option<u64>, limit: u64) -> bool {
         Outcome::Optimal(_, cost) => least == Some(*cost),
         Outcome::Infeasible => least.is_none(),
         Outcome::Between {
-            low, high, nodes, ..
+            low,
+            high,
+            nodes,
+            ..
         } => {
             least.map_or(false, |cost| *low <= cost && cost <= *high)
                 && low < high
@@ -256,7 +264,13 @@ fn two_flights_are_searched(rt: HostRuntime) -> Result<(), Fail> {
         let outcome = search(alloc, &book, &table, limit, &mut MemTree::new(alloc)?);
         assert!(rt; matches!(&outcome, Ok(Outcome::Optimal(_, 120))));
     }
-    let outcome = search(alloc, &book, &table, Limit::Nodes(0), &mut MemTree::new(alloc)?);
+    let outcome = search(
+        alloc,
+        &book,
+        &table,
+        Limit::Nodes(0),
+        &mut MemTree::new(alloc)?,
+    );
     assert!(rt; matches!(&outcome, Ok(Outcome::Above { low: 0, nodes: 0 })));
     Ok(())
 }
@@ -273,7 +287,10 @@ fn searches_of_books_by_chance_are_right(rt: HostRuntime) -> Result<(), Fail> {
         let least = least_cost(alloc, &book, &table)?;
         let mut log = MemTree::new(alloc)?;
         let outcome = search(alloc, &book, &table, Limit::Free, &mut log);
-        assert!(rt; matches!(&outcome, Ok(found) if is_final(found) && is_right(found, least, 0)), "book {turn}");
+        assert!(rt;
+            matches!(&outcome, Ok(found) if is_final(found) && is_right(found, least, 0)),
+            "book {turn}"
+        );
         let size = nodes_in(log.events());
         if size > 1 {
             split = split.saturating_add(1);
@@ -281,8 +298,14 @@ fn searches_of_books_by_chance_are_right(rt: HostRuntime) -> Result<(), Fail> {
         for most in 0..size.saturating_add(1) {
             let mut log = MemTree::new(alloc)?;
             let outcome = search(alloc, &book, &table, Limit::Nodes(most), &mut log);
-            assert!(rt; matches!(&outcome, Ok(found) if is_right(found, least, most)), "book {turn} at {most}");
-            assert!(rt; most < size || matches!(&outcome, Ok(found) if is_final(found)), "book {turn} at {most}");
+            assert!(rt;
+                matches!(&outcome, Ok(found) if is_right(found, least, most)),
+                "book {turn} at {most}"
+            );
+            assert!(rt;
+                most < size || matches!(&outcome, Ok(found) if is_final(found)),
+                "book {turn} at {most}"
+            );
         }
     }
     assert!(rt; split > 0);
@@ -309,7 +332,11 @@ fn failing_searches_have_a_front(rt: HostRuntime) -> Result<(), Fail> {
             };
             let outcome = search(alloc, &book, &table, Limit::Free, &mut log);
             assert!(rt; matches!(&outcome, Err(Stop::Log)), "book {turn} at {room}");
-            assert_eq!(rt; log.events.as_slice(), &whole.events()[..room], "book {turn} at {room}");
+            assert_eq!(rt;
+                log.events.as_slice(),
+                &whole.events()[..room],
+                "book {turn} at {room}"
+            );
         }
     }
     Ok(())

@@ -17,7 +17,7 @@ returns-in-None c = λ nodes node lowest answers.
     let sum = c.in-Bounded.sum in
     let same : to_z w128 (of_z w128 sum) ≡ sum = to_z-of_z w128 sum (search rules) in
     let left = bound_left target units sum node.ending is (subst (λ (z : ℤ). ¬ Passes (bound_of z) target) same c.in-Some.ensures.left)
-        (subst (λ (z : ℤ). units ≡ rounded_up z) same c.in-Some.ensures.some) in
+    (subst (λ (z : ℤ). units ≡ rounded_up z) same c.in-Some.ensures.some) in
     lowest_first target nodes node units left (subst (λ (o : Option ℕ). IsLowest target nodes o) c.in-None.is lowest)
 
 -- one below those before
@@ -28,5 +28,5 @@ returns-else-least-units c = λ nodes node lowest answers.
     let sum = c.in-Bounded.sum in
     let same : to_z w128 (of_z w128 sum) ≡ sum = to_z-of_z w128 sum (search rules) in
     let left = bound_left target units sum node.ending is (subst (λ (z : ℤ). ¬ Passes (bound_of z) target) same c.in-Some.ensures.left)
-        (subst (λ (z : ℤ). units ≡ rounded_up z) same c.in-Some.ensures.some) in
+    (subst (λ (z : ℤ). units ≡ rounded_up z) same c.in-Some.ensures.some) in
     lowest_less target nodes node units left c.in-Some-low.least c.if-least-units.false (subst (λ (o : Option ℕ). IsLowest target nodes o) c.in-Some-low.is lowest)
