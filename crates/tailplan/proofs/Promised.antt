@@ -1,6 +1,6 @@
 -- From an answer that is true and printed to what a run promises.
 use Rattle.std.specs.Prelude.{option_map}
-use Rattle.std.proofs.Common.{◌≡◌, ◌≢◌, ◌∙◌, ℕ, ◌⊎◌, inl, inr, arith, List, Option, Ok, Err, None, Some, IfSome, subst, sym}
+use Rattle.std.proofs.Common.{◌≡◌, ◌≢◌, ◌∙◌, ℕ, ◌⊎◌, inl, inr, arith, List, Option, Ok, Err, None, Some, IfSome, refl, subst, sym}
 use Rattle.tail_book.specs.Seen.{BookSeen}
 use Rattle.tail_book.specs.Truth.{IsTrueOutcome}
 use Rattle.tail_book.specs.declared.outcome.Outcome.{Outcome}
@@ -52,7 +52,7 @@ task-read files names read h = each (tables_held files names.tables) h
 pub true_answer : (words : List (List ℕ)) (files : FilesShown) (names : TaskNamesSeen) (read : TaskSeen) (answer : Answer) → run_of words ≡ Some names
     → IfSome (task_held files names) (λ task. read ≡ task_fronts task) → IsAnswerTo AreRefused AreSolved read answer → IsTrueAnswer words files answer
 true_answer words files = ending.true_answer (run_of words) (task_held files) AreRefused AreSolved task_fronts
-    (λ task refusal h. sym (book_of-fronts task.tables) ∙ h) (λ task solved h. (sym (book_of-fronts task.tables) ∙ h.0, h.1))
+    (λ task refusal h. sym (book_of-fronts task.tables) ∙ h) (λ task solved h. (sym (book_of-fronts task.tables) ∙ h.0, h.1, h.2))
 
 -- a book is no refusal
 apart : (task : TaskSeen) (book : BookSeen) (refusal : Refusal) → IsBookOf task book → AreRefused task refusal → ⊥
@@ -85,8 +85,8 @@ decides : (book : BookSeen) (limit : Limit) (outcome : Outcome) (status : ℕ) �
     → IsVerdict (record { book = book; limit = limit }) status
 decides book limit (Optimal plan cost) status truth tree is = inl (is, (plan, truth.plan.legal))
 decides book limit Infeasible status truth tree is = inr (inl (is, truth.claim))
-decides book limit (Between plan low high nodes) status truth tree is = inr (inr (is, reached limit nodes tree.1.answered.2.2.2.0))
-decides book limit (Above low nodes) status truth tree is = inr (inr (is, reached limit nodes tree.1.answered.2.2.0))
+decides book limit (Between plan low high nodes) status truth tree is = inr (inr (is, reached limit nodes tree.1.answered.3))
+decides book limit (Above low nodes) status truth tree is = inr (inr (is, reached limit nodes tree.1.answered.2))
 
 module _ (words : List (List ℕ)) (files : FilesShown) (before after : SinkShown) where
   -- an outcome that was printed promises what its status says

@@ -33,7 +33,7 @@ fn command<'a>(alloc: Global) -> Result<Command<'a>, AllocError>
 
 // The limit that a value of the option gives, or nothing where it is no number that a limit may be.
 fn limit_of(text: Option<&str>) -> Option<Limit>
-    ensures { result ≡ limit_of (option_map (λ s. s.now) text) }
+    ensures { result ≡ limit_of (option_map (λ s. s.now) text.entry) }
 {
     match text {
         None => Some(Limit::Free),
