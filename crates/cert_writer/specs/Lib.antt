@@ -1,2 +1,3 @@
 pub mod CertText
 pub mod Trailer
+pub mod inside

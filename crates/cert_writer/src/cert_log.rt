@@ -7,6 +7,7 @@ ghost use Rattle.std.specs.Prelude.{◌≡◌, ◌≤◌, ◌∷◌, [], false, 
 ghost use Rattle.tail_book.specs.Lookup.{activities, aircraft};
 ghost use Rattle.tail_outside.specs.Outside.{PieceHasFailed, Takes, TakesFront};
 ghost use Rattle.cert_checker.specs.Certificate.{text_of};
+ghost use Rattle.cert_lines.specs.Grammar.{IsLine};
 ghost use Rattle.cert_writer.specs.Trailer.{trailer_lines, IsSpelled};
 ghost use Rattle.cert_lines.specs.declared.cert_line.CertLine.TheVariants.{Header as HeaderLine};
 
@@ -61,12 +62,7 @@ impl<S: Sink + Drop> CertLog<S> {
         ensures counts { (S.shows self.old.sink).faults ≤ (S.shows self.new.sink).faults }
         ensures cause { IsErrOf result LogFail.Write → PieceHasFailed (S.shows self.old.sink) (S.shows self.new.sink) }
     {
-        let header = CertLine::Header {
-            version: 1,
-            n: self.activities,
-            m: self.aircraft,
-            c: self.counters,
-        };
+        let header = header_line(self.activities, self.aircraft, self.counters);
         self.line.clear();
         if add_line(&header, &mut self.line).is_err() {
             return Err(LogFail::Memory);
@@ -104,10 +100,23 @@ impl<S: Sink + Drop> CertLog<S> {
 
     /// The sink as it stands.
     pub fn into_sink(self) -> S
-        ensures { result ≡ self.entry.sink }
+        ensures { result ≡ self.sink }
     {
         let CertLog { sink, .. } = self;
         sink
+    }
+}
+
+// The header of a certificate of so many activities, aircraft and counters.
+fn header_line(activities: u32, aircraft: u32, counters: u32) -> CertLine
+    ensures header { result ≡ HeaderLine 1 activities aircraft counters }
+    ensures line { IsLine result }
+{
+    CertLine::Header {
+        version: 1,
+        n: activities,
+        m: aircraft,
+        c: counters,
     }
 }
 

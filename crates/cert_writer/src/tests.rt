@@ -1,5 +1,8 @@
 //! Certificates in memory: each kind of line, what a failed write leaves, and the end of each kind of outcome.
 
+ghost use Rattle.std.specs.Prelude.{◌≡◌, IfOk, length};
+ghost use Rattle.branch_marks.specs.Events.{IsNotable};
+
 use crate::CertLog;
 use crate::trailer::add_trailer;
 use branch_marks::{Event, Fact, LogFail, Pair, Row, TreeLog};
@@ -29,7 +32,9 @@ fn log(alloc: Global, failing: Vec<u64>) -> Result<CertLog<MemSink>, Fail> {
 }
 
 // Whether the log notes the event.
-fn notes(log: &mut CertLog<MemSink>, event: Event) -> bool {
+fn notes(log: &mut CertLog<MemSink>, event: Event) -> bool
+    requires { IsNotable event }
+{
     log.note(&event).is_ok()
 }
 
@@ -45,11 +50,24 @@ fn each_event_has_its_line(rt: HostRuntime) -> Result<(), Fail> {
     assert!(rt; notes(&mut log, Event::Bound));
     assert!(rt; notes(&mut log, Event::Dual(1, -60_000)));
     assert!(rt; notes(&mut log, Event::Cover(0, 0)));
-    let counters = Row::new();
-    assert!(rt; notes(&mut log, Event::Label { at: 0, weight: 60_000, counters }));
+    let counters = Row::new([5, 0].as_slice());
+    assert!(rt;
+        notes(
+            &mut log,
+            Event::Label {
+                at: 0,
+                weight: 60_000,
+                counters
+            }
+        )
+    );
     assert!(rt; log.finish(alloc, &Outcome::Infeasible).is_ok());
-    assert!(rt; log.into_sink().bytes() == b"tailcert 1 0 0 0\nbar 0 3\nsplit link 1 2\nhole 4\nbound\n\
-dual 1 -60000\ncover 0 0\nlabel 0 60000\nclaim infeasible\n".as_slice());
+    assert!(rt;
+        log.into_sink().bytes()
+            == b"tailcert 1 0 0 0\nbar 0 3\nsplit link 1 2\nhole 4\nbound\n\
+dual 1 -60000\ncover 0 0\nlabel 0 60000 5 0\nclaim infeasible\n"
+                .as_slice()
+    );
     Ok(())
 }
 
@@ -65,7 +83,9 @@ fn a_failed_write_is_told(rt: HostRuntime) -> Result<(), Fail> {
 }
 
 // The plan of two aircraft, of which each flies one of two activities.
-fn crossed(alloc: Global) -> Result<Plan, Fail> {
+fn crossed(alloc: Global) -> Result<Plan, Fail>
+    ensures { IfOk result (λ plan. length plan ≡ 2) }
+{
     let first = Route(vec![in alloc; 1]?);
     let second = Route(vec![in alloc; 0]?);
     Ok(Plan(vec![in alloc; first, second]?))
@@ -84,7 +104,12 @@ fn each_outcome_has_its_end(rt: HostRuntime) -> Result<(), Fail> {
     assert!(rt; line.bytes() == b"claim limit 7 -\n".as_slice());
     line.clear();
     let plan = crossed(alloc)?;
-    let bound = Outcome::Between { plan, low: 7, high: 240, nodes: 1 };
+    let bound = Outcome::Between {
+        plan,
+        low: 7,
+        high: 240,
+        nodes: 1,
+    };
     add_trailer(alloc, &bound, 2, 2, &mut line)?;
     assert!(rt; line.bytes() == b"plan\nfly 0 1\nfly 1 0\nclaim limit 7 240\n".as_slice());
     Ok(())

@@ -1,12 +1,13 @@
 //! The end of a certificate: who flies each activity, where there is a plan, and the claim.
 
-ghost use Rattle.std.specs.Prelude.{◌≡◌, ◌<◌, ◌++◌, ◌∷◌, [], All, IfOk, OnOk, length};
+ghost use Rattle.std.specs.Prelude.{◌≡◌, ◌<◌, ◌^◌, ◌++◌, ◌∷◌, [], IfOk, OnOk, Some, length};
 ghost use Rattle.tail_book.specs.Truth.{claim_of};
 ghost use Rattle.tail_book.specs.inside.Fliers.{fliers_of};
-ghost use Rattle.cert_checker.specs.Certificate.{fly_lines, plan_lines, text_of};
+ghost use Rattle.cert_checker.specs.Certificate.{plan_lines, text_of};
 ghost use Rattle.cert_lines.specs.Grammar.{IsLine};
 ghost use Rattle.cert_writer.specs.CertText.{line_text};
 ghost use Rattle.cert_writer.specs.Trailer.{trailer_lines, IsSpelled};
+ghost use Rattle.cert_writer.specs.inside.Noting.{NotesRoute};
 
 use cert_lines::{CertLine, write_line};
 use std::alloc::Global;
@@ -22,13 +23,22 @@ pub fn add_line(cert: &CertLine, line: &mut Line) -> Result<(), Memory>
     line.text(b"\n")
 }
 
-// Notes the activities of a route as flown by an aircraft, where no aircraft before it flies them.
-fn note_route(route: &[u32], k: u32, none: u32, fliers: &mut [u32]) {
+// Notes aircraft k for an activity, where nobody is noted yet.
+fn note(a: u32, k: u32, nobody: u32, fliers: &mut [u32])
+    ensures { NotesRoute (a ∷ []) k nobody fliers.old fliers.new }
+{
+    let a = a as usize;
+    if a < fliers.len() && fliers[a] == nobody {
+        fliers[a] = k;
+    }
+}
+
+// Notes aircraft k for each activity of its route for which nobody is noted yet.
+fn note_route(route: &[u32], k: u32, nobody: u32, fliers: &mut [u32])
+    ensures { NotesRoute route.now k nobody fliers.old fliers.new }
+{
     for a in route {
-        let a = *a as usize;
-        if a < fliers.len() && fliers[a] == none {
-            fliers[a] = k;
-        }
+        note(*a, k, nobody, fliers);
     }
 }
 
@@ -37,11 +47,11 @@ fn fliers(alloc: Global, routes: &[Route], n: u32) -> Result<Vec<u32>, Memory>
     requires { length routes.now < 2 ^ 32 }
     ensures { IfOk result (λ fliers. fliers.items ≡ fliers_of routes.now n) }
 {
-    let none = routes.len() as u32;
-    let mut fliers = vec![in alloc; none; n as usize]?;
-    for k in 0..none {
+    let nobody = routes.len() as u32;
+    let mut fliers = vec![in alloc; nobody; n as usize]?;
+    for k in 0..nobody {
         let route = &routes[k as usize];
-        note_route(&route.0, k, none, &mut fliers);
+        note_route(&route.0, k, nobody, &mut fliers);
     }
     Ok(fliers)
 }

@@ -1,0 +1,8 @@
+use Rattle.std.proofs.Common.{◌≡◌, ◌++◌, drop}
+use Rattle.std.specs.Prelude.{Some}
+use Rattle.cert_checker.specs.Certificate.{fly_lines, plan_lines, text_of}
+use Rattle.cert_writer.proofs.trailer.add_plan.Given as goal
+
+-- the lines so far are written, and those of the other activities are left
+abbrev pub invariant-loop-a : goal.invariant-loop-a
+invariant-loop-a l = l.line ++ text_of (fly_lines l.a (drop l.a l.fliers)) ≡ l.fn.line ++ text_of (plan_lines (Some l.fliers))
