@@ -33,7 +33,7 @@ pub struct CertLog<S: Sink + Drop> {
 }
 
 impl<S: Sink + Drop> CertLog<S> {
-    /// A certificate of the book, of which nothing is written yet. The line has to be empty.
+    /// A certificate of the book, of which nothing is written yet. The line is cleared before each use.
     pub fn new(book: &Book, line: Line, sink: S) -> CertLog<S>
         ensures activities { result.activities ≡ activities book.now }
         ensures aircraft { result.aircraft ≡ aircraft book.now }
