@@ -111,13 +111,7 @@ fn run_over(alloc: Global, words: &[&str], files: Vec<MemFile>) -> Result<Seen, 
 
 // A run over the texts of three tables.
 fn run_on(alloc: Global, timetable: &[&str], fleet: &[&str], rules: &[&str]) -> Result<Seen, Fail> {
-    run_with(
-        alloc,
-        &["tailplan", "t", "f", "r"],
-        timetable,
-        fleet,
-        rules,
-    )
+    run_with(alloc, &["tailplan", "t", "f", "r"], timetable, fleet, rules)
 }
 
 // The same by these words.

@@ -7,8 +7,7 @@ use std::test::Fail;
 const AT_ONCE: &str = "F1,flight,ARN,OSL,2025-03-03T06:00,2025-03-03T07:00,,,,\n\
 F2,flight,ARN,OSL,2025-03-03T06:00,2025-03-03T08:00,,,,\n";
 
-const CHEAP_AND_DEAR: &str =
-    "A1,P,ARN,2025-03-03T05:00,0,,,\nA2,Q,ARN,2025-03-03T05:00,0,,,\n";
+const CHEAP_AND_DEAR: &str = "A1,P,ARN,2025-03-03T05:00,0,,,\nA2,Q,ARN,2025-03-03T05:00,0,,,\n";
 
 // No node is counted: no legal plan costs less than nothing, and none was found.
 #[test]

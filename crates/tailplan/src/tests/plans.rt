@@ -127,7 +127,9 @@ A3,P,ARN,2025-03-03T05:00,1,,,\nA4,P,ARN,2025-03-03T05:00,4,,,\nA5,P,ARN,2025-03
 #[test]
 fn eleven_flights_at_once_need_more_than_one(rt: HostRuntime) -> Result<(), Fail> {
     let mut records = String::new(rt.alloc());
-    for name in ["F0", "F1", "F2", "F3", "F4", "F5", "F6", "F7", "F8", "F9", "FA"] {
+    for name in [
+        "F0", "F1", "F2", "F3", "F4", "F5", "F6", "F7", "F8", "F9", "FA",
+    ] {
         records.push_str(name)?;
         records.push_str(",flight,ARN,OSL,2025-03-03T06:00,2025-03-03T07:00,,,,\n")?;
     }
