@@ -180,7 +180,7 @@ fn are_duals(book: &Book, table: &CostTable, duals: &Duals) -> bool
     duals.values.len() == book.activities.len() && are_in_box(table, &duals.values)
 }
 
-// Prices and notes the leaf of marks with these facts under these duals.
+// Prices and notes the leaf of these marks under these duals.
 fn leaf_of<L: TreeLog>(
     alloc: Global,
     book: &Book,
@@ -192,30 +192,59 @@ fn leaf_of<L: TreeLog>(
     requires table { IsTableFor book.now table.now }
     requires marks { AreMarksOf book.now marks.now }
     requires duals { AreDuals table.now book.now duals.now.values }
+    ensures { IfOk result (λ _. AreDuals table.now book.now duals.now.values) }
 {
     let net = Net::new(alloc, book)?;
     let mut prices = NodePricer::new(alloc, book, table)?;
-    Ok(price_leaf(alloc, book, table, &net, marks, duals, &mut prices, log))
+    let leaf = price_leaf(alloc, book, table, &net, marks, duals, &mut prices, log);
+    Ok(leaf)
 }
 
-// The same of the book of this file, by its own costs; nothing where the duals are not in the box.
+// The same with marks of these facts; nothing where the duals are not in the box.
+fn leaf_under<L: TreeLog>(
+    alloc: Global,
+    book: &Book,
+    table: &CostTable,
+    facts: [Option<Fact>; 2],
+    duals: &Duals,
+    log: &mut L,
+) -> Result<Option<Result<PricedLeaf, Stop>>, Fail>
+    requires { IsTableFor book.now table.now }
+    ensures { IfOk result (λ _. IsTableFor book.now table.now) }
+{
+    if !are_duals(book, table, duals) {
+        return Ok(None);
+    }
+    let marks = marks(alloc, book, facts)?;
+    let leaf = leaf_of(alloc, book, table, &marks, duals, log)?;
+    Ok(Some(leaf))
+}
+
+fn duals_of(alloc: Global, duals: [i64; 2]) -> Result<Duals, Memory> {
+    let mut values = Vec::new(alloc);
+    values.extend_from_slice(duals.as_slice())?;
+    Ok(Duals { values })
+}
+
+// The book's own costs.
+fn costs(alloc: Global, book: &Book) -> Result<CostTable, Memory>
+    ensures { IfOk result (IsTableFor book.now) }
+{
+    own_costs_are_for_book();
+    CostTable::of(alloc, book)
+}
+
+// The same of the book of this file, by its own costs.
 fn priced<L: TreeLog>(
     alloc: Global,
     facts: [Option<Fact>; 2],
     duals: [i64; 2],
     log: &mut L,
 ) -> Result<Option<Result<PricedLeaf, Stop>>, Fail> {
-    own_costs_are_for_book();
     let book = book(alloc)?;
-    let table = CostTable::of(alloc, &book)?;
-    let marks = marks(alloc, &book, facts)?;
-    let mut values = Vec::new(alloc);
-    values.extend_from_slice(duals.as_slice())?;
-    let duals = Duals { values };
-    if !are_duals(&book, &table, &duals) {
-        return Ok(None);
-    }
-    Ok(Some(leaf_of(alloc, &book, &table, &marks, &duals, log)?))
+    let table = costs(alloc, &book)?;
+    let duals = duals_of(alloc, duals)?;
+    leaf_under(alloc, &book, &table, facts, &duals, log)
 }
 
 // A label of a book without counters.
@@ -312,19 +341,30 @@ fn first_target_is_above_all(rt: HostRuntime) -> Result<(), Fail> {
     Ok(())
 }
 
+// Takes the root, and puts the branches of its split there. Whether it had no facts, and zeros for duals.
+fn split_root(alloc: Global, places: &mut OpenNodes) -> Result<bool, Fail> {
+    let root = places.pop().ok_or("no root")?;
+    let here = &root;
+    places.push_branches(alloc, &[Fact::Bar(1, 0)], &here.duals, Pair::Fly(0, 1))?;
+    Ok(here.facts.is_empty() && here.duals.values.as_slice() == [0i64, 0].as_slice())
+}
+
+// Takes the next place. Whether it has these facts.
+fn comes_next(places: &mut OpenNodes, facts: &[Fact]) -> bool {
+    match places.pop() {
+        Some(here) => here.facts.as_slice() == facts,
+        None => false,
+    }
+}
+
 // The root, and then the two branches of its split, the first one first.
 #[test]
 fn places_come_first_branch_first(rt: HostRuntime) -> Result<(), Fail> {
     let book = book(rt.alloc())?;
     let mut places = OpenNodes::with_root(rt.alloc(), &book)?;
-    let root = places.pop().ok_or("no root")?;
-    assert_eq!(rt; root.facts.len(), 0);
-    assert_eq!(rt; root.duals.values.as_slice(), [0i64, 0].as_slice());
-    let bar = Fact::Bar(1, 0);
-    places.push_branches(rt.alloc(), &[bar], &root.duals, Pair::Fly(0, 1))?;
+    assert!(rt; split_root(rt.alloc(), &mut places)?);
     for want in [Fact::Must(0, 1), Fact::Bar(0, 1)] {
-        let here = places.pop().ok_or("no place")?;
-        assert_eq!(rt; here.facts.as_slice(), [bar, want].as_slice());
+        assert!(rt; comes_next(&mut places, &[Fact::Bar(1, 0), want]));
     }
     assert!(rt; places.pop().is_none());
     Ok(())

@@ -1,57 +1,76 @@
 //! Steps on nodes of the book of two flights, worked by hand: what they answer, the target they leave, and what is told.
 
+ghost use Rattle.std.specs.Prelude.{◌≡◌, IfOk};
 ghost use Rattle.tail_book.specs.inside.CostTable.{IsTableFor};
+ghost use Rattle.connection_net.specs.Net.{net_of};
 ghost use Rattle.branch_marks.specs.Settled.{AreDuals};
 ghost use Rattle.branch_marks.specs.inside.MarkTables.{AreMarksOf};
 
-use super::{Failing, are_duals, book, marks};
+use super::{Failing, are_duals, book, costs, duals_of, marks};
 use crate::*;
 use branch_marks::*;
 use connection_net::Net;
 use restricted_master::Pool;
 use std::alloc::Global;
 use std::test::Fail;
-use tail_book::laws::own_costs_are_for_book;
 use tail_book::*;
 
 // A step from these marks and duals, with an empty pool and no plan: its answer, and the target that it leaves.
-fn step_from<L: TreeLog>(
+fn step_at<L: TreeLog>(
     alloc: Global,
     book: &Book,
     table: &CostTable,
+    net: &Net,
     marks: &mut Marks,
     duals: &mut Duals,
     log: &mut L,
-) -> Result<(Result<Step, Stop>, u64), Fail>
+) -> Result<(Result<Step, Stop>, u64), Memory>
     requires table { IsTableFor book.now table.now }
+    requires net { net.now ≡ net_of book.now }
     requires marks { AreMarksOf book.now marks.old }
     requires duals { AreDuals table.now book.now duals.old.values }
+    ensures { AreDuals table.now book.now duals.new.values }
 {
-    let net = Net::new(alloc, book)?;
     let mut pool = Pool::new(alloc)?;
     let mut best = Best::none(table);
     let step = node_step(
-        alloc, book, table, &net, marks, &mut pool, duals, &mut best, log,
+        alloc, book, table, net, marks, &mut pool, duals, &mut best, log,
     );
     Ok((step, best.target))
 }
 
-// The same on the book of two flights, by its own costs, under duals of 0.
+// The same from marks of these facts, under duals of 0.
+fn step_from<L: TreeLog>(
+    alloc: Global,
+    book: &Book,
+    table: &CostTable,
+    net: &Net,
+    facts: [Option<Fact>; 2],
+    log: &mut L,
+) -> Result<(Result<Step, Stop>, u64), Fail>
+    requires table { IsTableFor book.now table.now }
+    requires net { net.now ≡ net_of book.now }
+    ensures { IfOk result (λ _. IsTableFor book.now table.now) }
+{
+    let mut duals = duals_of(alloc, [0, 0])?;
+    if !are_duals(book, table, &duals) {
+        return Err(Fail::new("duals out of the box"));
+    }
+    let mut marks = marks(alloc, book, facts)?;
+    let step = step_at(alloc, book, table, net, &mut marks, &mut duals, log)?;
+    Ok(step)
+}
+
+// The same on the book of two flights, by its own costs.
 fn stepped<L: TreeLog>(
     alloc: Global,
     facts: [Option<Fact>; 2],
     log: &mut L,
 ) -> Result<(Result<Step, Stop>, u64), Fail> {
-    own_costs_are_for_book();
     let book = book(alloc)?;
-    let table = CostTable::of(alloc, &book)?;
-    let mut marks = marks(alloc, &book, facts)?;
-    let values = vec![in alloc; 0i64; 2]?;
-    let mut duals = Duals { values };
-    if !are_duals(&book, &table, &duals) {
-        return Err(Fail::new("duals out of the box"));
-    }
-    step_from(alloc, &book, &table, &mut marks, &mut duals, log)
+    let table = costs(alloc, &book)?;
+    let net = Net::new(alloc, &book)?;
+    step_from(alloc, &book, &table, &net, facts, log)
 }
 
 // The cheap aircraft flies both flights for 60 each. No plan is cheaper, so the root ends with a bound that reaches that.
