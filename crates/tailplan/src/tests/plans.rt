@@ -117,7 +117,7 @@ fn five_aircraft_and_eleven_flights_are_planned(rt: HostRuntime) -> Result<(), F
 A3,P,ARN,2025-03-03T05:00,1,,,\nA4,P,ARN,2025-03-03T05:00,4,,,\nA5,P,ARN,2025-03-03T05:00,5,,,\n",
         "",
         0,
-        "optimal 661\nA1:\nA2:\nA3: F0 F1 F2 F3 F4 F5 F6 F7 F8 F9 FA\nA4:\nA5:\n",
+        "optimal 671\nA1:\nA2:\nA3: F0 F1 F2 F3 F4 F5 F6 F7 F8 F9 FA\nA4:\nA5:\n",
     )?;
     assert!(rt; ends);
     Ok(())
