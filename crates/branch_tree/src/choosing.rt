@@ -1,4 +1,4 @@
-//! The pair on which a node is split: about the least activity that is not in exactly one of the least routes.
+//! The pair on which a node is split: about the first activity that none of the least routes has, or that several have.
 //!
 //! Such an activity is looked for in the routes themselves, which are as long as the book together: a split is rare beside
 //! the pricings before it.
@@ -69,7 +69,7 @@ fn is_in_one(book: &Book, routes: &[Route], a: u32) -> bool
     }
 }
 
-// The least activity that is not in exactly one route.
+// The first activity that no route has, or that several have.
 fn least_not_in_one(book: &Book, routes: &[Route]) -> Option<u32>
     requires one_each { length routes.now ≡ aircraft book.now }
     requires rising { All (IsRisingFrom (activities book.now) Carry) routes.now }
