@@ -1,5 +1,6 @@
 -- What each kind of fact leaves open in the worked book, computed: each row is over the activities 0 to 3, or over the places.
 use Rattle.std.proofs.Common.{◌≡◌, ℕ, Bool, true, false, List, [], ◌∷◌, map, refl}
+use Rattle.std.proofs.lemmas.Bool.{both_ways}
 use Rattle.tail_book.specs.declared.place.Place.{Place}
 use Rattle.tail_book.specs.declared.place.Place.TheVariants.{Carry, After}
 use Rattle.tail_book.specs.inside.Tests.{is_allowed, is_link}
@@ -7,6 +8,9 @@ use Rattle.tail_book.specs.Link.{is_connected}
 use Rattle.tail_book.specs.Allowed.{is_permitted}
 use Rattle.branch_marks.specs.declared.fact.Fact.{Fact}
 use Rattle.branch_marks.specs.declared.fact.Fact.TheVariants.{Bar, Must, Cut, Tie}
+use Rattle.branch_marks.specs.declared.fact.Pair.{Pair}
+use Rattle.branch_marks.specs.declared.fact.Pair.TheVariants.{Fly, Link}
+use Rattle.branch_marks.specs.Branches.{first_branch, second_branch}
 use Rattle.branch_marks.specs.Facts.{flies, joins, Holds}
 use Rattle.branch_marks.specs.inside.MarkTests.{is_fact_of, is_alive, is_usable, may_end, fits}
 use Rattle.branch_marks.proofs.WorkedBook.{two_aircraft}
@@ -247,3 +251,23 @@ cut_holds = refl
 
 tie_holds : Holds (Tie 2 3) halves
 tie_holds = refl
+
+-- and what they say does not hold where the plan does otherwise
+bar_fails : ¬ Holds (Bar 0 1) halves
+bar_fails e = both_ways true e refl
+
+must_fails : ¬ Holds (Must 0 2) halves
+must_fails e = both_ways false refl e
+
+cut_fails : ¬ Holds (Cut 2 3) halves
+cut_fails e = both_ways true e refl
+
+tie_fails : ¬ Holds (Tie 1 2) halves
+tie_fails e = both_ways false refl e
+
+-- the branches of a split, the first and the second
+first_branches : map first_branch (Fly 0 1 ∷ Link 0 1 ∷ []) ≡ Must 0 1 ∷ Tie 0 1 ∷ []
+first_branches = refl
+
+second_branches : map second_branch (Fly 0 1 ∷ Link 0 1 ∷ []) ≡ Bar 0 1 ∷ Cut 0 1 ∷ []
+second_branches = refl

@@ -1,6 +1,6 @@
 -- Taking in the predecessors of an activity one by one.
 use Rattle.std.specs.Prelude.{◌≢◌, All}
-use Rattle.std.proofs.Common.{◌≡◌, ◌∙◌, ℕ, ℤ, ◌<◌, ◌+◌, List, [], ◌∷◌, length, drop, get_or, ap, arith, refl, suc, subst, Option, None, Some}
+use Rattle.std.proofs.Common.{◌≡◌, ◌∙◌, ℕ, ℤ, ◌<◌, ◌+◌, List, [], ◌∷◌, length, drop, get_or, ap, arith, refl, subst, Option, None, Some}
 use Rattle.std.specs.Int.{int_min}
 use Rattle.std.proofs.lemmas.Int.{ints, clamps}
 use Rattle.std.proofs.lemmas.List.{drop_more}
@@ -60,11 +60,3 @@ pub next_of : (book : BookSeen) (marks : List Fact) (k b i : ℕ) (first row new
 next_of book marks k b i first row new items within all before way set =
     next_on_the_way book marks k b (get_or items i 0) first row new (drop (i + 1) items) (all i 0 within) before
     (subst (λ (left : List ℕ). IsOnTheWay book marks k b first row left) (drop_more items i 0 within) way) set
-
--- lists of one length with the same at each number are one list
-pub same_list : {A : Type 0} (xs ys : List A) (d : A) → length xs ≡ length ys → ((i : ℕ) → i < length xs → get_or xs i d ≡ get_or ys i d) → xs ≡ ys
-same_list {A = A} [] [] d e each = refl
-same_list {A = A} [] (y ∷ ys) d e each = absurd (omega (arith, e))
-same_list {A = A} (x ∷ xs) [] d e each = absurd (omega (arith, e))
-same_list {A = A} (x ∷ xs) (y ∷ ys) d e each =
-    ap (λ (z : A). z ∷ xs) (each 0 (omega arith)) ∙ ap (λ (zs : List A). y ∷ zs) (same_list xs ys d (omega (arith, e)) (λ i lt. each (suc i) (omega (arith, lt))))

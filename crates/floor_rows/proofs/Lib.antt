@@ -1,6 +1,5 @@
 pub mod KeptFloors
-pub mod Unusable
 pub mod LeastOver
-pub mod NotAlive
+pub mod Brought
 pub mod Neighbours
 pub mod ComeOn

@@ -21,7 +21,7 @@ use Rattle.branch_marks.specs.Floors.{lesser_floor}
 use Rattle.floor_rows.specs.inside.LeastOver.{least_over, brought}
 use Rattle.floor_rows.specs.inside.Neighbours.{goes_on_to, goes_on_from, SuccessorsTell}
 use Rattle.floor_rows.proofs.LeastOver.{least_none}
-use Rattle.floor_rows.proofs.Unusable.{unusable_brings}
+use Rattle.floor_rows.proofs.Brought.{unusable_brings}
 
 -- the numbers of the list rise, from x on
 RisesFrom : ℕ → List ℕ → Type 0

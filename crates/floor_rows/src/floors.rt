@@ -4,81 +4,26 @@
 //! predecessors in the network can bring anything to it. An activity that is not alive takes no step at all, and one
 //! that is takes a step for each predecessor with a floor.
 
-ghost use Rattle.std.specs.Prelude.{◌≡◌, ◌<◌, ◌≤◌, ◌&&◌, ℕ, ℤ, List, false, IsTrue, None, Some, if◌then◌else◌, length};
+ghost use Rattle.std.specs.Prelude.{◌≡◌, ◌<◌, ◌≤◌, ℕ, length};
 ghost use Rattle.tail_book.specs.Lookup.{activities, aircraft};
-ghost use Rattle.tail_book.specs.inside.Place.{IsPlaceOf};
-ghost use Rattle.tail_book.specs.declared.place.Place.TheVariants.{After as PlaceAfter};
-ghost use Rattle.tail_book.specs.Counters.{step};
-ghost use Rattle.tail_book.specs.inside.Tests.{within_limits};
-ghost use Rattle.branch_marks.specs.inside.MarkTests.{is_usable};
-ghost use Rattle.maint_counters.specs.inside.Counts.{AreCounts};
 ghost use Rattle.maint_counters.specs.inside.StepTable.{IsStepTableOf};
 ghost use Rattle.connection_net.specs.Net.{net_of};
 ghost use Rattle.branch_marks.specs.inside.MarkTables.{AreMarksOf};
-ghost use Rattle.branch_marks.specs.Floors.{floors, lesser_floor, stepped_floor};
+ghost use Rattle.branch_marks.specs.Floors.{lesser_floor};
 ghost use Rattle.floor_rows.specs.inside.FloorRow.{floor_in, IsSetAt, IsRowOf};
 ghost use Rattle.floor_rows.specs.inside.LeastOver.{floor_of, brought_first, brought};
 
 use crate::floor_row::FloorRow;
+use crate::going::goes_to;
 use crate::laws::{
     floors_are_least, no_floor_without, predecessors_bring_all, predecessors_come_before,
 };
 use branch_marks::Marks;
-use branch_marks::laws::floors_count;
 use connection_net::Net;
 use connection_net::laws::rows_for_each;
-use maint_counters::{StepTable, start, step_by};
+use maint_counters::{StepTable, start};
 use tail_book::laws::every_book_is_sound;
 use tail_book::{Book, Place};
-use turn_rules::laws::links_leave_time;
-
-/// Writes the counters after an activity, and answers whether the link to it is usable and all stay within their limits.
-pub fn goes_to(
-    book: &Book,
-    steps: &StepTable,
-    marks: &Marks,
-    k: u32,
-    from: Place,
-    b: u32,
-    values: &mut [i64],
-) -> bool
-    requires steps { IsStepTableOf book.now steps.now }
-    requires marks { AreMarksOf book.now marks.now }
-    requires aircraft { k < aircraft book.now }
-    requires place { IsPlaceOf book.now from }
-    requires activity { b < activities book.now }
-    requires width { length values.old ≡ length book.now.rules.counters }
-    requires range { AreCounts values.old }
-    ensures tests { result ≡ (is_usable book.now marks.now.facts k from b && within_limits book.now.rules.counters (step book.now k from b values.old)) }
-    ensures brings { stepped_floor book.now marks.now.facts k from b (Some values.old) ≡ (if result then Some values.new else None) }
-    ensures range { IsTrue result → AreCounts values.new }
-{
-    every_book_is_sound(book);
-    links_leave_time();
-    marks.usable(book, k, from, b) && step_by(book, steps, k, from, b, values)
-}
-
-/// Whether an aircraft can go on over a link that it may use, by its floor at the first activity.
-pub fn goes_on_over(
-    book: &Book,
-    steps: &StepTable,
-    k: u32,
-    a: u32,
-    b: u32,
-    row: &FloorRow,
-    values: &mut [i64],
-) -> bool
-    requires steps { IsStepTableOf book.now steps.now }
-    requires aircraft { k < aircraft book.now }
-    requires place { a < activities book.now }
-    requires activity { b < activities book.now }
-    requires row { IsRowOf book.now row.now }
-    requires width { length values.old ≡ length book.now.rules.counters }
-    ensures some { (low : List ℤ) → floor_in row.now a ≡ Some low → result ≡ within_limits book.now.rules.counters (step book.now k (PlaceAfter a) b low) }
-    ensures none { floor_in row.now a ≡ None → result ≡ false }
-{
-    row.read(a as usize, values) && step_by(book, steps, k, Place::After(a), b, values)
-}
 
 // Lowers the floor at an activity to what the carry-in brings there.
 fn come_first(
@@ -161,8 +106,8 @@ fn come_on(
     }
 }
 
-// Writes the floor at an activity, where those before it are written.
-fn put_floor(
+/// Writes the floor at an activity, where those before it are written.
+pub fn put_floor(
     book: &Book,
     net: &Net,
     steps: &StepTable,

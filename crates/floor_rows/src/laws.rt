@@ -1,7 +1,7 @@
 //! Laws over the definitions alone: the contract of each function is the law.
 
-ghost use Rattle.floor_rows.specs.inside.LeastOver.{FloorsAreLeast, NoFloorWithout};
-ghost use Rattle.floor_rows.specs.inside.Neighbours.{PredecessorsComeBefore, PredecessorsBringAll, SuccessorsAreOfBook, SuccessorsTell};
+ghost use Rattle.floor_rows.specs.inside.LeastOver.{FloorsAreLeast, LeastAreFloors, BroughtTells, NoFloorWithout};
+ghost use Rattle.floor_rows.specs.inside.Neighbours.{PredecessorsComeBefore, PredecessorsBringAll, SuccessorsAreOfBook, PredecessorsAreOfBook, SuccessorsTell};
 ghost use Rattle.tail_book.specs.Seen.{BookSeen};
 ghost use Rattle.std.specs.Prelude.{ℕ, ℤ, List};
 ghost use Rattle.branch_marks.specs.declared.fact.Fact.{Fact as MarkFact};
@@ -13,6 +13,18 @@ use tail_book::laws::{limits_decide, links_rise};
 /// Each floor is the least of what the places before it bring.
 pub fn floors_are_least()
     ensures { FloorsAreLeast }
+{}
+
+/// Whatever is the least of what is brought is the floor.
+pub fn least_are_floors()
+    ensures { LeastAreFloors }
+{
+    floors_are_least();
+}
+
+/// What brings nothing, and what the least of what is brought depends on.
+pub fn brought_tells()
+    ensures { BroughtTells }
 {}
 
 /// Where an activity is not alive, there is no floor.
@@ -44,6 +56,13 @@ pub fn predecessors_bring_all()
 /// Successors are of the book.
 pub fn successors_are_of_book()
     ensures { SuccessorsAreOfBook }
+{
+    rows_rise();
+}
+
+/// And so are predecessors.
+pub fn predecessors_are_of_book()
+    ensures { PredecessorsAreOfBook }
 {
     rows_rise();
 }

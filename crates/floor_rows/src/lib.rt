@@ -3,7 +3,12 @@
 
 mod floor_row;
 mod floors;
+mod going;
 pub mod laws;
 
 pub use floor_row::FloorRow;
-pub use floors::{goes_on_over, goes_to, put_floors};
+pub use floors::{put_floor, put_floors};
+pub use going::{goes_on, goes_on_over, goes_on_to, goes_to};
+
+#[cfg(test)]
+mod tests;

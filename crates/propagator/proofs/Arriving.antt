@@ -9,7 +9,7 @@ use Rattle.branch_marks.specs.declared.fact.Fact.TheVariants.{Bar}
 use Rattle.branch_marks.specs.Marks.{IsAlive}
 use Rattle.branch_marks.specs.inside.MarkTests.{is_alive, lets_fly}
 use Rattle.branch_marks.specs.Following.{IsDeadBy, IsDead}
-use Rattle.propagator.specs.inside.LeastOver.{floor_of}
+use Rattle.floor_rows.specs.inside.LeastOver.{floor_of}
 use Rattle.propagator.specs.inside.SameFor.{SameFor, BarsLeaveOthers}
 use Rattle.propagator.specs.inside.Settling.{ActsOn}
 use Rattle.propagator.proofs.MoreMarks.{alive_more}

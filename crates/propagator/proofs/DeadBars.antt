@@ -3,7 +3,6 @@
 -- each of these has the same least; at c itself nothing may arrive any more.
 use Rattle.std.specs.Prelude.{◌≢◌, ◌&&◌, nat_eq, if◌then◌else◌}
 use Rattle.std.proofs.Common.{◌≡◌, ◌∙◌, ℕ, ℤ, ◌<◌, true, false, inl, inr, arith, List, [], ◌∷◌, ◌++◌, refl, sym, ap, subst, Option, None, Some}
-use Rattle.std.specs.List.{range_with_len}
 use Rattle.std.proofs.lemmas.Bool.{both_ways, cond-true, cond-false, and_parts, false_from_ne_true, ne_eqb}
 use Rattle.std.proofs.lemmas.Bool.Decides.{eqb_tells}
 use Rattle.tail_book.specs.Seen.{BookSeen}
@@ -19,13 +18,12 @@ use Rattle.tail_book.specs.inside.Tests.{within_limits, LimitsDecide}
 use Rattle.branch_marks.specs.declared.fact.Fact.{Fact}
 use Rattle.branch_marks.specs.declared.fact.Fact.TheVariants.{Bar}
 use Rattle.branch_marks.specs.inside.MarkTests.{is_usable, AliveDecides, UsableDecides, MayEndDecides}
-use Rattle.branch_marks.specs.Floors.{lesser_floor, stepped_floor}
+use Rattle.branch_marks.specs.Floors.{stepped_floor}
 use Rattle.branch_marks.specs.Following.{IsDeadBy, IsDead}
-use Rattle.propagator.specs.inside.LeastOver.{floor_of, least_over, brought_first, brought, least_at, FloorsAreLeast, LeastAreFloors}
+use Rattle.floor_rows.specs.inside.LeastOver.{floor_of, brought, least_at, FloorsAreLeast, LeastAreFloors, BroughtTells}
 use Rattle.propagator.specs.inside.OneMore.{BarsTakeOneFloor}
-use Rattle.propagator.proofs.LeastOver.{least_same, least_none}
 use Rattle.propagator.proofs.RightRows.{no_predecessor, dead_back}
-use Rattle.propagator.proofs.MoreMarks.{end_kept, unusable_without, unusable_brings, same_brings, barred, elsewhere_alive, elsewhere_usable, first_usable}
+use Rattle.propagator.proofs.MoreMarks.{end_kept, same_brings, barred, elsewhere_alive, elsewhere_usable, first_usable}
 
 -- from what is dead nothing goes on
 nothing_on : UsableDecides → LimitsDecide → (book : BookSeen) (marks : List Fact) (k c b : ℕ) (floor : Option (List ℤ)) → b < activities book
@@ -37,7 +35,7 @@ nothing_on usable limits book marks k c b (Some low) lt d =
     (λ t. let (use_it, within) = and_parts (is_usable book marks k (After c) b) (within_limits book.rules.counters (step book k (After c) b low)) t in
     d.1 b lt ((usable book marks k (After c) b).0 use_it) ((limits book.rules.counters (step book k (After c) b low)).0 within)))
 
-module _ (least : FloorsAreLeast) (floors : LeastAreFloors) (usable : UsableDecides) (limits : LimitsDecide)
+module _ (least : FloorsAreLeast) (floors : LeastAreFloors) (tells : BroughtTells) (usable : UsableDecides) (limits : LimitsDecide)
     (book : BookSeen) (marks : List Fact) (k c : ℕ) (dead : IsDead book marks k c) where
   -- the floors without that at c
   abbrev taken : ℕ → Option (List ℤ)
@@ -55,26 +53,17 @@ module _ (least : FloorsAreLeast) (floors : LeastAreFloors) (usable : UsableDeci
         ∙ same_brings book marks (marks ++ Bar k c ∷ []) k (After y) b (floor_of book marks k y) (elsewhere_usable book marks k c y b other.1 nb))
   ]
 
-  least_here : least_at book (marks ++ Bar k c ∷ []) k taken c ≡ None
-  least_here =
-      ap (λ (one : Option (List ℤ)). lesser_floor one (least_over (brought book (marks ++ Bar k c ∷ []) k c taken) (range_with_len 0 c)))
-      (unusable_brings book (marks ++ Bar k c ∷ []) k Carry c (Some (carry_of book k)) (unusable_without book (marks ++ Bar k c ∷ []) k Carry c (barred book marks k c)))
-      ∙ least_none (brought book (marks ++ Bar k c ∷ []) k c taken) 0 c
-      (λ y le lt. unusable_brings book (marks ++ Bar k c ∷ []) k (After y) c (taken y) (unusable_without book (marks ++ Bar k c ∷ []) k (After y) c (barred book marks k c)))
-
   least_elsewhere : (b : ℕ) → b < activities book → b ≢ c
       → least_at book (marks ++ Bar k c ∷ []) k taken b ≡ least_at book marks k (floor_of book marks k) b
   least_elsewhere b lt nb =
-      ap (λ (one : Option (List ℤ)). lesser_floor one (least_over (brought book (marks ++ Bar k c ∷ []) k b taken) (range_with_len 0 b)))
-      (same_brings book marks (marks ++ Bar k c ∷ []) k Carry b (Some (carry_of book k)) (first_usable book marks k c b nb))
-      ∙ ap (λ (rest : Option (List ℤ)). lesser_floor (brought_first book marks k b) rest)
-      (least_same (brought book (marks ++ Bar k c ∷ []) k b taken) (brought book marks k b (floor_of book marks k)) 0 b (λ y le less. brings_same b y lt nb))
+      tells.same book marks (marks ++ Bar k c ∷ []) k b (floor_of book marks k) taken
+      (same_brings book marks (marks ++ Bar k c ∷ []) k Carry b (Some (carry_of book k)) (first_usable book marks k c b nb)) (λ y less. brings_same b y lt nb)
 
   taken_least : (b : ℕ) → b < activities book → taken b ≡ least_at book (marks ++ Bar k c ∷ []) k taken b
   taken_least b lt = elim (eqb_tells b c) [
     | inl here ↦ (
         cond-true (nat_eq b c) None (floor_of book marks k b) here.0
-        ∙ sym (ap (λ (z : ℕ). least_at book (marks ++ Bar k c ∷ []) k taken z) here.1 ∙ least_here))
+        ∙ sym (ap (λ (z : ℕ). least_at book (marks ++ Bar k c ∷ []) k taken z) here.1 ∙ tells.without book (marks ++ Bar k c ∷ []) k c taken (barred book marks k c)))
     | inr other ↦ (
         cond-false (nat_eq b c) None (floor_of book marks k b) other.0
         ∙ least book marks k b lt ∙ sym (least_elsewhere b lt other.1))

@@ -2,7 +2,6 @@
 -- stay, and a place from which nothing goes on without it is one from which nothing went on with it.
 use Rattle.std.specs.Prelude.{◌&&◌, not, nat_eq}
 use Rattle.std.proofs.Common.{◌≡◌, ◌∙◌, ℕ, ℤ, ◌<◌, ◌⊎◌, inl, inr, Bool, true, false, List, [], ◌∷◌, ◌++◌, refl, sym, ap, subst, Option, None, Some}
-use Rattle.std.specs.List.{range_with_len}
 use Rattle.std.proofs.lemmas.Bool.{cond-false, and_parts, false_from_ne_true, both_ways, eq-eqb}
 use Rattle.std.proofs.lemmas.Bool.Decides.{eqb_tells}
 use Rattle.std.proofs.lemmas.List.Elements.{Contains-append_left}
@@ -15,12 +14,11 @@ use Rattle.branch_marks.specs.declared.fact.Fact.{Fact}
 use Rattle.branch_marks.specs.declared.fact.Fact.TheVariants.{Bar, Must, Cut, Tie}
 use Rattle.branch_marks.specs.Marks.{IsAlive, IsUsable}
 use Rattle.branch_marks.specs.inside.MarkTests.{is_alive, is_usable, lets_go, AliveDecides, UsableDecides, MayEndDecides}
-use Rattle.branch_marks.specs.Floors.{lesser_floor, stepped_floor}
+use Rattle.branch_marks.specs.Floors.{stepped_floor}
 use Rattle.branch_marks.specs.Following.{IsDeadBy, IsDead, IsOnlyCarrier, CannotGoBy, IsDeadConnection, Follows}
-use Rattle.propagator.specs.inside.LeastOver.{floor_of, least_over, brought_first, brought, least_at, FloorsAreLeast, LeastAreFloors}
+use Rattle.floor_rows.specs.inside.LeastOver.{floor_of, brought, least_at, FloorsAreLeast, LeastAreFloors, BroughtTells}
 use Rattle.propagator.specs.inside.OneMore.{CutsTakeNoFloor}
-use Rattle.propagator.proofs.LeastOver.{least_same}
-use Rattle.propagator.proofs.MoreMarks.{alive_kept, usable_more, usable_kept, end_kept, unusable_brings, same_brings}
+use Rattle.propagator.proofs.MoreMarks.{alive_kept, usable_more, usable_kept, end_kept, same_brings}
 
 -- over a connection with which k cannot go on nothing is brought
 nothing_over : UsableDecides → LimitsDecide → (book : BookSeen) (marks : List Fact) (k c d : ℕ) (floor : Option (List ℤ))
@@ -80,11 +78,11 @@ module _ (book : BookSeen) (marks : List Fact) (c d : ℕ) where
           | inr same ↦ (usable book marks k (After a) b).0 (sym same ∙ test)
         ]
 
-    module _ (least : FloorsAreLeast) (floors : LeastAreFloors) (usable : UsableDecides) (limits : LimitsDecide) (k : ℕ) where
+    module _ (least : FloorsAreLeast) (floors : LeastAreFloors) (tells : BroughtTells) (usable : UsableDecides) (limits : LimitsDecide) (k : ℕ) where
       cut_brings : (b y : ℕ) → brought book (marks ++ Cut c d ∷ []) k b (floor_of book marks k) y ≡ brought book marks k b (floor_of book marks k) y
       cut_brings b y = elim (cut_or_same k y b) [
         | inl here ↦ (
-            unusable_brings book (marks ++ Cut c d ∷ []) k (After y) b (floor_of book marks k y)
+            tells.unusable book (marks ++ Cut c d ∷ []) k (After y) b (floor_of book marks k y)
             (ap (λ (z : ℕ). is_usable book (marks ++ Cut c d ∷ []) k (After z) b) here.0 ∙ ap (λ (z : ℕ). is_usable book (marks ++ Cut c d ∷ []) k (After c) z) here.1 ∙ cut_gone k)
             ∙ sym (ap (λ (z : ℕ). stepped_floor book marks k (After z) b (floor_of book marks k z)) here.0
             ∙ ap (λ (z : ℕ). stepped_floor book marks k (After c) z (floor_of book marks k c)) here.1
@@ -95,10 +93,8 @@ module _ (book : BookSeen) (marks : List Fact) (c d : ℕ) where
       cut_least : (b : ℕ) → b < activities book → floor_of book marks k b ≡ least_at book (marks ++ Cut c d ∷ []) k (floor_of book marks k) b
       cut_least b lt =
           least book marks k b lt
-          ∙ sym (ap (λ (one : Option (List ℤ)). lesser_floor one (least_over (brought book (marks ++ Cut c d ∷ []) k b (floor_of book marks k)) (range_with_len 0 b)))
-          (same_brings book marks (marks ++ Cut c d ∷ []) k Carry b (Some (carry_of book k)) (cut_first k b))
-          ∙ ap (λ (rest : Option (List ℤ)). lesser_floor (brought_first book marks k b) rest)
-          (least_same (brought book (marks ++ Cut c d ∷ []) k b (floor_of book marks k)) (brought book marks k b (floor_of book marks k)) 0 b (λ y le less. cut_brings b y)))
+          ∙ sym (tells.same book marks (marks ++ Cut c d ∷ []) k b (floor_of book marks k) (floor_of book marks k)
+          (same_brings book marks (marks ++ Cut c d ∷ []) k Carry b (Some (carry_of book k)) (cut_first k b)) (λ y less. cut_brings b y))
 
       pub no_floor_taken : (a : ℕ) → a < activities book → floor_of book (marks ++ Cut c d ∷ []) k a ≡ floor_of book marks k a
       no_floor_taken a lt = sym (floors book (marks ++ Cut c d ∷ []) k (floor_of book marks k) cut_least a lt)

@@ -3,7 +3,7 @@ use Rattle.std.specs.Prelude.{◌≢◌, IsTrue, not, is_some, nat_eq}
 use Rattle.std.proofs.Common.{◌≡◌, ◌∙◌, ℕ, ℤ, ◌<◌, ◌+◌, Bool, true, false, inl, inr, List, [], ◌∷◌, ◌++◌, refl, sym, ap, subst, arith, get_or, length, Option, None, Some}
 use Rattle.std.proofs.lemmas.Bool.{both_ways, cond-true, cond-false, false_from_ne_true, true_from_ne_false, cases_order}
 use Rattle.std.proofs.Math.ListN.{set}
-use Rattle.std.proofs.lemmas.List.{length-set, get_or-set_other}
+use Rattle.std.proofs.lemmas.List.{length-set, get_or-set_other, ext_get_or}
 use Rattle.std.proofs.lemmas.Grind.{get_or-set_at}
 use Rattle.std.proofs.lemmas.Bool.Decides.{eqb_tells}
 use Rattle.tail_book.specs.Seen.{BookSeen}
@@ -17,16 +17,15 @@ use Rattle.branch_marks.specs.MarksSeen.{MarksSeen}
 use Rattle.branch_marks.specs.inside.MarkTables.{AreMarksOf}
 use Rattle.branch_marks.specs.Floors.{floors, FloorsCount}
 use Rattle.branch_marks.specs.Following.{IsDeadBy, IsDead}
-use Rattle.propagator.specs.inside.FloorRow.{FloorRowSeen}
+use Rattle.floor_rows.specs.inside.FloorRow.{FloorRowSeen}
 use Rattle.propagator.specs.InTurn.{GrowInTurn}
-use Rattle.propagator.specs.inside.LeastOver.{floor_of}
-use Rattle.propagator.specs.inside.Neighbours.{goes_on_from, SuccessorsTell}
+use Rattle.floor_rows.specs.inside.LeastOver.{floor_of}
+use Rattle.floor_rows.specs.inside.Neighbours.{goes_on_from, SuccessorsTell}
 use Rattle.propagator.specs.inside.OneMore.{BarsTakeOneFloor, BarsKillNothingLater, BarsKillPredecessors}
 use Rattle.propagator.specs.inside.Settling.{ActsOn}
 use Rattle.propagator.specs.inside.Touching.{is_set, AreSetToo, IsAskedBelow}
 use Rattle.tail_book.specs.inside.Sound.{IsBook}
 use Rattle.connection_net.specs.Net.{net_of, predecessors_in}
-use Rattle.propagator.proofs.ComeOn.{same_list}
 use Rattle.propagator.proofs.InTurn.{grow_both}
 use Rattle.propagator.proofs.MoreMarks.{barred}
 use Rattle.propagator.proofs.Arriving.{acts_on}
@@ -62,7 +61,7 @@ end_floors one count book marks k c lt dead listed are =
     let same = count book marks k in
     let kept = length-set listed c None in
     let all = ap (λ (z : List (Option (List ℤ))). length z) are in
-    same_list (set listed c None) (floors book (marks ++ Bar k c ∷ []) k) None (omega (arith, more, same, kept, all))
+    ext_get_or None (set listed c None) (floors book (marks ++ Bar k c ∷ []) k) (omega (arith, more, same, kept, all))
     (λ i less. elim (eqb_tells i c) [
       | inl here ↦ (
           get_or-set_at listed c i None None here.1 (omega (arith, lt, same, all))

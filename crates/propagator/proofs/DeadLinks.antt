@@ -5,7 +5,7 @@ use Rattle.tail_book.specs.Numbers.{contains}
 use Rattle.connection_net.specs.inside.Laws.{SuccessorsAreLinks}
 use Rattle.connection_net.specs.Net.{net_of, successors_in}
 use Rattle.std.proofs.Common.{◌≡◌, ◌∙◌, ℕ, ℤ, ◌<◌, ◌≤◌, ◌+◌, suc, inl, inr, Bool, true, false, List, [], ◌∷◌, ◌++◌, length, get_or, refl, sym, ap, subst, arith, below_more, Option, None, Some}
-use Rattle.std.proofs.lemmas.List.{get_or_default}
+use Rattle.std.proofs.lemmas.List.{get_or_default, ext_get_or}
 use Rattle.std.proofs.lemmas.Bool.{both_ways, and_from, and_parts, or_cases, eqb-true, cases_order}
 use Rattle.tail_book.specs.Seen.{BookSeen}
 use Rattle.tail_book.specs.declared.place.Place.TheVariants.{After}
@@ -20,13 +20,13 @@ use Rattle.branch_marks.specs.MarksSeen.{MarksSeen}
 use Rattle.branch_marks.specs.inside.MarkTables.{AreMarksOf}
 use Rattle.branch_marks.specs.Floors.{floors, FloorsCount}
 use Rattle.branch_marks.specs.Following.{CannotGoBy, IsDeadConnection, IsShutForFloors}
-use Rattle.propagator.specs.inside.FloorRow.{FloorRowSeen, floor_in, no_row}
+use Rattle.floor_rows.specs.inside.FloorRow.{FloorRowSeen, floor_in}
+use Rattle.propagator.specs.inside.Rows.{no_row}
 use Rattle.propagator.specs.InTurn.{GrowInTurn}
-use Rattle.propagator.specs.inside.LeastOver.{floor_of}
-use Rattle.propagator.specs.inside.Neighbours.{goes_on_to}
+use Rattle.floor_rows.specs.inside.LeastOver.{floor_of}
+use Rattle.floor_rows.specs.inside.Neighbours.{goes_on_to}
 use Rattle.propagator.specs.inside.OneMore.{CutsTakeNoFloor}
 use Rattle.propagator.specs.inside.Cutting.{AreFloorsOf, NothingNewFollows}
-use Rattle.propagator.proofs.ComeOn.{same_list}
 use Rattle.propagator.proofs.InTurn.{grow_both}
 
 -- the aircraft below n have been asked: whether one may use the link, and that none of them goes on
@@ -139,7 +139,7 @@ pub cut_floors : CutsTakeNoFloor → FloorsCount → (book : BookSeen) (marks : 
 cut_floors take count book marks c d rows dead are k lt =
     let more = count book (marks ++ Cut c d ∷ []) k in
     let same = count book marks k in
-    are k lt ∙ sym (same_list (floors book (marks ++ Cut c d ∷ []) k) (floors book marks k) None (omega (arith, more, same))
+    are k lt ∙ sym (ext_get_or None (floors book (marks ++ Cut c d ∷ []) k) (floors book marks k) (omega (arith, more, same))
     (λ i less. take book marks c d dead k i (omega (arith, more, less))))
 
 -- a connection that is cut is not dead any more: it is there

@@ -15,13 +15,13 @@ use Rattle.branch_marks.specs.declared.fact.Fact.TheVariants.{Bar, Must, Cut, Ti
 use Rattle.branch_marks.specs.inside.MarkTests.{is_alive, is_before, is_usable, lets_go, AliveDecides, UsableDecides, MayEndDecides}
 use Rattle.branch_marks.specs.Floors.{stepped_floor, floors}
 use Rattle.branch_marks.specs.Following.{IsDeadBy}
-use Rattle.propagator.specs.inside.FloorRow.{FloorRowSeen, floor_in, IsSetAt}
-use Rattle.propagator.specs.inside.LeastOver.{floor_of, brought, least_at, FloorsAreLeast}
+use Rattle.floor_rows.specs.inside.FloorRow.{FloorRowSeen, floor_in, IsSetAt}
+use Rattle.floor_rows.specs.inside.LeastOver.{floor_of, brought, least_at, FloorsAreLeast, BroughtTells}
 use Rattle.propagator.specs.inside.Settling.{IsSettledFor}
 use Rattle.propagator.specs.inside.SameFor.{SameFor}
 use Rattle.propagator.specs.inside.Touching.{is_set, AreSetToo, AreSetFrom, IsTouched, LosesOnly}
-use Rattle.propagator.proofs.MoreMarks.{alive_more, alive_kept, alive_at_kept, usable_more, usable_kept, end_kept, unusable_brings, same_brings, barred, elsewhere_alive}
-use Rattle.propagator.proofs.RightRows.{least_kept, least_without, no_successor, no_predecessor, dead_back, touched_same}
+use Rattle.propagator.proofs.MoreMarks.{alive_more, alive_kept, alive_at_kept, usable_more, usable_kept, end_kept, same_brings, barred, elsewhere_alive}
+use Rattle.propagator.proofs.RightRows.{least_kept, no_successor, no_predecessor, dead_back, touched_same}
 
 -- what is not among one number is another
 pub apart_from : (x c : ℕ) → contains (c ∷ []) x ≡ false → x ≢ c
@@ -55,7 +55,7 @@ must_loses book marks k c j ne = record {
   end = λ x. ap (λ (t : Bool). not (t && is_before x c)) (ne_eqb j k ne);
 }
 
-module _ (usable : UsableDecides) (ends : MayEndDecides) (book : BookSeen) (marks : List Fact) (fact : Fact) (k c : ℕ) (loses : LosesOnly book marks fact k c) where
+module _ (tells : BroughtTells) (usable : UsableDecides) (ends : MayEndDecides) (book : BookSeen) (marks : List Fact) (fact : Fact) (k c : ℕ) (loses : LosesOnly book marks fact k c) where
   rest_at : (x : ℕ) → x ≢ c → is_alive book (marks ++ fact ∷ []) k x ≡ is_alive book marks k x
   rest_at x ne = loses.rest x ne
 
@@ -79,7 +79,7 @@ module _ (usable : UsableDecides) (ends : MayEndDecides) (book : BookSeen) (mark
   pub lost_before : (row : FloorRowSeen) (due ask : List Bool) → c < activities book → floor_in row c ≡ None → is_set ask c ≡ false
       → IsTouched book marks k row due ask → IsTouched book (marks ++ fact ∷ []) k row due ask
   lost_before row due ask lt none off was =
-      touched_same usable ends book k marks (marks ++ fact ∷ []) row due ask
+      touched_same tells usable ends book k marks (marks ++ fact ∷ []) row due ask
       (loses_nothing (false_from_ne_true (is_alive book marks k c)
       (λ t. was.asked c lt off t (subst (λ (floor : Option (List ℤ)). IsDeadBy book marks k c floor) (sym none) tt)))) was
 
@@ -95,7 +95,7 @@ module _ (usable : UsableDecides) (ends : MayEndDecides) (book : BookSeen) (mark
         brings_left b x nb out = elim (eqb_tells x c) [
           | inl here ↦ (
               ap (λ (f : Option (List ℤ)). stepped_floor book (marks ++ fact ∷ []) k (After x) b f) (ap (λ (z : ℕ). floor_in next z) here.1 ∙ set.here)
-              ∙ sym (unusable_brings book marks k (After x) b (floor_in row x)
+              ∙ sym (tells.unusable book marks k (After x) b (floor_in row x)
               (ap (λ (z : ℕ). is_usable book marks k (After z) b) here.1 ∙ no_successor succ usable book marks k c b out)))
           | inr other ↦ (
               ap (λ (f : Option (List ℤ)). stepped_floor book (marks ++ fact ∷ []) k (After x) b f) (set.others x other.1)
@@ -105,10 +105,10 @@ module _ (usable : UsableDecides) (ends : MayEndDecides) (book : BookSeen) (mark
         floors_left : (b : ℕ) → b < activities book → is_set due' b ≡ false → floor_in next b ≡ least_at book (marks ++ fact ∷ []) k (floor_in next) b
         floors_left b lt e = elim (eqb_tells b c) [
           | inl here ↦ (ap (λ (z : ℕ). floor_in next z) here.1 ∙ set.here
-              ∙ sym (least_without book (marks ++ fact ∷ []) k b (floor_in next) (ap (λ (z : ℕ). is_alive book (marks ++ fact ∷ []) k z) here.1 ∙ loses.gone)))
+              ∙ sym (tells.without book (marks ++ fact ∷ []) k b (floor_in next) (ap (λ (z : ℕ). is_alive book (marks ++ fact ∷ []) k z) here.1 ∙ loses.gone)))
           | inr other ↦ (let (e', out) = more b e in
               set.others b other.1 ∙ was.floors b lt e'
-              ∙ sym (least_kept book marks (marks ++ fact ∷ []) k b (floor_in row) (floor_in next) (first_kept b other.1) (λ x less. brings_left b x other.1 out)))
+              ∙ sym (least_kept tells book marks (marks ++ fact ∷ []) k b (floor_in row) (floor_in next) (first_kept b other.1) (λ x less. brings_left b x other.1 out)))
         ]
 
         goes_left : (a : ℕ) → a ≢ c → contains (predecessors_in (net_of book) c) a ≡ false → (b : ℕ) → b < activities book
@@ -127,7 +127,7 @@ module _ (usable : UsableDecides) (ends : MayEndDecides) (book : BookSeen) (mark
             (dead_back usable ends book marks (marks ++ fact ∷ []) k a (end_kept book marks fact k (After a) (loses.end (After a))) (goes_left a apart out) (floor_in row a)
             (subst (λ (floor : Option (List ℤ)). IsDeadBy book (marks ++ fact ∷ []) k a floor) (set.others a apart) d))
 
-module _ (usable : UsableDecides) (ends : MayEndDecides) (book : BookSeen) (marks : List Fact) (k c : ℕ) where
+module _ (tells : BroughtTells) (usable : UsableDecides) (ends : MayEndDecides) (book : BookSeen) (marks : List Fact) (k c : ℕ) where
   keeps_alive : (a : ℕ) → is_alive book (marks ++ Must k c ∷ []) k a ≡ is_alive book marks k a
   keeps_alive a = alive_kept book marks (Must k c) k a (or_right (not (nat_eq c a)) (nat_eq k k) (eq-eqb k k refl))
 
@@ -142,12 +142,12 @@ module _ (usable : UsableDecides) (ends : MayEndDecides) (book : BookSeen) (mark
   must_touches row due due' ask ask' more all every was = record {
     floors = λ b lt e.
         let (e', less) = more b (omega (arith, lt, all)) e in
-        was.floors b lt e' ∙ sym (least_kept book marks (marks ++ Must k c ∷ []) k b (floor_in row) (floor_in row) (up_to Carry b (omega (arith, less)))
+        was.floors b lt e' ∙ sym (least_kept tells book marks (marks ++ Must k c ∷ []) k b (floor_in row) (floor_in row) (up_to Carry b (omega (arith, less)))
         (λ x under. same_brings book marks (marks ++ Must k c ∷ []) k (After x) b (floor_in row x) (up_to (After x) b (omega (arith, less)))));
     asked = λ a lt e on d. absurd (both_ways (is_set ask' a) e (every a lt));
   }
 
-module _ (usable : UsableDecides) (ends : MayEndDecides) (book : BookSeen) (marks : List Fact) (k c d : ℕ) where
+module _ (tells : BroughtTells) (usable : UsableDecides) (ends : MayEndDecides) (book : BookSeen) (marks : List Fact) (k c d : ℕ) where
   cut_usable : (x : Place) (b : ℕ) → lets_go k x b (Cut c d) ≡ true → is_usable book (marks ++ Cut c d ∷ []) k x b ≡ is_usable book marks k x b
   cut_usable x b e = usable_kept book marks (Cut c d) k x b (alive_at_kept book marks (Cut c d) k (λ a. alive_kept book marks (Cut c d) k a refl) x)
       (alive_kept book marks (Cut c d) k b refl) e
@@ -159,7 +159,7 @@ module _ (usable : UsableDecides) (ends : MayEndDecides) (book : BookSeen) (mark
     floors = λ b lt e.
         let (e', out) = more b e in
         let apart : nat_eq d b ≡ false = ne_eqb d b (λ same. apart_from b d out (sym same)) in
-        was.floors b lt e' ∙ sym (least_kept book marks (marks ++ Cut c d ∷ []) k b (floor_in row) (floor_in row) (cut_usable Carry b refl)
+        was.floors b lt e' ∙ sym (least_kept tells book marks (marks ++ Cut c d ∷ []) k b (floor_in row) (floor_in row) (cut_usable Carry b refl)
         (λ x less. same_brings book marks (marks ++ Cut c d ∷ []) k (After x) b (floor_in row x) (cut_usable (After x) b (no_and (nat_eq x c) (nat_eq d b) apart))));
     asked = λ a lt e on dead.
         let (e', out) = also a e in
@@ -201,7 +201,7 @@ module _ (usable : UsableDecides) (ends : MayEndDecides) (book : BookSeen) (mark
       floors_left b lt e =
           let (e', out') = more b e in
           let (e'', out) = first b e' in
-          was.floors b lt e'' ∙ sym (least_kept book marks (marks ++ Tie c d ∷ []) k b (floor_in row) (floor_in row)
+          was.floors b lt e'' ∙ sym (least_kept tells book marks (marks ++ Tie c d ∷ []) k b (floor_in row) (floor_in row)
           (tie_usable Carry b (lets_past false (nat_eq d b) refl (ne_eqb d b (λ same. apart_from b d out' (sym same)))))
           (λ x less. same_brings book marks (marks ++ Tie c d ∷ []) k (After x) b (floor_in row x) (links_left b x (apart_from b d out') out)))
 
@@ -223,15 +223,15 @@ module _ (usable : UsableDecides) (ends : MayEndDecides) (book : BookSeen) (mark
           (goes_left a (apart_from a c out') out) (floor_in row a) dead)
 
 -- a fact that says nothing of the aircraft leaves it the same
-pub bar_touches_not : UsableDecides → MayEndDecides → (book : BookSeen) (marks : List Fact) (k j c : ℕ) (row : FloorRowSeen) (due ask : List Bool)
+pub bar_touches_not : BroughtTells → UsableDecides → MayEndDecides → (book : BookSeen) (marks : List Fact) (k j c : ℕ) (row : FloorRowSeen) (due ask : List Bool)
     → SameFor book k marks (marks ++ Bar j c ∷ []) → IsTouched book marks k row due ask → IsTouched book (marks ++ Bar j c ∷ []) k row due ask
-bar_touches_not usable ends book marks k j c row due ask same was = touched_same usable ends book k marks (marks ++ Bar j c ∷ []) row due ask same was
+bar_touches_not tells usable ends book marks k j c row due ask same was = touched_same tells usable ends book k marks (marks ++ Bar j c ∷ []) row due ask same was
 
 -- a row with the floors of marks that left nothing dead for the aircraft is right, with nothing due and nothing to be asked
-pub touched_at_first : AliveDecides → FloorsAreLeast → (book : BookSeen) (marks : List Fact) (k : ℕ) (row : FloorRowSeen) (due ask : List Bool) → k < aircraft book
+pub touched_at_first : BroughtTells → AliveDecides → FloorsAreLeast → (book : BookSeen) (marks : List Fact) (k : ℕ) (row : FloorRowSeen) (due ask : List Bool) → k < aircraft book
     → row.floors ≡ floors book marks k → IsSettledFor book marks k → IsTouched book marks k row due ask
-touched_at_first alive least book marks k row due ask hk are settled = record {
-  floors = λ b lt e. same b ∙ least book marks k b lt ∙ sym (least_kept book marks marks k b (floor_of book marks k) (floor_in row) refl
+touched_at_first tells alive least book marks k row due ask hk are settled = record {
+  floors = λ b lt e. same b ∙ least book marks k b lt ∙ sym (least_kept tells book marks marks k b (floor_of book marks k) (floor_in row) refl
       (λ x less. ap (λ (f : Option (List ℤ)). stepped_floor book marks k (After x) b f) (same x)));
   asked = λ a lt e on d. settled a lt (record {
     of_book = (hk, lt);

@@ -1,12 +1,7 @@
-pub mod LeastOver
 pub mod MoreMarks
 pub mod SameFor
 pub mod DeadBars
 pub mod DeadCuts
-pub mod KeptFloors
-pub mod Neighbours
-pub mod NotAlive
-pub mod ComeOn
 pub mod InTurn
 pub mod Arriving
 pub mod DeadEnds

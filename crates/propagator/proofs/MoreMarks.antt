@@ -3,7 +3,7 @@ use Rattle.std.specs.Prelude.{◌&&◌, ◌||◌, not, nat_eq, if◌then◌else�
 use Rattle.std.proofs.Common.{◌≡◌, ◌∙◌, ℕ, ℤ, Bool, true, false, List, [], ◌∷◌, ◌++◌, refl, sym, ap, Option, None, Some, inl, inr}
 use Rattle.std.specs.Prelude.{◌≢◌}
 use Rattle.std.specs.List.{list_all}
-use Rattle.std.proofs.lemmas.Bool.{ne_eqb, eq-eqb, cond-false}
+use Rattle.std.proofs.lemmas.Bool.{ne_eqb, eq-eqb}
 use Rattle.std.proofs.lemmas.Bool.Decides.{eqb_tells}
 use Rattle.std.proofs.lemmas.List.Folds.{list_all-append}
 use Rattle.tail_book.specs.Seen.{BookSeen}
@@ -81,26 +81,6 @@ module _ (book : BookSeen) (marks : List Fact) (fact : Fact) where
 
   pub end_kept : (k : ℕ) (x : Place) → lets_end k x fact ≡ true → may_end (marks ++ fact ∷ []) k x ≡ may_end marks k x
   end_kept k x e = end_more k x ∙ and_yes (may_end marks k x) (lets_end k x fact) e
-
--- what is not alive is not linked
-pub unusable_without : (book : BookSeen) (marks : List Fact) (k : ℕ) (x : Place) (b : ℕ) → is_alive book marks k b ≡ false → is_usable book marks k x b ≡ false
-unfolding is_usable
-unusable_without book marks k x b e =
-    ap (λ (t : Bool). is_link book k x b && (is_alive_at book marks k x && (t && list_all (lets_go k x b) marks))) e
-    ∙ never (is_link book k x b) (is_alive_at book marks k x)
-  where
-    never : (p q : Bool) → (p && (q && false)) ≡ false
-    never true true = refl
-    never true false = refl
-    never false q = refl
-
--- what cannot be used, or passes a limit, brings nothing
-pub unusable_brings : (book : BookSeen) (marks : List Fact) (k : ℕ) (x : Place) (b : ℕ) (floor : Option (List ℤ)) → is_usable book marks k x b ≡ false
-    → stepped_floor book marks k x b floor ≡ None
-unusable_brings book marks k x b None e = refl
-unusable_brings book marks k x b (Some values) e =
-    cond-false (is_usable book marks k x b && within_limits book.rules.counters (step book k x b values)) (Some (step book k x b values)) None
-    (ap (λ (t : Bool). t && within_limits book.rules.counters (step book k x b values)) e)
 
 -- what is as usable as before brings the same
 pub same_brings : (book : BookSeen) (old new : List Fact) (k : ℕ) (x : Place) (b : ℕ) (floor : Option (List ℤ)) → is_usable book new k x b ≡ is_usable book old k x b

@@ -1,12 +1,13 @@
 -- Flags of floors that moved: from one row to the next, and for all aircraft.
-use Rattle.std.specs.Prelude.{◌≢◌, ◌⊎◌, nat_eq}
-use Rattle.std.proofs.Common.{◌≡◌, ◌∙◌, ℕ, ℤ, ◌<◌, Bool, true, false, inl, inr, List, [], ◌∷◌, length, get_or, refl, sym, ap, subst, arith, Option, None}
+use Rattle.std.specs.Prelude.{◌⊎◌, nat_eq}
+use Rattle.std.proofs.Common.{◌≡◌, ◌∙◌, ℕ, ℤ, ◌<◌, Bool, true, false, inl, inr, List, [], ◌∷◌, length, get_or, refl, sym, ap, subst, Option, None}
 use Rattle.std.proofs.lemmas.Bool.{both_ways, true_from_ne_false, or_left, eq-eqb}
 use Rattle.std.proofs.lemmas.Bool.Decides.{eqb_tells}
 use Rattle.std.proofs.Math.ListN.{set}
 use Rattle.std.proofs.lemmas.List.{get_or-set_same, get_or-set_other}
 use Rattle.tail_book.specs.Numbers.{contains}
-use Rattle.propagator.specs.inside.FloorRow.{FloorRowSeen, floor_in, floors_in, IsSetAt, ChangesOnly, no_row}
+use Rattle.floor_rows.specs.inside.FloorRow.{FloorRowSeen, floor_in, IsSetAt}
+use Rattle.propagator.specs.inside.Rows.{floors_in, ChangesOnly, no_row}
 use Rattle.propagator.specs.inside.Moves.{KeepsFlags, LosesFloors, MovesFloors, MovesAll}
 use Rattle.propagator.specs.inside.Touching.{is_set, AreSetToo}
 

@@ -18,7 +18,8 @@ use Rattle.std.proofs.lemmas.Bool.Decides.{eqb_tells}
 use Rattle.branch_marks.specs.MarksSeen.{MarksSeen}
 use Rattle.branch_marks.specs.inside.MarkTables.{AreMarksOf}
 use Rattle.propagator.specs.InTurn.{GrowInTurn}
-use Rattle.propagator.specs.inside.FloorRow.{FloorRowSeen, AreRowsOf, ChangesOnly}
+use Rattle.floor_rows.specs.inside.FloorRow.{FloorRowSeen}
+use Rattle.propagator.specs.inside.Rows.{AreRowsOf, ChangesOnly}
 use Rattle.propagator.specs.inside.SameFor.{SameFor, SameFloors, SameDead, MustsLeaveOthers}
 use Rattle.propagator.specs.inside.Settling.{ActsOn, StandsFor, StandBelow}
 use Rattle.propagator.proofs.Arriving.{same_on}

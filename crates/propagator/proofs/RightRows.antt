@@ -2,8 +2,7 @@
 -- them; whether an activity is dead, on its floor, on the links that go from it and on whether the aircraft may end there. So
 -- only where one of these changes is a floor due, or an activity to be asked again.
 use Rattle.std.specs.Prelude.{◌≢◌, nat_eq}
-use Rattle.std.proofs.Common.{◌≡◌, ◌∙◌, ℕ, ℤ, ◌<◌, Bool, true, false, inl, inr, arith, List, [], ◌∷◌, refl, sym, ap, subst, Option, None, Some}
-use Rattle.std.specs.List.{range_with_len}
+use Rattle.std.proofs.Common.{◌≡◌, ◌∙◌, ℕ, ℤ, ◌<◌, Bool, true, false, inl, inr, List, [], ◌∷◌, refl, sym, ap, subst, Option, None, Some}
 use Rattle.std.proofs.lemmas.Bool.{both_ways, false_from_ne_true, eq-eqb, or_left}
 use Rattle.std.proofs.lemmas.Bool.Decides.{eqb_tells}
 use Rattle.tail_book.specs.Seen.{BookSeen}
@@ -13,31 +12,19 @@ use Rattle.tail_book.specs.Numbers.{contains}
 use Rattle.connection_net.specs.inside.Laws.{PredecessorsAreLinks, SuccessorsAreLinks}
 use Rattle.connection_net.specs.Net.{net_of, predecessors_in, successors_in}
 use Rattle.branch_marks.specs.declared.fact.Fact.{Fact}
-use Rattle.branch_marks.specs.inside.MarkTests.{is_alive, is_usable, may_end, UsableDecides, MayEndDecides}
-use Rattle.branch_marks.specs.Floors.{lesser_floor, stepped_floor}
+use Rattle.branch_marks.specs.inside.MarkTests.{is_usable, may_end, UsableDecides, MayEndDecides}
+use Rattle.branch_marks.specs.Floors.{stepped_floor}
 use Rattle.branch_marks.specs.Following.{IsDeadBy}
-use Rattle.propagator.specs.inside.FloorRow.{FloorRowSeen, floor_in, IsSetAt}
-use Rattle.propagator.specs.inside.LeastOver.{least_over, brought_first, brought, least_at}
+use Rattle.floor_rows.specs.inside.FloorRow.{FloorRowSeen, floor_in, IsSetAt}
+use Rattle.floor_rows.specs.inside.LeastOver.{brought, least_at, BroughtTells}
 use Rattle.propagator.specs.inside.SameFor.{SameFor}
 use Rattle.propagator.specs.inside.Touching.{is_set, AreSetToo, IsTouched}
-use Rattle.propagator.proofs.LeastOver.{least_same, least_none}
-use Rattle.propagator.proofs.MoreMarks.{unusable_without, unusable_brings, same_brings}
+use Rattle.propagator.proofs.MoreMarks.{same_brings}
 
--- where the same is brought, the least is the same
-pub least_kept : (book : BookSeen) (old new : List Fact) (k b : ℕ) (f g : ℕ → Option (List ℤ)) → is_usable book new k Carry b ≡ is_usable book old k Carry b
+-- where the links from the carry-in are as usable as before, and the same is brought, the least is the same
+pub least_kept : BroughtTells → (book : BookSeen) (old new : List Fact) (k b : ℕ) (f g : ℕ → Option (List ℤ)) → is_usable book new k Carry b ≡ is_usable book old k Carry b
     → ((x : ℕ) → x < b → brought book new k b g x ≡ brought book old k b f x) → least_at book new k g b ≡ least_at book old k f b
-least_kept book old new k b f g first each =
-    ap (λ (one : Option (List ℤ)). lesser_floor one (least_over (brought book new k b g) (range_with_len 0 b)))
-    (same_brings book old new k Carry b (Some (carry_of book k)) first)
-    ∙ ap (λ (rest : Option (List ℤ)). lesser_floor (brought_first book old k b) rest)
-    (least_same (brought book new k b g) (brought book old k b f) 0 b (λ y le less. each y (omega (arith, less))))
-
--- what is not alive is brought nothing
-pub least_without : (book : BookSeen) (marks : List Fact) (k b : ℕ) (f : ℕ → Option (List ℤ)) → is_alive book marks k b ≡ false → least_at book marks k f b ≡ None
-least_without book marks k b f e =
-    ap (λ (one : Option (List ℤ)). lesser_floor one (least_over (brought book marks k b f) (range_with_len 0 b)))
-    (unusable_brings book marks k Carry b (Some (carry_of book k)) (unusable_without book marks k Carry b e))
-    ∙ least_none (brought book marks k b f) 0 b (λ y le less. unusable_brings book marks k (After y) b (f y) (unusable_without book marks k (After y) b e))
+least_kept tells book old new k b f g first each = tells.same book old new k b f g (same_brings book old new k Carry b (Some (carry_of book k)) first) each
 
 -- a usable link is one of the network
 pub no_successor : SuccessorsAreLinks → UsableDecides → (book : BookSeen) (marks : List Fact) (k a b : ℕ) → contains (successors_in (net_of book) a) b ≡ false
@@ -66,11 +53,11 @@ dead_back usable ends book old new k a end go (Some low) d = (
 on_floor : (book : BookSeen) (marks : List Fact) (k a : ℕ) (f g : Option (List ℤ)) → g ≡ f → IsDeadBy book marks k a g → IsDeadBy book marks k a f
 on_floor book marks k a f g e d = subst (λ (floor : Option (List ℤ)). IsDeadBy book marks k a floor) e d
 
-module _ (usable : UsableDecides) (ends : MayEndDecides) (book : BookSeen) (k : ℕ) where
+module _ (tells : BroughtTells) (usable : UsableDecides) (ends : MayEndDecides) (book : BookSeen) (k : ℕ) where
   -- marks that leave the aircraft the same leave its row as right as it was
   pub touched_same : (old new : List Fact) (row : FloorRowSeen) (due ask : List Bool) → SameFor book k old new → IsTouched book old k row due ask → IsTouched book new k row due ask
   touched_same old new row due ask same was = record {
-    floors = λ b lt e. was.floors b lt e ∙ sym (least_kept book old new k b (floor_in row) (floor_in row) (same.usable Carry b)
+    floors = λ b lt e. was.floors b lt e ∙ sym (least_kept tells book old new k b (floor_in row) (floor_in row) (same.usable Carry b)
         (λ x less. same_brings book old new k (After x) b (floor_in row x) (same.usable (After x) b)));
     asked = λ a lt e on d. was.asked a lt e (sym (same.alive a) ∙ on)
         (dead_back usable ends book old new k a (same.ends (After a)) (λ b less t. same.usable (After a) b ∙ t) (floor_in row a) d);
@@ -80,7 +67,7 @@ module _ (usable : UsableDecides) (ends : MayEndDecides) (book : BookSeen) (k : 
   pub touched_row : (marks : List Fact) (row next : FloorRowSeen) (due ask : List Bool) → ((a : ℕ) → floor_in next a ≡ floor_in row a)
       → IsTouched book marks k row due ask → IsTouched book marks k next due ask
   touched_row marks row next due ask same was = record {
-    floors = λ b lt e. same b ∙ was.floors b lt e ∙ sym (least_kept book marks marks k b (floor_in row) (floor_in next) refl
+    floors = λ b lt e. same b ∙ was.floors b lt e ∙ sym (least_kept tells book marks marks k b (floor_in row) (floor_in next) refl
         (λ x less. ap (λ (f : Option (List ℤ)). stepped_floor book marks k (After x) b f) (same x)));
     asked = λ a lt e on d. was.asked a lt e on (on_floor book marks k a (floor_in row a) (floor_in next a) (same a) d);
   }
@@ -93,7 +80,7 @@ module _ (usable : UsableDecides) (ends : MayEndDecides) (book : BookSeen) (k : 
     asked = λ a lt e on d. absurd (both_ways (is_set ask a) e (every a lt));
   }
 
-module _ (succ : SuccessorsAreLinks) (pred : PredecessorsAreLinks) (usable : UsableDecides) (ends : MayEndDecides) (book : BookSeen) (k : ℕ) where
+module _ (succ : SuccessorsAreLinks) (pred : PredecessorsAreLinks) (tells : BroughtTells) (usable : UsableDecides) (ends : MayEndDecides) (book : BookSeen) (k : ℕ) where
   -- one floor is another: those of its successors are due, and it is to be asked
   pub touched_floor : (marks : List Fact) (b : ℕ) (floor : Option (List ℤ)) (row next : FloorRowSeen) (due due' ask ask' : List Bool) → is_set due b ≡ true
       → IsSetAt b floor row next → AreSetToo (successors_in (net_of book) b) due due' → AreSetToo (b ∷ []) ask ask'
@@ -102,7 +89,7 @@ module _ (succ : SuccessorsAreLinks) (pred : PredecessorsAreLinks) (usable : Usa
     floors = λ a lt e.
         let (e', out) = more a e in
         let apart : a ≢ b = λ same. both_ways (is_set due a) e' (ap (λ (z : ℕ). is_set due z) same ∙ on) in
-        set.others a apart ∙ was.floors a lt e' ∙ sym (least_kept book marks marks k a (floor_in row) (floor_in next) refl (λ x less. same_from a x out));
+        set.others a apart ∙ was.floors a lt e' ∙ sym (least_kept tells book marks marks k a (floor_in row) (floor_in next) refl (λ x less. same_from a x out));
     asked = λ a lt e alive d.
         let (e', out) = also a e in
         was.asked a lt e' alive (on_floor book marks k a (floor_in row a) (floor_in next a) (set.others a (apart_from a b out)) d);
@@ -116,6 +103,6 @@ module _ (succ : SuccessorsAreLinks) (pred : PredecessorsAreLinks) (usable : Usa
         | inl here ↦ (
             let none = no_successor succ usable book marks k b a out in
             let none' : is_usable book marks k (After x) a ≡ false = ap (λ (z : ℕ). is_usable book marks k (After z) a) here.1 ∙ none in
-            unusable_brings book marks k (After x) a (floor_in next x) none' ∙ sym (unusable_brings book marks k (After x) a (floor_in row x) none'))
+            tells.unusable book marks k (After x) a (floor_in next x) none' ∙ sym (tells.unusable book marks k (After x) a (floor_in row x) none'))
         | inr other ↦ ap (λ (f : Option (List ℤ)). stepped_floor book marks k (After x) a f) (set.others x other.1)
       ]

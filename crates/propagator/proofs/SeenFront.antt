@@ -6,7 +6,7 @@ use Rattle.tail_book.specs.Seen.{BookSeen}
 use Rattle.branch_marks.specs.declared.fact.Fact.{Fact}
 use Rattle.branch_marks.specs.Following.{IsShut}
 use Rattle.propagator.specs.KeptSeen.{PropagatorSeen}
-use Rattle.propagator.specs.inside.FloorRow.{FloorRowSeen}
+use Rattle.floor_rows.specs.inside.FloorRow.{FloorRowSeen}
 use Rattle.propagator.specs.inside.Cutting.{AreFloorsOf}
 use Rattle.propagator.specs.Keeping.{KeepsFront, KeepsSeen, IsKeptFor}
 

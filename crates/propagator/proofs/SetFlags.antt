@@ -7,7 +7,7 @@ use Rattle.std.proofs.lemmas.Bool.Decides.{eqb_tells}
 use Rattle.std.proofs.lemmas.List.{get_or-set_other, length-set}
 use Rattle.std.proofs.lemmas.Grind.{get_or-set_at}
 use Rattle.tail_book.specs.Numbers.{contains}
-use Rattle.propagator.specs.inside.FloorRow.{FloorRowSeen, floor_in, IsSetAt}
+use Rattle.floor_rows.specs.inside.FloorRow.{FloorRowSeen, floor_in, IsSetAt}
 use Rattle.propagator.specs.inside.Touching.{is_set, AreSetToo}
 use Rattle.propagator.proofs.DeadLinks.{stands_at}
 

@@ -10,7 +10,8 @@ use Rattle.branch_marks.specs.declared.fact.Fact.TheVariants.{Bar}
 use Rattle.branch_marks.specs.Floors.{floors}
 use Rattle.branch_marks.specs.MarksSeen.{MarksSeen}
 use Rattle.branch_marks.specs.inside.MarkTables.{AreMarksOf}
-use Rattle.propagator.specs.inside.FloorRow.{FloorRowSeen, floors_in, AreRowsOf, ChangesOnly}
+use Rattle.floor_rows.specs.inside.FloorRow.{FloorRowSeen}
+use Rattle.propagator.specs.inside.Rows.{floors_in, AreRowsOf, ChangesOnly}
 use Rattle.propagator.specs.InTurn.{GrowInTurn}
 use Rattle.propagator.specs.inside.SameFor.{SameFor, SameFloors, SameDead}
 use Rattle.propagator.specs.Keeping.{KeepsSeen}

@@ -1,7 +1,7 @@
 -- Where a connection is dead that was not, some aircraft went on over it before. It has lost the link since, and then the fact
 -- that took it is noted; or it comes to the first activity with another floor, and then this is flagged.
 use Rattle.std.specs.Prelude.{◌⊎◌, ◌&&◌, ◌||◌, not, nat_eq, nat_lt, nat_le, All, Contains, IfSome}
-use Rattle.std.proofs.Common.{◌≡◌, ◌∙◌, ℕ, zero, suc, ℤ, ◌<◌, ◌≤◌, ◌+◌, Bool, true, false, inl, inr, arith, List, [], ◌∷◌, ◌++◌, length, get_or, refl, sym, ap, subst, take, drop, append_assoc, append-nil, Option, None, Some}
+use Rattle.std.proofs.Common.{◌≡◌, ◌∙◌, ℕ, zero, suc, ℤ, ◌<◌, ◌≤◌, Bool, true, false, inl, inr, arith, List, [], ◌∷◌, ◌++◌, length, get_or, refl, sym, ap, subst, take, drop, append_assoc, append-nil, Option, None, Some}
 use Rattle.std.specs.List.{list_all}
 use Rattle.std.proofs.lemmas.Bool.{both_ways, cases_Bool, and_parts, and_from, or_left, or_right, ltb-true, ltb-false, lt-ltb, le-leb, cases_order}
 use Rattle.std.proofs.lemmas.Bool.Decides.{eqb_tells}
@@ -18,10 +18,11 @@ use Rattle.branch_marks.specs.Marks.{IsAlive, IsUsable, LetsFly, LetsGo}
 use Rattle.branch_marks.specs.inside.MarkTests.{is_usable, lets_fly, lets_go, AliveDecides, UsableDecides}
 use Rattle.branch_marks.specs.inside.Below.{some_below}
 use Rattle.branch_marks.specs.Following.{CannotGoBy, IsDeadBy, IsDeadConnection, IsShut}
-use Rattle.propagator.specs.inside.LeastOver.{floor_of}
-use Rattle.propagator.specs.inside.Neighbours.{goes_on_to}
+use Rattle.floor_rows.specs.inside.LeastOver.{floor_of}
+use Rattle.floor_rows.specs.inside.Neighbours.{goes_on_to}
 use Rattle.propagator.specs.Keeping.{KeepsFront, KeepsSeen}
-use Rattle.propagator.specs.inside.FloorRow.{FloorRowSeen, floors_in}
+use Rattle.floor_rows.specs.inside.FloorRow.{FloorRowSeen}
+use Rattle.propagator.specs.inside.Rows.{floors_in}
 use Rattle.propagator.specs.inside.Settling.{IsSettledFor, StandBelow}
 use Rattle.propagator.specs.inside.Suspects.{is_suspect, LowersPasses, IsNoted, AreNoted}
 use Rattle.propagator.specs.inside.Moves.{KeepsFlags, MovesAll}

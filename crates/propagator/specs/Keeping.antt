@@ -5,7 +5,8 @@ use Rattle.maint_counters.specs.inside.StepTable.{IsStepTableOf}
 use Rattle.branch_marks.specs.declared.fact.Fact.{Fact}
 use Rattle.branch_marks.specs.Following.{IsShut}
 use Rattle.propagator.specs.KeptSeen.{PropagatorSeen}
-use Rattle.propagator.specs.inside.FloorRow.{FloorRowSeen, AreRowsOf}
+use Rattle.floor_rows.specs.inside.FloorRow.{FloorRowSeen}
+use Rattle.propagator.specs.inside.Rows.{AreRowsOf}
 use Rattle.propagator.specs.inside.Cutting.{AreFloorsOf}
 use Rattle.propagator.specs.inside.Work.{IsWorkOf}
 

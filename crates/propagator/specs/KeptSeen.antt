@@ -2,7 +2,7 @@
 use Rattle.std.specs.Prelude.{ℕ, List, Option}
 use Rattle.maint_counters.specs.declared.step_table.StepTable.{StepTable}
 use Rattle.propagator.specs.declared.work.Work.{Work}
-use Rattle.propagator.specs.inside.FloorRow.{FloorRowSeen}
+use Rattle.floor_rows.specs.inside.FloorRow.{FloorRowSeen}
 
 -- the steps of the book, the floors of each aircraft, room for the work on one aircraft, and how many facts were seen, if
 -- anything is kept

@@ -1,9 +1,7 @@
 -- What only proofs, and calls further in, cite.
-pub mod LeastOver
 pub mod SameFor
 pub mod OneMore
-pub mod FloorRow
-pub mod Neighbours
+pub mod Rows
 pub mod Settling
 pub mod Touching
 pub mod Moves

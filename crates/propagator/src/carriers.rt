@@ -11,7 +11,7 @@ ghost use Rattle.maint_counters.specs.inside.StepTable.{IsStepTableOf};
 ghost use Rattle.connection_net.specs.Net.{net_of};
 ghost use Rattle.branch_marks.specs.inside.MarkTables.{AreMarksOf};
 ghost use Rattle.branch_marks.specs.Following.{IsOnlyCarrier};
-ghost use Rattle.propagator.specs.inside.FloorRow.{AreRowsOf};
+ghost use Rattle.propagator.specs.inside.Rows.{AreRowsOf};
 ghost use Rattle.propagator.specs.InTurn.{GrowInTurn};
 ghost use Rattle.propagator.specs.inside.Moves.{MovesAll};
 ghost use Rattle.propagator.specs.inside.Settling.{StandBelow};
@@ -19,13 +19,13 @@ ghost use Rattle.propagator.specs.inside.Unnamed.{unnamed};
 ghost use Rattle.propagator.specs.inside.Work.{IsWorkOf};
 
 use crate::adding::add_next;
-use crate::floor_row::FloorRow;
 use crate::laws::{musts_leave_others, same_dead, same_floors};
 use crate::settling::settle_at;
 use crate::work::Work;
 use branch_marks::laws::{alive_decides, has_fact_decides};
 use branch_marks::{Fact, Marks};
 use connection_net::Net;
+use floor_rows::FloorRow;
 use maint_counters::StepTable;
 use tail_book::{Book, Memory};
 

@@ -5,65 +5,31 @@
 //! with a Bar at most what led there is dead too, and that comes later in the pass. Only what is to be asked is looked at,
 //! and takes a step for each of its successors until one goes on.
 
-ghost use Rattle.std.specs.Prelude.{◌≡◌, ◌<◌, ◌+◌, ◌↔◌, ℕ, ℤ, List, Some, IsTrue, None, OnOk, length};
+ghost use Rattle.std.specs.Prelude.{◌≡◌, ◌<◌, ◌+◌, ◌↔◌, IsTrue, OnOk, length};
 ghost use Rattle.tail_book.specs.Lookup.{activities, aircraft};
 ghost use Rattle.maint_counters.specs.inside.StepTable.{IsStepTableOf};
 ghost use Rattle.connection_net.specs.Net.{net_of};
 ghost use Rattle.branch_marks.specs.inside.MarkTables.{AreMarksOf};
 ghost use Rattle.branch_marks.specs.Floors.{floors};
 ghost use Rattle.branch_marks.specs.Following.{IsDead};
-ghost use Rattle.propagator.specs.inside.FloorRow.{floor_in, IsRowOf};
+ghost use Rattle.floor_rows.specs.inside.FloorRow.{IsRowOf};
 ghost use Rattle.propagator.specs.InTurn.{GrowInTurn};
-ghost use Rattle.propagator.specs.inside.Neighbours.{goes_on_from, goes_on_to};
 ghost use Rattle.propagator.specs.inside.Settling.{ActsOn, IsSettledFor};
 ghost use Rattle.propagator.specs.inside.Moves.{LosesFloors};
 ghost use Rattle.propagator.specs.inside.Touching.{IsAskedBelow};
 
 use crate::adding::add_bar;
 use crate::flags::set_all;
-use crate::floor_row::FloorRow;
-use crate::floors::goes_on_to;
-use crate::laws::{
-    bars_kill_nothing_later, bars_kill_predecessors, bars_take_one_floor, predecessors_are_of_book,
-    successors_are_of_book, successors_tell,
-};
+use crate::laws::{bars_kill_nothing_later, bars_kill_predecessors, bars_take_one_floor};
 use branch_marks::laws::{alive_decides, floors_count};
 use branch_marks::{Fact, Marks};
 use connection_net::Net;
 use connection_net::laws::rows_for_each;
+use floor_rows::laws::{predecessors_are_of_book, successors_tell};
+use floor_rows::{FloorRow, goes_on};
 use maint_counters::StepTable;
 use tail_book::laws::every_book_is_sound;
 use tail_book::{Book, Memory, Place};
-
-// Whether an aircraft can go on from an activity, by its floor there.
-fn goes_on(
-    book: &Book,
-    net: &Net,
-    steps: &StepTable,
-    marks: &Marks,
-    k: u32,
-    a: u32,
-    row: &FloorRow,
-    values: &mut [i64],
-) -> bool
-    requires net { net.now ≡ net_of book.now }
-    requires steps { IsStepTableOf book.now steps.now }
-    requires marks { AreMarksOf book.now marks.now }
-    requires aircraft { k < aircraft book.now }
-    requires activity { a < activities book.now }
-    requires row { IsRowOf book.now row.now }
-    requires width { length values.old ≡ length book.now.rules.counters }
-    ensures { (low : List ℤ) → floor_in row.now a ≡ Some low → result ≡ goes_on_from book.now marks.now.facts k a low }
-{
-    rows_for_each();
-    successors_are_of_book();
-    for b in net.successors(a) {
-        if goes_on_to(book, steps, marks, k, a, *b, row, values) {
-            return true;
-        }
-    }
-    false
-}
 
 // Whether an activity is dead for an aircraft.
 // Where the aircraft may end is asked before where it may go on, since it takes no step.

@@ -14,11 +14,11 @@ ghost use Rattle.tail_book.specs.Seen.{BookSeen};
 ghost use Rattle.propagator.specs.Keeping.{IsKeptFor, IsMadeFor};
 
 use crate::closing::{all_rows, close_with};
-use crate::floor_row::FloorRow;
 use crate::hole::{Closed, hole};
 use crate::work::Work;
 use branch_marks::{Fact, Marks};
 use connection_net::Net;
+use floor_rows::FloorRow;
 use maint_counters::StepTable;
 use std::alloc::Global;
 use std::marker::Model;

@@ -1,29 +1,13 @@
 //! Laws over the definitions alone: the contract of each function is the law.
 
-ghost use Rattle.propagator.specs.inside.LeastOver.{FloorsAreLeast, LeastAreFloors, NoFloorWithout};
 ghost use Rattle.propagator.specs.inside.SameFor.{SameFloors, SameDead, BarsLeaveOthers, MustsLeaveOthers};
 ghost use Rattle.propagator.specs.inside.OneMore.{BarsTakeOneFloor, BarsKillNothingLater, BarsKillPredecessors, CutsTakeNoFloor, CutsMakeNothingFollow};
-ghost use Rattle.propagator.specs.inside.Neighbours.{PredecessorsComeBefore, PredecessorsBringAll, SuccessorsAreOfBook, PredecessorsAreOfBook, SuccessorsTell};
 ghost use Rattle.propagator.specs.Keeping.{KeptForMore};
-ghost use Rattle.tail_book.specs.Seen.{BookSeen};
-ghost use Rattle.std.specs.Prelude.{ℕ, ℤ, List};
-ghost use Rattle.branch_marks.specs.declared.fact.Fact.{Fact as MarkFact};
 
 use branch_marks::laws::{alive_decides, may_end_decides, usable_decides};
-use connection_net::laws::{predecessors_are_links, rows_rise, successors_are_links};
+use connection_net::laws::predecessors_are_links;
+use floor_rows::laws::{brought_tells, floors_are_least, least_are_floors};
 use tail_book::laws::{limits_decide, links_rise};
-
-/// Each floor is the least of what the places before it bring.
-pub fn floors_are_least()
-    ensures { FloorsAreLeast }
-{}
-
-/// Whatever is the least of what is brought is the floor.
-pub fn least_are_floors()
-    ensures { LeastAreFloors }
-{
-    floors_are_least();
-}
 
 /// Marks that leave an aircraft the same leave it the same floors.
 pub fn same_floors()
@@ -55,6 +39,7 @@ pub fn bars_take_one_floor()
 {
     floors_are_least();
     least_are_floors();
+    brought_tells();
     usable_decides();
     limits_decide();
 }
@@ -87,6 +72,7 @@ pub fn cuts_take_no_floor()
 {
     floors_are_least();
     least_are_floors();
+    brought_tells();
     usable_decides();
     limits_decide();
 }
@@ -99,56 +85,6 @@ pub fn cuts_make_nothing_follow()
     alive_decides();
     usable_decides();
     may_end_decides();
-}
-
-/// Predecessors have smaller numbers.
-pub fn predecessors_come_before()
-    ensures { PredecessorsComeBefore }
-{
-    predecessors_are_links();
-    rows_rise();
-    links_rise();
-}
-
-/// What is brought to an activity is brought by its predecessors.
-pub fn predecessors_bring_all()
-    ensures { PredecessorsBringAll }
-{
-    predecessors_are_links();
-    rows_rise();
-    links_rise();
-    usable_decides();
-}
-
-/// Successors are of the book.
-pub fn successors_are_of_book()
-    ensures { SuccessorsAreOfBook }
-{
-    rows_rise();
-}
-
-/// Predecessors are of the book.
-pub fn predecessors_are_of_book()
-    ensures { PredecessorsAreOfBook }
-{
-    rows_rise();
-}
-
-/// Successors tell whether an aircraft can go on.
-pub fn successors_tell()
-    ensures { (book : BookSeen) (marks : List MarkFact) (k a : ℕ) (values : List ℤ) → SuccessorsTell book marks k a values }
-{
-    successors_are_links();
-    rows_rise();
-    usable_decides();
-    limits_decide();
-}
-
-/// Where an activity is not alive, there is no floor.
-pub fn no_floor_without()
-    ensures { NoFloorWithout }
-{
-    floors_are_least();
 }
 
 /// A propagator that is kept for marks is kept for them with more facts behind theirs.

@@ -7,8 +7,6 @@ mod closing;
 mod dead_ends;
 mod dead_links;
 mod flags;
-mod floor_row;
-mod floors;
 mod hole;
 mod keeping;
 pub mod laws;

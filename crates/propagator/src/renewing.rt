@@ -9,19 +9,18 @@ ghost use Rattle.maint_counters.specs.inside.StepTable.{IsStepTableOf};
 ghost use Rattle.connection_net.specs.Net.{net_of};
 ghost use Rattle.branch_marks.specs.inside.MarkTables.{AreMarksOf};
 ghost use Rattle.branch_marks.specs.Floors.{floors};
-ghost use Rattle.propagator.specs.inside.FloorRow.{floor_in, IsSetAt, IsRowOf};
-ghost use Rattle.propagator.specs.inside.LeastOver.{floor_of};
+ghost use Rattle.floor_rows.specs.inside.FloorRow.{floor_in, IsSetAt, IsRowOf};
+ghost use Rattle.floor_rows.specs.inside.LeastOver.{floor_of};
 ghost use Rattle.propagator.specs.inside.Moves.{MovesFloors};
 ghost use Rattle.propagator.specs.inside.Touching.{IsAskedBelow, IsRenewing, IsTouched};
 
 use crate::flags::{set, set_all};
-use crate::floor_row::FloorRow;
-use crate::floors::put_floor;
-use crate::laws::{floors_are_least, successors_are_of_book};
 use branch_marks::Marks;
 use branch_marks::laws::{alive_decides, floors_count, may_end_decides, usable_decides};
 use connection_net::Net;
 use connection_net::laws::{predecessors_are_links, rows_for_each, successors_are_links};
+use floor_rows::laws::{brought_tells, floors_are_least, successors_are_of_book};
+use floor_rows::{FloorRow, put_floor};
 use maint_counters::StepTable;
 use tail_book::Book;
 
@@ -94,6 +93,7 @@ fn renew_floor(
     usable_decides();
     may_end_decides();
     floors_are_least();
+    brought_tells();
     if !due[b as usize] {
         return;
     }

@@ -10,7 +10,8 @@ ghost use Rattle.maint_counters.specs.inside.StepTable.{IsStepTableOf};
 ghost use Rattle.connection_net.specs.Net.{net_of};
 ghost use Rattle.branch_marks.specs.inside.MarkTables.{AreMarksOf};
 ghost use Rattle.branch_marks.specs.Floors.{floors};
-ghost use Rattle.propagator.specs.inside.FloorRow.{IsRowOf, AreRowsOf, ChangesOnly, floors_in};
+ghost use Rattle.floor_rows.specs.inside.FloorRow.{IsRowOf};
+ghost use Rattle.propagator.specs.inside.Rows.{AreRowsOf, ChangesOnly, floors_in};
 ghost use Rattle.propagator.specs.InTurn.{GrowInTurn};
 ghost use Rattle.propagator.specs.Keeping.{KeepsSeen};
 ghost use Rattle.propagator.specs.inside.Settling.{ActsOn, IsSettledFor, StandsFor, StandBelow};
@@ -19,7 +20,6 @@ ghost use Rattle.propagator.specs.inside.Touching.{IsReadyFor};
 ghost use Rattle.propagator.specs.inside.Work.{IsWorkOf};
 
 use crate::dead_ends::bar_dead;
-use crate::floor_row::FloorRow;
 use crate::laws::{same_dead, same_floors};
 use crate::renewing::renew_floors;
 use crate::touching::touch_since;
@@ -27,6 +27,7 @@ use crate::work::Work;
 use branch_marks::laws::floors_count;
 use branch_marks::{Fact, Marks};
 use connection_net::Net;
+use floor_rows::FloorRow;
 use maint_counters::StepTable;
 use tail_book::{Book, Memory};
 

@@ -1,8 +1,7 @@
 //! Small books, and what follows on them: each rule alone, the rules in order, and the least hole.
 
-ghost use Rattle.std.specs.Prelude.{◌≡◌, IfOk, IsTrue};
+ghost use Rattle.std.specs.Prelude.{◌≡◌, IfOk};
 ghost use Rattle.connection_net.specs.Net.{net_of};
-ghost use Rattle.branch_marks.specs.Facts.{IsFactOf};
 ghost use Rattle.branch_marks.specs.inside.MarkTables.{AreMarksOf};
 
 use crate::{Closed, close};
@@ -144,26 +143,13 @@ fn side_by_side(alloc: Global) -> Result<Book, Fail> {
     Ok(Book::new(flights, tails, rules).ok_or("no book")?)
 }
 
-// Whether the numbers in a fact are of the book.
-fn is_of(book: &Book, fact: Fact) -> bool
-    ensures { IsTrue result → IsFactOf book.now fact }
-{
-    let (m, n) = (book.tails.len() as u64, book.activities.len() as u64);
-    match fact {
-        Fact::Bar(k, a) => (k as u64) < m && (a as u64) < n,
-        Fact::Must(k, a) => (k as u64) < m && (a as u64) < n,
-        Fact::Cut(a, b) => (a as u64) < n && (b as u64) < n,
-        Fact::Tie(a, b) => (a as u64) < n && (b as u64) < n,
-    }
-}
-
 // Marks with these facts.
 fn marks(alloc: Global, book: &Book, facts: &[Fact]) -> Result<Marks, Fail>
     ensures { IfOk result (AreMarksOf book.now) }
 {
     let mut marks = Marks::new(alloc, book)?;
     for fact in facts {
-        if is_of(book, *fact) {
+        if fact.is_of(book) {
             marks.add(book, *fact)?;
         }
     }

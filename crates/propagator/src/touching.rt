@@ -11,19 +11,20 @@ ghost use Rattle.branch_marks.specs.declared.fact.Fact.{Fact as MarkFact};
 ghost use Rattle.branch_marks.specs.declared.fact.Fact.TheVariants.{Bar as FactBar, Must as FactMust, Cut as FactCut, Tie as FactTie};
 ghost use Rattle.branch_marks.specs.Facts.{IsFactOf};
 ghost use Rattle.branch_marks.specs.inside.MarkTables.{AreMarksOf};
-ghost use Rattle.propagator.specs.inside.FloorRow.{IsRowOf};
+ghost use Rattle.floor_rows.specs.inside.FloorRow.{IsRowOf};
 ghost use Rattle.propagator.specs.inside.Moves.{LosesFloors};
 ghost use Rattle.propagator.specs.inside.Touching.{IsTouched, IsReadyFor, LosesOnly, Touches};
 
 use crate::flags::{clear, set, set_all, set_each, set_from};
-use crate::floor_row::FloorRow;
-use crate::laws::{
-    bars_leave_others, floors_are_least, predecessors_are_of_book, successors_are_of_book,
-};
+use crate::laws::bars_leave_others;
 use branch_marks::laws::{alive_decides, may_end_decides, usable_decides};
 use branch_marks::{Fact, Marks};
 use connection_net::Net;
 use connection_net::laws::{predecessors_are_links, rows_for_each, successors_are_links};
+use floor_rows::FloorRow;
+use floor_rows::laws::{
+    brought_tells, floors_are_least, predecessors_are_of_book, successors_are_of_book,
+};
 use tail_book::Book;
 
 // An aircraft loses an activity. Where it could not come there, and nothing was to be asked, it did not have it.
@@ -53,6 +54,7 @@ fn lose(
     predecessors_are_links();
     usable_decides();
     may_end_decides();
+    brought_tells();
     if !row.has(c as usize) && !ask[c as usize] {
         return;
     }
@@ -85,6 +87,7 @@ fn touch_bar(
     bars_leave_others();
     usable_decides();
     may_end_decides();
+    brought_tells();
     if j == k {
         lose(book, net, k, c, row, due, ask);
     }
@@ -113,6 +116,7 @@ fn touch_must(
 {
     usable_decides();
     may_end_decides();
+    brought_tells();
     if j == k {
         set_from(c as usize + 1, due);
         set_each(ask);
@@ -139,6 +143,7 @@ fn touch_cut(
 {
     usable_decides();
     may_end_decides();
+    brought_tells();
     set(d, due);
     set(c, ask);
 }
@@ -168,6 +173,7 @@ fn touch_tie(
     predecessors_are_links();
     usable_decides();
     may_end_decides();
+    brought_tells();
     set_all(net.successors(c), due);
     set(d, due);
     set_all(net.predecessors(d), ask);
@@ -254,6 +260,7 @@ pub fn touch_since(
 {
     alive_decides();
     floors_are_least();
+    brought_tells();
     marks.facts_are_of_book(book);
     match seen {
         None => {

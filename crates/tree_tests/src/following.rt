@@ -16,71 +16,18 @@ ghost use Rattle.branch_marks.specs.inside.FollowingTests.{follows};
 ghost use Rattle.branch_marks.specs.inside.MarkTables.{AreMarksOf};
 ghost use Rattle.branch_marks.specs.inside.MarkTests.{is_usable};
 ghost use Rattle.branch_marks.specs.inside.TreeTests.{is_hole};
-ghost use Rattle.floor_rows.specs.inside.FloorRow.{IsRowOf, floor_in};
+ghost use Rattle.floor_rows.specs.inside.FloorRow.{IsRowOf};
 ghost use Rattle.floor_rows.specs.inside.LeastOver.{floor_of};
-ghost use Rattle.floor_rows.specs.inside.Neighbours.{goes_on_from, goes_on_to};
+ghost use Rattle.floor_rows.specs.inside.Neighbours.{goes_on_to};
 ghost use Rattle.tree_tests.specs.inside.Means.{AreMeansOf};
 
 use crate::means::Means;
 use branch_marks::laws::{alive_decides, follows_decides, usable_decides};
 use branch_marks::{Fact, Marks, Pair};
-use connection_net::laws::rows_for_each;
-use floor_rows::laws::{successors_are_of_book, successors_tell};
-use floor_rows::{FloorRow, goes_on_over, goes_to, put_floors};
+use floor_rows::laws::successors_tell;
+use floor_rows::{FloorRow, goes_on, goes_on_over, put_floors};
 use tail_book::laws::{every_book_is_sound, limits_decide};
 use tail_book::{Book, Place};
-
-// Whether an aircraft can go on from an activity to another one, by its floor there.
-fn goes_on_to(
-    book: &Book,
-    means: &Means,
-    marks: &Marks,
-    k: u32,
-    a: u32,
-    b: u32,
-    row: &FloorRow,
-    values: &mut [i64],
-) -> bool
-    requires means { AreMeansOf book.now means.now }
-    requires marks { AreMarksOf book.now marks.now }
-    requires aircraft { k < aircraft book.now }
-    requires place { a < activities book.now }
-    requires activity { b < activities book.now }
-    requires row { IsRowOf book.now row.now }
-    requires width { length values.old ≡ length book.now.rules.counters }
-    ensures { (low : List ℤ) → floor_in row.now a ≡ Some low → result ≡ goes_on_to book.now marks.now.facts k a low b }
-{
-    row.read(a as usize, values)
-        && goes_to(book, &means.steps, marks, k, Place::After(a), b, values)
-}
-
-// Whether an aircraft can go on from an activity, by its floor there.
-fn goes_on(
-    book: &Book,
-    means: &Means,
-    marks: &Marks,
-    k: u32,
-    a: u32,
-    row: &FloorRow,
-    values: &mut [i64],
-) -> bool
-    requires means { AreMeansOf book.now means.now }
-    requires marks { AreMarksOf book.now marks.now }
-    requires aircraft { k < aircraft book.now }
-    requires activity { a < activities book.now }
-    requires row { IsRowOf book.now row.now }
-    requires width { length values.old ≡ length book.now.rules.counters }
-    ensures { (low : List ℤ) → floor_in row.now a ≡ Some low → result ≡ goes_on_from book.now marks.now.facts k a low }
-{
-    rows_for_each();
-    successors_are_of_book();
-    for b in means.net.successors(a) {
-        if goes_on_to(book, means, marks, k, a, *b, row, values) {
-            return true;
-        }
-    }
-    false
-}
 
 // Whether an activity is dead for an aircraft.
 // Where the aircraft may end is asked before where it may go on, since it takes no step.
@@ -114,7 +61,7 @@ fn is_dead(
     if marks.may_end(book, k, Place::After(a)) {
         return false;
     }
-    !goes_on(book, means, marks, k, a, row, values)
+    !goes_on(book, &means.net, &means.steps, marks, k, a, row, values)
 }
 
 // The only carrier of an activity, if there is one that no Must names yet.

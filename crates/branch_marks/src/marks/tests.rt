@@ -363,6 +363,34 @@ fn each_fact_is_there(rt: HostRuntime) -> Result<(), Fail> {
     Ok(())
 }
 
+// What adding a fact twice to marks without facts answers, and whether a copy that is made then has it alone.
+fn copied(alloc: Global, book: &Book, fact: Fact) -> Result<Option<(Added, Added, bool)>, Fail> {
+    let mut marks = Marks::new(alloc, book)?;
+    if !fact.is_of(book) {
+        return Ok(None);
+    }
+    let first = marks.add(book, fact)?;
+    let second = marks.add(book, fact)?;
+    let copy = marks.copy()?;
+    Ok(Some((first, second, copy.facts() == [fact].as_slice())))
+}
+
+// New, then known; and a copy has it, once.
+#[test]
+fn copy_has_what_was_added(rt: HostRuntime) -> Result<(), Fail> {
+    let book = book(rt.alloc())?;
+    for fact in [
+        Fact::Bar(0, 1),
+        Fact::Must(1, 4),
+        Fact::Cut(0, 1),
+        Fact::Tie(0, 3),
+    ] {
+        let answer = copied(rt.alloc(), &book, fact)?;
+        assert_eq!(rt; answer, Some((Added::New, Added::Known, true)), "{fact:?}");
+    }
+    Ok(())
+}
+
 // The last facts of marks and of a copy of them, each of which got a fact that the other did not.
 fn parted(
     alloc: Global,

@@ -2,10 +2,11 @@
 use Rattle.std.specs.Prelude.{ℕ, ℤ, ◌≡◌, ◌<◌, false, List, [], ◌∷◌, Option, Some, None}
 use Rattle.std.specs.List.{range_with_len}
 use Rattle.tail_book.specs.Seen.{BookSeen}
+use Rattle.tail_book.specs.declared.place.Place.{Place}
 use Rattle.tail_book.specs.declared.place.Place.TheVariants.{Carry, After}
 use Rattle.tail_book.specs.Lookup.{activities, carry_of}
 use Rattle.branch_marks.specs.declared.fact.Fact.{Fact}
-use Rattle.branch_marks.specs.inside.MarkTests.{is_alive}
+use Rattle.branch_marks.specs.inside.MarkTests.{is_alive, is_usable}
 use Rattle.branch_marks.specs.Floors.{lesser_floor, stepped_floor, floor_at}
 
 -- the floor of aircraft k at activity a
@@ -42,3 +43,12 @@ LeastAreFloors = (book : BookSeen) (marks : List Fact) (k : ℕ) (floor : ℕ �
 -- where an activity is not alive, there is no floor
 abbrev pub NoFloorWithout : Type 0
 NoFloorWithout = (book : BookSeen) (marks : List Fact) (k b : ℕ) → b < activities book → is_alive book marks k b ≡ false → floor_of book marks k b ≡ None
+
+-- a link that is not usable brings nothing, nothing is brought to what is not alive, and where the same is brought the least
+-- is the same
+pub record BroughtTells : Type 0 where
+  pub unusable : (book : BookSeen) (marks : List Fact) (k : ℕ) (x : Place) (b : ℕ) (floor : Option (List ℤ))
+      → is_usable book marks k x b ≡ false → stepped_floor book marks k x b floor ≡ None
+  pub without : (book : BookSeen) (marks : List Fact) (k b : ℕ) (floor : ℕ → Option (List ℤ)) → is_alive book marks k b ≡ false → least_at book marks k floor b ≡ None
+  pub same : (book : BookSeen) (old new : List Fact) (k b : ℕ) (f g : ℕ → Option (List ℤ)) → brought_first book new k b ≡ brought_first book old k b
+      → ((x : ℕ) → x < b → brought book new k b g x ≡ brought book old k b f x) → least_at book new k g b ≡ least_at book old k f b

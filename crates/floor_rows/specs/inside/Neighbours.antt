@@ -35,6 +35,10 @@ goes_on_from book marks k a values = list_any (goes_on_to book marks k a values)
 abbrev pub SuccessorsAreOfBook : Type 0
 SuccessorsAreOfBook = (book : BookSeen) (a : ℕ) → All (λ b. b < activities book) (successors_in (net_of book) a)
 
+-- and so are predecessors
+abbrev pub PredecessorsAreOfBook : Type 0
+PredecessorsAreOfBook = (book : BookSeen) (b : ℕ) → All (λ a. a < activities book) (predecessors_in (net_of book) b)
+
 -- successors tell whether the aircraft can go on at all
 pub record SuccessorsTell (book : BookSeen) (marks : List Fact) (k a : ℕ) (values : List ℤ) : Type 0 where
   pub goes : goes_on_from book marks k a values ≡ true → ¬ NoneGoesOn book marks k a values

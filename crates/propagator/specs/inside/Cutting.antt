@@ -5,7 +5,8 @@ use Rattle.tail_book.specs.Lookup.{aircraft}
 use Rattle.branch_marks.specs.declared.fact.Fact.{Fact}
 use Rattle.branch_marks.specs.Floors.{floors}
 use Rattle.branch_marks.specs.Following.{Follows}
-use Rattle.propagator.specs.inside.FloorRow.{FloorRowSeen, floors_in}
+use Rattle.floor_rows.specs.inside.FloorRow.{FloorRowSeen}
+use Rattle.propagator.specs.inside.Rows.{floors_in}
 
 -- the rows have the floors of all aircraft
 abbrev pub AreFloorsOf : BookSeen → List Fact → List FloorRowSeen → Type 0

@@ -1,6 +1,7 @@
 -- Which floors became others than they were: flags of activities, for all aircraft together.
 use Rattle.std.specs.Prelude.{ℕ, ◌≡◌, ◌⊎◌, List, Bool, false, None, slice_index_or}
-use Rattle.propagator.specs.inside.FloorRow.{FloorRowSeen, floor_in, floors_in}
+use Rattle.floor_rows.specs.inside.FloorRow.{FloorRowSeen, floor_in}
+use Rattle.propagator.specs.inside.Rows.{floors_in}
 use Rattle.propagator.specs.inside.Touching.{is_set}
 
 -- no flag is taken back

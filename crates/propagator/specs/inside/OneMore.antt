@@ -8,7 +8,7 @@ use Rattle.tail_book.specs.inside.Sound.{IsBook}
 use Rattle.branch_marks.specs.declared.fact.Fact.{Fact}
 use Rattle.branch_marks.specs.declared.fact.Fact.TheVariants.{Bar, Cut}
 use Rattle.branch_marks.specs.Following.{IsDead, IsDeadConnection, Follows}
-use Rattle.propagator.specs.inside.LeastOver.{floor_of}
+use Rattle.floor_rows.specs.inside.LeastOver.{floor_of}
 
 -- a Bar that follows takes the floor at its activity, and leaves its aircraft all others
 abbrev pub BarsTakeOneFloor : Type 0

@@ -6,7 +6,8 @@ use Rattle.branch_marks.specs.declared.fact.Fact.{Fact}
 use Rattle.branch_marks.specs.inside.MarkTests.{is_alive}
 use Rattle.branch_marks.specs.Following.{IsDead}
 use Rattle.branch_marks.specs.Floors.{floors}
-use Rattle.propagator.specs.inside.FloorRow.{FloorRowSeen, floors_in}
+use Rattle.floor_rows.specs.inside.FloorRow.{FloorRowSeen}
+use Rattle.propagator.specs.inside.Rows.{floors_in}
 use Rattle.propagator.specs.inside.SameFor.{SameFor}
 
 -- new marks that leave all but aircraft k the same, and make nothing alive for k

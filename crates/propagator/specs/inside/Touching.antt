@@ -7,9 +7,9 @@ use Rattle.tail_book.specs.Numbers.{contains}
 use Rattle.branch_marks.specs.declared.fact.Fact.{Fact}
 use Rattle.branch_marks.specs.inside.MarkTests.{is_alive, lets_go, lets_end}
 use Rattle.branch_marks.specs.Following.{IsDeadBy, IsDead}
-use Rattle.propagator.specs.inside.FloorRow.{FloorRowSeen, floor_in, IsRowOf}
+use Rattle.floor_rows.specs.inside.FloorRow.{FloorRowSeen, floor_in, IsRowOf}
 use Rattle.branch_marks.specs.Floors.{floors}
-use Rattle.propagator.specs.inside.LeastOver.{floor_of, least_at}
+use Rattle.floor_rows.specs.inside.LeastOver.{floor_of, least_at}
 use Rattle.propagator.specs.inside.Settling.{IsSettledFor}
 
 -- the flag of a number

@@ -7,7 +7,7 @@ ghost use Rattle.branch_marks.specs.inside.MarkTables.{AreMarksOf};
 ghost use Rattle.branch_marks.specs.declared.fact.Fact.{Fact as MarkFact};
 ghost use Rattle.propagator.specs.Keeping.{IsKeptFor, IsMadeFor};
 
-use super::{closed, flight, is_of, rules, tail};
+use super::{closed, flight, rules, tail};
 use crate::laws::kept_for_more;
 use crate::{Closed, Propagator, close};
 use branch_marks::{Fact, Marks};
@@ -481,7 +481,7 @@ fn plans(book: &Book, facts: &[Fact], added: &[Fact]) -> (u32, bool) {
 fn of_book(alloc: Global, book: &Book, facts: &[Fact]) -> Result<Vec<Fact>, Memory> {
     let mut kept = Vec::new(alloc);
     for fact in facts {
-        if is_of(book, *fact) && !kept.contains(fact) {
+        if fact.is_of(book) && !kept.contains(fact) {
             kept.push(*fact)?;
         }
     }
@@ -604,7 +604,7 @@ fn add(book: &Book, marks: &mut Marks, kept: &Propagator, fact: Fact) -> Result<
     ensures kept { IsKeptFor book.now marks.new.facts kept.now }
 {
     kept_for_more();
-    if is_of(book, fact) {
+    if fact.is_of(book) {
         marks.add(book, fact)?;
     }
     Ok(())

@@ -1,4 +1,4 @@
-use Rattle.floor_rows.proofs.NotAlive.{none_without}
+use Rattle.floor_rows.proofs.Brought.{none_without}
 use Rattle.floor_rows.proofs.laws.no_floor_without.Goals as goal
 
 pub returns : goal.returns

@@ -1,6 +1,6 @@
 use Rattle.std.specs.Prelude.{All}
 use Rattle.std.proofs.Common.{◌≡◌, length}
-use Rattle.propagator.specs.inside.FloorRow.{IsRowOf}
+use Rattle.floor_rows.specs.inside.FloorRow.{IsRowOf}
 use Rattle.propagator.proofs.closing.all_rows.Given as goal
 
 -- each row has room for the book's floors

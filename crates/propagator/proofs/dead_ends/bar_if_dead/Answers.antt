@@ -4,7 +4,7 @@ use Rattle.connection_net.specs.Seen.{NetSeen}
 use Rattle.connection_net.specs.Net.{predecessors_in}
 use Rattle.branch_marks.specs.declared.fact.Fact.{Fact}
 use Rattle.branch_marks.specs.Floors.{floors}
-use Rattle.propagator.specs.inside.FloorRow.{FloorRowSeen}
+use Rattle.floor_rows.specs.inside.FloorRow.{FloorRowSeen}
 use Rattle.propagator.specs.inside.Touching.{IsAskedBelow}
 use Rattle.propagator.proofs.SetFlags.{set_by}
 use Rattle.propagator.proofs.DeadEnds.{end_floors, bar_asked, not_asked}

@@ -1,7 +1,7 @@
 use Rattle.std.proofs.Common.{◌∙◌, ℤ, List, Option, None, false, ap, get_or, refl, sym}
 use Rattle.std.specs.Prelude.{is_some}
 use Rattle.std.proofs.lemmas.Bool.{both_ways}
-use Rattle.propagator.specs.inside.LeastOver.{floor_of}
+use Rattle.floor_rows.specs.inside.LeastOver.{floor_of}
 use Rattle.propagator.proofs.Arriving.{dead_arrival}
 use Rattle.propagator.proofs.DeadEnds.{end_tells}
 use Rattle.propagator.proofs.dead_ends.is_dead.Goals as goal

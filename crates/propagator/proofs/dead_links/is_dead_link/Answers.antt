@@ -4,7 +4,7 @@ use Rattle.tail_book.specs.Seen.{BookSeen}
 use Rattle.tail_book.specs.declared.place.Place.TheVariants.{After}
 use Rattle.tail_book.specs.Lookup.{aircraft}
 use Rattle.branch_marks.specs.inside.MarkTests.{is_usable}
-use Rattle.propagator.specs.inside.FloorRow.{floor_in}
+use Rattle.floor_rows.specs.inside.FloorRow.{floor_in}
 use Rattle.propagator.proofs.DeadLinks.{goes_on_over, cannot_over, by_step, row_floor, asked_used, asked_unused, asked_on, asked_none}
 use Rattle.propagator.proofs.dead_links.is_dead_link.Goals as goal
 use Rattle.propagator.proofs.dead_links.is_dead_link.Goals.{then-usable+else-goes_on_over, else-usable}

@@ -8,17 +8,17 @@ use Rattle.propagator.proofs.renewing.renew_floor.Goals as goal
 
 pub returns-then-not-due-b-clause-renewing : goal.returns-then-not-due-b-clause-renewing
 returns-then-not-due-b-clause-renewing c =
-    renew_not c.args.book.now c.args.marks.now.facts c.args.k c.args.b c.floors_are_least.ensures c.args.row.now c.args.due.now c.args.ask.now
+    renew_not c.args.book.now c.args.marks.now.facts c.args.k c.args.b c.brought_tells.ensures c.floors_are_least.ensures c.args.row.now c.args.due.now c.args.ask.now
     c.requires.activity c.if-not-due-b.true c.requires.renewing
 
 pub returns-then-not-rewrite-clause-renewing : goal.returns-then-not-rewrite-clause-renewing
 returns-then-not-rewrite-clause-renewing c =
-    renew_same c.args.book.now c.args.marks.now.facts c.args.k c.args.b c.usable_decides.ensures c.may_end_decides.ensures c.args.row.now c.rewrite.new.row
+    renew_same c.args.book.now c.args.marks.now.facts c.args.k c.args.b c.brought_tells.ensures c.usable_decides.ensures c.may_end_decides.ensures c.args.row.now c.rewrite.new.row
     c.args.due.now c.args.ask.now c.if-not-rewrite.ensures.set (c.if-not-rewrite.ensures.same refl) c.requires.renewing
 
 pub returns-clause-renewing : goal.returns-clause-renewing
 returns-clause-renewing c =
-    renew_other c.args.book.now c.args.marks.now.facts c.args.k c.args.b c.successors_are_links.ensures c.predecessors_are_links.ensures
+    renew_other c.args.book.now c.args.marks.now.facts c.args.k c.args.b c.brought_tells.ensures c.successors_are_links.ensures c.predecessors_are_links.ensures
     c.usable_decides.ensures c.may_end_decides.ensures c.args.row.now c.rewrite.new.row c.args.due.now c.set_all.new.flags c.args.ask.now c.set.new.flags
     c.if-not-due-b.false c.if-not-rewrite.ensures.set
     (set_by c.successors.result.now _ _ _ (c.successors.ensures ∙ ap (λ (net : NetSeen). successors_in net c.args.b) c.requires.net) c.set_all.ensures)

@@ -12,7 +12,7 @@ returns-then-j-k-clause-touches c marks was =
 
 pub returns-else-j-k-clause-touches : goal.returns-else-j-k-clause-touches
 returns-else-j-k-clause-touches c marks was =
-    bar_touches_not c.usable_decides.ensures c.may_end_decides.ensures c.args.book.now marks c.args.k c.args.j c.args.c c.args.row.now c.args.due.now c.args.ask.now
+    bar_touches_not c.brought_tells.ensures c.usable_decides.ensures c.may_end_decides.ensures c.args.book.now marks c.args.k c.args.j c.args.c c.args.row.now c.args.due.now c.args.ask.now
     (c.bars_leave_others.ensures c.args.book.now marks c.args.j c.args.c c.args.k (λ same. c.if-j-k.false (sym same))) was
 
 pub returns-else-j-k-clause-loses : goal.returns-else-j-k-clause-loses

@@ -1,5 +1,5 @@
 use Rattle.std.proofs.Common.{take}
-use Rattle.propagator.specs.inside.FloorRow.{IsRowOf}
+use Rattle.floor_rows.specs.inside.FloorRow.{IsRowOf}
 use Rattle.propagator.specs.inside.Moves.{LosesFloors}
 use Rattle.propagator.specs.inside.Touching.{IsTouched}
 use Rattle.propagator.proofs.touching.touch_each.Given as goal

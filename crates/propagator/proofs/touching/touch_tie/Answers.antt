@@ -10,7 +10,7 @@ use Rattle.propagator.proofs.touching.touch_tie.Goals as goal
 pub returns : goal.returns
 returns c =
     let touches : Touches c.args.book.now c.args.k (Tie c.args.c c.args.d) c.args.row.now c.args.due.now c.args.ask.now c.args.row.now c.set.new.flags c.set-2.new.flags = λ marks was.
-    tie_touches c.usable_decides.ensures c.may_end_decides.ensures c.args.book.now marks c.args.k c.args.c c.args.d
+    tie_touches c.brought_tells.ensures c.usable_decides.ensures c.may_end_decides.ensures c.args.book.now marks c.args.k c.args.c c.args.d
     c.successors_are_links.ensures c.predecessors_are_links.ensures c.args.row.now
     c.args.due.now c.set_all.new.flags c.set.new.flags c.args.ask.now c.set_all-2.new.flags c.set-2.new.flags
     (set_by c.successors.result.now _ _ _ (c.successors.ensures ∙ ap (λ (net : NetSeen). successors_in net c.args.c) c.requires.net) c.set_all.ensures)

@@ -1,5 +1,0 @@
-use Rattle.propagator.proofs.NotAlive.{none_without}
-use Rattle.propagator.proofs.laws.no_floor_without.Goals as goal
-
-pub returns : goal.returns
-returns c = none_without c.floors_are_least.ensures

@@ -1,5 +1,0 @@
-use Rattle.propagator.proofs.Neighbours.{come_before}
-use Rattle.propagator.proofs.laws.predecessors_come_before.Goals as goal
-
-pub returns : goal.returns
-returns c = come_before c.predecessors_are_links.ensures c.links_rise.ensures c.rows_rise.ensures

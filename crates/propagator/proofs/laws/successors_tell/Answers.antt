@@ -1,5 +1,0 @@
-use Rattle.propagator.proofs.Neighbours.{tell}
-use Rattle.propagator.proofs.laws.successors_tell.Goals as goal
-
-pub returns : goal.returns
-returns c = tell c.successors_are_links.ensures c.rows_rise.ensures c.usable_decides.ensures c.limits_decide.ensures
