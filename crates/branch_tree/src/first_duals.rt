@@ -41,8 +41,8 @@ fn within_box(table: &CostTable, cost: u64) -> i64
     if dual < end as u64 { dual as i64 } else { end }
 }
 
-// Puts a dual at the end of a list.
-fn push_dual(duals: &mut Vec<i64>, dual: &i64) -> Result<(), Memory>
+/// Puts a dual at the end of a list.
+pub fn push_dual(duals: &mut Vec<i64>, dual: &i64) -> Result<(), Memory>
     ensures { OnOk result (duals.new.items ≡ duals.old.items ++ dual.now ∷ []) }
 {
     duals.push(*dual)?;

@@ -2,7 +2,7 @@
 //!
 //! Nothing is told of an end before it is certain. What was told before a stop is a front of a begun tree at the node.
 
-ghost use Rattle.std.specs.Prelude.{◌≡◌, ◌≤◌, [], ◌∷◌, IfOk, OnErr, IsErrOf};
+ghost use Rattle.std.specs.Prelude.{◌≡◌, ◌≤◌, [], ◌∷◌, IfOk, IfSome, OnErr, IsErrOf};
 ghost use Rattle.tail_book.specs.inside.CostTable.{IsTableFor};
 ghost use Rattle.connection_net.specs.Net.{net_of};
 ghost use Rattle.branch_marks.specs.Settled.{AreDuals};
@@ -19,10 +19,12 @@ use crate::ending::note_end;
 use crate::first_duals::first_duals;
 use crate::rounds::ascend;
 use crate::settled::settle_node;
+use crate::shortage::shortage_duals;
 use crate::shutting::{keep_fitting, shut_and_tell};
 use crate::step::End;
 use crate::telling::note_one;
-use crate::{Best, NodeTools, Step, Stop};
+use crate::weighing::{Weighed, weigh};
+use crate::{Best, NodePricer, NodeTools, Step, Stop};
 use branch_marks::{Event, Marks, TreeLog};
 use connection_net::Net;
 use dive_heuristic::{Dive, dive};
@@ -32,35 +34,97 @@ use std::alloc::Global;
 use tail_book::laws::every_book_is_sound;
 use tail_book::{Book, CostTable, Duals, Memory};
 
-// First duals at the root, and a dive from there under them, whose plan lowers the target.
+// The end of the root, where counting shows that aircraft are short. The duals that show it are priced like others.
+fn try_shortage(
+    alloc: Global,
+    book: &Book,
+    table: &CostTable,
+    net: &Net,
+    marks: &Marks,
+    pool: &Pool,
+    duals: &mut Duals,
+    best: &mut Best,
+    prices: &mut NodePricer,
+) -> Result<Option<End>, Memory>
+    requires ready { IsReady table.now book.now net.now marks.now prices.old }
+    requires duals { AreDuals table.now book.now duals.old.values }
+    requires best { IsBest table.now book.now best.old.plan best.old.target }
+    ensures end { IfOk result (λ end. IfSome end (IsEndFound table.now book.now marks.now.facts duals.new.values best.new.target)) }
+    ensures ready { IsReady table.now book.now net.now marks.now prices.new }
+    ensures duals { AreDuals table.now book.now duals.new.values }
+    ensures best { IsBest table.now book.now best.new.plan best.new.target }
+    ensures falls { best.new.target ≤ best.old.target }
+{
+    let Some(found) = shortage_duals(alloc, book, table)? else {
+        return Ok(None);
+    };
+    duals.values = found.values;
+    match weigh(alloc, book, table, net, marks, pool, duals, best, prices)? {
+        Weighed::Ended(end) => Ok(Some(end)),
+        Weighed::Open(_) => Ok(None),
+    }
+}
+
+// First duals at the root, and a dive from there under them, whose plan lowers the target. The root may end before that.
 fn begin_root(
     alloc: Global,
     book: &Book,
     table: &CostTable,
     net: &Net,
     marks: &Marks,
+    pool: &Pool,
     duals: &mut Duals,
     best: &mut Best,
-    is_root: bool,
-) -> Result<(), Memory>
-    requires table { IsTableFor book.now table.now }
-    requires net { net.now ≡ net_of book.now }
-    requires marks { AreMarksOf book.now marks.now }
+    prices: &mut NodePricer,
+) -> Result<Option<End>, Memory>
+    requires ready { IsReady table.now book.now net.now marks.now prices.old }
     requires duals { AreDuals table.now book.now duals.old.values }
     requires best { IsBest table.now book.now best.old.plan best.old.target }
+    ensures end { IfOk result (λ end. IfSome end (IsEndFound table.now book.now marks.now.facts duals.new.values best.new.target)) }
+    ensures ready { IsReady table.now book.now net.now marks.now prices.new }
     ensures duals { AreDuals table.now book.now duals.new.values }
     ensures best { IsBest table.now book.now best.new.plan best.new.target }
     ensures falls { best.new.target ≤ best.old.target }
 {
-    if !is_root {
-        return Ok(());
+    let end = try_shortage(alloc, book, table, net, marks, pool, duals, best, prices)?;
+    if end.is_some() {
+        return Ok(end);
     }
     duals.values = first_duals(alloc, book, table, marks)?.values;
     let answer = dive(alloc, book, table, net, marks, duals)?;
     if let Dive::Plan(plan, _) = &answer {
         best.try_routes(alloc, book, table, &plan.0)?;
     }
-    Ok(())
+    Ok(None)
+}
+
+// What the rounds of a node begin with. Only the root has something of its own.
+fn begin(
+    alloc: Global,
+    book: &Book,
+    table: &CostTable,
+    net: &Net,
+    marks: &Marks,
+    pool: &Pool,
+    duals: &mut Duals,
+    best: &mut Best,
+    prices: &mut NodePricer,
+    is_root: bool,
+) -> Result<Option<End>, Memory>
+    requires ready { IsReady table.now book.now net.now marks.now prices.old }
+    requires duals { AreDuals table.now book.now duals.old.values }
+    requires best { IsBest table.now book.now best.old.plan best.old.target }
+    ensures end { IfOk result (λ end. IfSome end (IsEndFound table.now book.now marks.now.facts duals.new.values best.new.target)) }
+    ensures ready { IsReady table.now book.now net.now marks.now prices.new }
+    ensures duals { AreDuals table.now book.now duals.new.values }
+    ensures best { IsBest table.now book.now best.new.plan best.new.target }
+    ensures falls { best.new.target ≤ best.old.target }
+{
+    if is_root {
+        begin_root(alloc, book, table, net, marks, pool, duals, best, prices)
+    } else {
+        Ok(None)
+    }
 }
 
 // The end of a node whose marks are shut, and in which no activity is a hole.
@@ -88,7 +152,21 @@ fn find_end(
     ensures best { IsBest table.now book.now best.new.plan best.new.target }
     ensures falls { best.new.target ≤ best.old.target }
 {
-    begin_root(alloc, book, table, net, marks, duals, best, is_root)?;
+    let begun = begin(
+        alloc,
+        book,
+        table,
+        net,
+        marks,
+        pool,
+        duals,
+        best,
+        &mut tools.prices,
+        is_root,
+    )?;
+    if let Some(end) = begun {
+        return Ok(end);
+    }
     let ascended = ascend(
         alloc,
         book,

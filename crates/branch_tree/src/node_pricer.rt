@@ -1,6 +1,8 @@
 //! Pricing at a node: each aircraft once, under the same marks and duals.
 //!
-//! What pricing reads of a book, and the room for labels, are made once and kept from node to node.
+//! Two ways lead to a least weight. Labels tell all that a certificate needs of it. A search within a cut is cheaper, and as
+//! exact: where it finds nothing within the cut, the labels decide. What both read of a book, and their room, are made once
+//! and kept from node to node.
 
 ghost use Rattle.std.specs.Prelude.{◌≡◌, ◌<◌, ◌++◌, ◌∷◌, [], IfOk, OnOk};
 ghost use Rattle.tail_book.specs.Lookup.{aircraft};
@@ -14,6 +16,7 @@ use branch_marks::Marks;
 use connection_net::Net;
 use label_store::Store;
 use pricing::{Priced, Pricer};
+use route_search::{Found, RouteSearch, Suggestions};
 use std::alloc::Global;
 use tail_book::{Book, CostTable, Duals, Memory, Route};
 
@@ -29,11 +32,14 @@ pub enum PricedAll {
     Stuck(u32),
 }
 
-/// Prices the aircraft of a node, and keeps the labels of the one that was priced last.
+/// Prices the aircraft of a node, and keeps the labels of the one that was priced for them last.
 #[derive(Debug, Drop)]
 pub struct NodePricer {
     pub pricer: Pricer,
     pub store: Store,
+    pub search: RouteSearch,
+    /// What the last search suggested.
+    pub suggested: Suggestions,
 }
 
 impl NodePricer {
@@ -44,7 +50,14 @@ impl NodePricer {
     {
         let pricer = Pricer::new(alloc, book, table)?;
         let store = Store::new(alloc, book.activities.len(), 1 + book.rules.counters.len())?;
-        Ok(NodePricer { pricer, store })
+        let search = RouteSearch::new(alloc, book)?;
+        let suggested = Suggestions::new(alloc);
+        Ok(NodePricer {
+            pricer,
+            store,
+            search,
+            suggested,
+        })
     }
 
     /// Prices an aircraft for its labels, which then stand in the store.
@@ -68,7 +81,34 @@ impl NodePricer {
             .price(book, table, net, marks, duals, k, &mut self.store)
     }
 
-    /// Prices all aircraft, up to one that is stuck.
+    // Prices an aircraft, by a search within the cut if that finds a route.
+    fn price_within(
+        &mut self,
+        book: &Book,
+        table: &CostTable,
+        net: &Net,
+        marks: &Marks,
+        duals: &Duals,
+        k: u32,
+        cut: i64,
+    ) -> Result<Priced, Memory>
+        requires ready { IsReady table.now book.now net.now marks.now self.old }
+        requires duals { AreDuals table.now book.now duals.now.values }
+        requires aircraft { k < aircraft book.now }
+        ensures price { IfOk result (IsPriceOf table.now book.now marks.now.facts k duals.now.values) }
+        ensures ready { IsReady table.now book.now net.now marks.now self.new }
+    {
+        let found = self
+            .search
+            .least_route(book, table, net, marks, duals, k, cut, 0)?;
+        match found {
+            Found::Best { value, route } => Ok(Priced::Best { value, route }),
+            Found::NoneWithin => self.fill(book, table, net, marks, duals, k),
+        }
+    }
+
+    /// Prices all aircraft, up to one that is stuck. The cuts only suggest: a route is looked for within the cut of its
+    /// aircraft, and only where there is none further out.
     pub fn price_all(
         &mut self,
         alloc: Global,
@@ -77,6 +117,7 @@ impl NodePricer {
         net: &Net,
         marks: &Marks,
         duals: &Duals,
+        cuts: &[i64],
     ) -> Result<PricedAll, Memory>
         requires ready { IsReady table.now book.now net.now marks.now self.old }
         requires duals { AreDuals table.now book.now duals.now.values }
@@ -86,7 +127,8 @@ impl NodePricer {
         let mut values = Vec::new(alloc);
         let mut routes = Vec::new(alloc);
         for k in 0..book.tails.len() as u32 {
-            let priced = self.fill(book, table, net, marks, duals, k)?;
+            let cut = cut_of(cuts, k);
+            let priced = self.price_within(book, table, net, marks, duals, k, cut)?;
             match priced {
                 Priced::Best { value, route } => push_best(
                     &mut values,
@@ -99,6 +141,11 @@ impl NodePricer {
         }
         Ok(PricedAll::Least { values, routes })
     }
+}
+
+// The cut of an aircraft, as far out as can be where it has none.
+fn cut_of(cuts: &[i64], k: u32) -> i64 {
+    cuts.get(k as usize).copied().unwrap_or(i64::MAX)
 }
 
 // Puts a value and a route that has it at the ends of their lists.

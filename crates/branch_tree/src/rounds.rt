@@ -1,7 +1,8 @@
-//! The rounds of a node: price exactly, add the routes to the pool, learn, and ascend over the pool, until the node can end or
-//! the ascent is over.
+//! The rounds of a node: price exactly, add the routes and what searches suggest to the pool, learn, and ascend over the pool,
+//! until the node can end or the ascent is over.
 //!
 //! Most nodes end here, by a bound that reaches the target. Duals only suggest: what a round finds is judged by exact pricing.
+//! A route of each aircraft would do, but several a round save most of the rounds.
 
 ghost use Rattle.std.specs.Prelude.{◌≡◌, ◌≤◌, IfOk, IfSome};
 ghost use Rattle.tail_book.specs.inside.CostTable.{IsTableFor};
@@ -23,15 +24,23 @@ use pool_plans::find_plan;
 use restricted_master::Pool;
 use std::alloc::Global;
 use tail_book::laws::{every_book_is_sound, legal_routes_rise};
-use tail_book::{Book, CostTable, Duals, Memory};
+use tail_book::{Book, COST_UNIT, CostTable, Duals, Memory};
 
-// The rounds of a node at most. An ascent is over before that.
+// The rounds of a node at most. An ascent from first duals is over before that.
 const MOST_ROUNDS: u32 = 200;
+
+const ROUNDS_BELOW: u32 = 30;
 
 // Plans are looked for in the pool from this temperature on, in thousandths of a cost unit, and for so many turns.
 const PLANS_BELOW: i64 = 12_000;
 
 const PLAN_TURNS: u64 = 2000;
+
+// Suggestions are looked for so many temperatures above the least weights.
+const SUGGESTED: i64 = 4;
+
+// The same while the pool is empty.
+const SUGGESTED_FIRST: i64 = 27;
 
 // Looks in the pool for a plan, once the ascent has cooled so far that light routes fit together.
 fn try_pool(
@@ -58,7 +67,13 @@ fn try_pool(
     Ok(())
 }
 
-// Prices the node, adds a route of each aircraft to the pool, and looks there for a plan that lowers the target.
+// How far above the least weights suggestions are looked for, in thousandths of a cost unit.
+fn slack_at(temperature: i64, is_first: bool) -> u32 {
+    let times = if is_first { SUGGESTED_FIRST } else { SUGGESTED };
+    temperature.saturating_mul(times).clamp(0, 1 << 31) as u32
+}
+
+// Prices the node, adds to the pool a route of each aircraft and what else is suggested, and looks there for a plan that lowers the target.
 fn look(
     alloc: Global,
     book: &Book,
@@ -83,11 +98,24 @@ fn look(
 {
     every_book_is_sound(book);
     legal_routes_rise();
-    let found = match weigh(alloc, book, table, net, marks, duals, best, prices)? {
+    let found = match weigh(alloc, book, table, net, marks, pool, duals, best, prices)? {
         Weighed::Ended(end) => return Ok(Weighed::Ended(end)),
         Weighed::Open(found) => found,
     };
+    let is_first = pool.count() == 0;
     let _ = add_routes(book, table, pool, &found.routes)?;
+    let slack = slack_at(temperature, is_first);
+    prices.suggest_all(
+        alloc,
+        book,
+        table,
+        net,
+        marks,
+        duals,
+        pool,
+        &found.values,
+        slack,
+    )?;
     try_pool(alloc, book, table, pool, duals, best, temperature)?;
     if passes(found.sum, best.target) {
         return Ok(Weighed::Ended(End::Bounded(found.values)));
@@ -144,6 +172,31 @@ fn round(
     }
 }
 
+// An ascent for a node: from first duals where the pool is empty, as at the root, and else from duals that are good for the
+// node above.
+fn begin_ascent(
+    alloc: Global,
+    table: &CostTable,
+    duals: &Duals,
+    is_below: bool,
+) -> Result<Ascent, Memory>
+    ensures { IfOk result (λ ascent. ascent.best ≡ duals.now.values) }
+{
+    if is_below {
+        Ascent::again(alloc, table, duals)
+    } else {
+        Ascent::new(alloc, table, duals)
+    }
+}
+
+// Whether no more rounds are worth their time. Below the root they are for a bound that reaches the target alone.
+fn is_over(book: &Book, ascent: &Ascent, target: u64, is_below: bool) -> bool {
+    let goal = i128::from(target)
+        .saturating_sub(1)
+        .saturating_mul(i128::from(COST_UNIT));
+    ascent.is_over() || (is_below && ascent.falls_short(goal, book.tails.len()))
+}
+
 /// Ascends from duals, round by round. Without an end the duals are then the best that were priced.
 pub fn ascend(
     alloc: Global,
@@ -167,9 +220,11 @@ pub fn ascend(
     ensures best { IsBest table.now book.now best.new.plan best.new.target }
     ensures falls { best.new.target ≤ best.old.target }
 {
-    let mut ascent = Ascent::new(alloc, table, duals)?;
-    for _round in 0..MOST_ROUNDS {
-        if ascent.is_over() {
+    let is_below = pool.count() > 0;
+    let mut ascent = begin_ascent(alloc, table, duals, is_below)?;
+    let most = if is_below { ROUNDS_BELOW } else { MOST_ROUNDS };
+    for _round in 0..most {
+        if is_over(book, &ascent, best.target, is_below) {
             break;
         }
         let end = round(

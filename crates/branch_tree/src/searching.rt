@@ -12,9 +12,6 @@ ghost use Rattle.branch_tree.specs.Search.{IsSearched, EndsUnder};
 ghost use Rattle.branch_tree.specs.Stops.{StopsIn};
 ghost use Rattle.branch_tree.specs.inside.Searching.{outcome_for};
 
-#[cfg(test)]
-mod tests;
-
 use crate::closing::close;
 use crate::growing::grow;
 use crate::laws::search_trees_are_true;

@@ -50,7 +50,7 @@ fn begin(
 {
     every_book_is_sound(book);
     legal_routes_rise();
-    match weigh(alloc, book, table, net, marks, duals, best, prices)? {
+    match weigh(alloc, book, table, net, marks, pool, duals, best, prices)? {
         Weighed::Ended(end) => Ok(Some(end)),
         Weighed::Open(found) => {
             let _ = add_routes(book, table, pool, &found.routes)?;
@@ -95,6 +95,7 @@ fn turn(
         table,
         net,
         marks,
+        pool,
         duals,
         best,
         &mut tools.prices,

@@ -12,9 +12,11 @@ ghost use Rattle.branch_tree.specs.inside.Weighing.{IsWeighed};
 use crate::bounds::passes;
 use crate::leaf::lagrangian_of;
 use crate::step::End;
+use crate::suggesting::cuts_of;
 use crate::{Best, NodePricer, PricedAll};
 use branch_marks::Marks;
 use connection_net::Net;
+use restricted_master::Pool;
 use std::alloc::Global;
 use tail_book::laws::every_book_is_sound;
 use tail_book::{Book, CostTable, Duals, Memory, Route};
@@ -36,13 +38,14 @@ pub struct LeastRoutes {
     pub sum: i128,
 }
 
-/// Prices all aircraft. The target falls where their routes are a cheaper plan.
+/// Prices all aircraft, within what the pool's routes weigh where it has some. The target falls where their routes are a cheaper plan.
 pub fn weigh(
     alloc: Global,
     book: &Book,
     table: &CostTable,
     net: &Net,
     marks: &Marks,
+    pool: &Pool,
     duals: &Duals,
     best: &mut Best,
     prices: &mut NodePricer,
@@ -56,7 +59,8 @@ pub fn weigh(
     ensures falls { best.new.target ≤ best.old.target }
 {
     every_book_is_sound(book);
-    let priced = prices.price_all(alloc, book, table, net, marks, duals)?;
+    let cuts = cuts_of(alloc, book, pool, duals)?;
+    let priced = prices.price_all(alloc, book, table, net, marks, duals, &cuts)?;
     let (values, routes) = match priced {
         PricedAll::Stuck(k) => return Ok(Weighed::Ended(End::Stuck(k))),
         PricedAll::Least { values, routes } => (values, routes),

@@ -17,17 +17,30 @@ use std::alloc::Global;
 use std::marker::Model;
 use tail_book::{Book, CostTable, Duals, Memory};
 
-// In thousandths of a cost unit: the temperatures at the beginning and at the end, and how far duals are trusted.
-const HOTTEST: i64 = 15_000;
+// The temperature at the beginning is such a part of the mean of the first duals, which is as large as costs are, and lies
+// within these, in thousandths of a cost unit.
+const PART: u64 = 10;
 
+const MILDEST: u64 = 5_000;
+
+const HOTTEST: u64 = 1 << 31;
+
+// The temperature at the end.
 const COLDEST: i64 = 20;
 
-const FIRST_RADIUS: i64 = 60_000;
+// The same for duals that an ascent has been through, under fewer marks.
+const WARM: i64 = 1_000;
 
-const LAST_RADIUS: i64 = 500_000;
+const NEAR_RADIUS: i64 = 10_000;
+
+// How far duals are trusted at most.
+const LAST_RADIUS: i64 = 5_000_000;
 
 // So many rounds without a gain end the ascent.
 const STALLS: u32 = 4;
+
+// So many rounds without a gain cool the ascent, also where its sweeps have not come to rest.
+const PATIENCE: u32 = 2;
 
 // An ascent between two rounds of pricing cools at most so often.
 const COOLINGS: u32 = 32;
@@ -56,6 +69,16 @@ impl Model for Ascent {
     ghost view = { λ a. record { best = a.best.items; sum = a.sum } };
 }
 
+// The temperature at which an ascent from first duals begins.
+fn first_temperature(first: &Duals) -> i64 {
+    let mut sum = 0u64;
+    for dual in first.values.iter() {
+        sum = sum.saturating_add(dual.unsigned_abs());
+    }
+    let mean = sum / (first.values.len() as u64).max(1);
+    (mean / PART).clamp(MILDEST, HOTTEST) as i64
+}
+
 // Four times the most that an activity costs an aircraft, in thousandths of a cost unit.
 fn most_of(table: &CostTable) -> i64 {
     let mut most = 1u64;
@@ -71,11 +94,40 @@ impl Ascent {
         ensures first { IfOk result (λ ascent. ascent.best ≡ first.now.values) }
         ensures none { IfOk result (λ ascent. ascent.sum ≡ None) }
     {
+        let temperature = first_temperature(first);
+        Ascent::starting(
+            alloc,
+            table,
+            first,
+            temperature,
+            temperature.saturating_mul(2),
+        )
+    }
+
+    /// An ascent that goes on at duals with which an earlier one ended, where less was decided: it is cooler, and stays nearer.
+    pub fn again(alloc: Global, table: &CostTable, first: &Duals) -> Result<Ascent, Memory>
+        ensures first { IfOk result (λ ascent. ascent.best ≡ first.now.values) }
+        ensures none { IfOk result (λ ascent. ascent.sum ≡ None) }
+    {
+        Ascent::starting(alloc, table, first, WARM, NEAR_RADIUS)
+    }
+
+    // An ascent that begins at these duals and this temperature, and trusts duals so far.
+    fn starting(
+        alloc: Global,
+        table: &CostTable,
+        first: &Duals,
+        temperature: i64,
+        radius: i64,
+    ) -> Result<Ascent, Memory>
+        ensures first { IfOk result (λ ascent. ascent.best ≡ first.now.values) }
+        ensures none { IfOk result (λ ascent. ascent.sum ≡ None) }
+    {
         Ok(Ascent {
             powers: Powers::new(alloc)?,
             mixture: Mixture::new(alloc),
-            temperature: HOTTEST,
-            radius: FIRST_RADIUS,
+            temperature,
+            radius,
             most: most_of(table),
             best: first.values.clone()?,
             sum: None,
@@ -108,6 +160,13 @@ impl Ascent {
         self.temperature <= COLDEST && self.stalls >= STALLS
     }
 
+    /// Whether the pool promises so little that no sum of this size is near: three temperatures for each aircraft below it.
+    pub fn falls_short(&self, goal: i128, aircraft: usize) -> bool {
+        let room = (aircraft as i128).saturating_mul(self.temperature as i128 * 3);
+        self.promised
+            .is_some_and(|promised| promised.saturating_add(room) < goal)
+    }
+
     /// Learns the sum that exact pricing gives of duals. The best ones are kept.
     pub fn learn(&mut self, duals: &Duals, sum: i128)
         requires { length duals.now.values ≡ length self.old.best }
@@ -120,7 +179,17 @@ impl Ascent {
             self.sum = Some(sum);
             self.stalls = 0;
         } else {
-            self.stalls = self.stalls.saturating_add(1);
+            self.stall();
+        }
+    }
+
+    // Counts a round without a gain. After a few of them the pool at this temperature has nothing more to tell.
+    fn stall(&mut self)
+        ensures { self.new ≡ self.old }
+    {
+        self.stalls = self.stalls.saturating_add(1);
+        if self.stalls >= PATIENCE {
+            self.cool();
         }
     }
 
@@ -197,14 +266,13 @@ impl Ascent {
         Ok(is_still)
     }
 
-    // Whether the pool promises so little more than the best sum that it is time to cool: three tenths of the temperature
-    // for each aircraft.
+    // Whether the pool promises so little more than the best sum that it is time to cool: two temperatures for each aircraft.
     fn is_near(&self, aircraft: usize) -> bool {
         let (Some(promised), Some(best)) = (self.promised, self.sum) else {
             return false;
         };
-        let hoped = promised.saturating_sub(best).saturating_mul(10);
-        let near = (aircraft as i128).saturating_mul(self.temperature as i128 * 3);
+        let hoped = promised.saturating_sub(best);
+        let near = (aircraft as i128).saturating_mul(self.temperature as i128 * 2);
         self.temperature > COLDEST && hoped <= near
     }
 

@@ -15,6 +15,9 @@ use tail_book::Memory;
 // So many temperatures above the least weight a route has no mass.
 const REACH: i64 = 30;
 
+// A scale is kept with so many bits more than its parts.
+const PART_BITS: u32 = 42;
+
 // A base goes down where a route is so many temperatures below it.
 const DEPTH: i64 = 4;
 
@@ -44,10 +47,28 @@ struct Owner {
     sum: u64,
 }
 
+// How weights become exponents: so many thousandths of a cost unit above the base a route has no mass, and a thousandth is
+// so many parts of an octave, times two to the power of `PART_BITS`.
+#[derive(Clone, Copy, Debug)]
+struct Scale {
+    reach: i64,
+    parts: i64,
+}
+
+// The scale of a temperature.
+fn scale_at(temperature: i64) -> Scale {
+    let temperature = temperature.clamp(1, 1 << 40);
+    Scale {
+        reach: temperature * REACH,
+        parts: (OCTAVE << PART_BITS) / temperature,
+    }
+}
+
 /// The mixtures of all aircraft at a temperature.
 #[derive(Debug, Drop)]
 pub struct Mixture {
     temperature: i64,
+    scale: Scale,
     // of each route of the pool: its weight, and as a member of its aircraft's routes
     weights: Vec<i64>,
     owned: Vec<Member>,
@@ -75,6 +96,7 @@ impl Mixture {
     pub fn new(alloc: Global) -> Mixture {
         Mixture {
             temperature: 1,
+            scale: scale_at(1),
             weights: Vec::new(alloc),
             owned: Vec::new(alloc),
             by_aircraft: Groups::new(alloc),
@@ -96,6 +118,7 @@ impl Mixture {
         powers: &Powers,
     ) -> Result<(), Memory> {
         self.temperature = temperature.max(1);
+        self.scale = scale_at(temperature);
         self.weigh_all(pool, duals)?;
         self.by_aircraft.set(self.owned.as_slice(), aircraft)?;
         self.mixed.clear();
@@ -186,7 +209,7 @@ impl Mixture {
         if let Some(owner) = self.owners.get_mut(k) {
             let (first, end) = (owner.first, owner.end);
             if first <= end && end <= self.mixed.len() {
-                rebase(owner, &mut self.mixed[first..end], powers, self.temperature);
+                rebase(owner, &mut self.mixed[first..end], powers, self.scale);
             }
         }
     }
@@ -240,18 +263,26 @@ impl Mixture {
 
     /// Lets the dual of an activity rise: the weights of its routes fall, and their masses follow.
     pub fn shift(&mut self, powers: &Powers, a: usize, rise: i64) {
-        let temperature = self.temperature;
+        if rise == 0 {
+            return;
+        }
+        let (scale, depth) = (self.scale, self.temperature.saturating_mul(DEPTH));
+        let mut is_far = false;
         for place in self.by_activity.of(a) {
             if let Some(route) = self.mixed.get_mut(*place as usize) {
                 route.weight = route.weight.saturating_sub(rise);
                 if let Some(owner) = self.owners.get_mut(route.owner as usize) {
-                    let mass = mass(powers, temperature, owner.base, route.weight);
+                    let above = route.weight.saturating_sub(owner.base);
+                    let mass = mass(powers, scale, above);
                     owner.sum = owner.sum.saturating_sub(route.mass).saturating_add(mass);
                     route.mass = mass;
+                    is_far |= owner.sum < FAINT || above.saturating_add(depth) < 0;
                 }
             }
         }
-        self.rebase_far(powers, a);
+        if is_far {
+            self.rebase_far(powers, a);
+        }
     }
 
     // Measures the masses anew of aircraft whose base is too far from their routes.
@@ -295,21 +326,24 @@ fn mix(
     Ok(())
 }
 
-// The mass of a weight above a base.
-fn mass(powers: &Powers, temperature: i64, base: i64, weight: i64) -> u64 {
-    let below = base.saturating_sub(weight).saturating_mul(OCTAVE);
-    powers.power(below / temperature.max(1))
+// The mass of a weight that is so far above its base.
+fn mass(powers: &Powers, scale: Scale, above: i64) -> u64 {
+    if above >= scale.reach {
+        return 0;
+    }
+    let exponent = above.max(-scale.reach).wrapping_mul(scale.parts) >> PART_BITS;
+    powers.power(exponent.saturating_neg())
 }
 
 // Measures the masses of an aircraft's routes from the least of their weights.
-fn rebase(owner: &mut Owner, routes: &mut [Mixed], powers: &Powers, temperature: i64) {
+fn rebase(owner: &mut Owner, routes: &mut [Mixed], powers: &Powers, scale: Scale) {
     owner.base = i64::MAX;
     for route in routes.iter() {
         owner.base = owner.base.min(route.weight);
     }
     owner.sum = 0;
     for route in routes.iter_mut() {
-        route.mass = mass(powers, temperature, owner.base, route.weight);
+        route.mass = mass(powers, scale, route.weight.saturating_sub(owner.base));
         owner.sum = owner.sum.saturating_add(route.mass);
     }
 }

@@ -20,6 +20,7 @@ use Rattle.branch_marks.specs.TreeLog.{Notes, NotesFront}
 use Rattle.branch_marks.specs.Weights.{IsLeastWeight}
 use Rattle.branch_marks.specs.inside.MarkTables.{AreMarksOf}
 use Rattle.pricing.specs.inside.Prepared.{IsPricerOf}
+use Rattle.route_search.specs.Search.{IsSearchOf}
 use Rattle.branch_tree.specs.declared.node_pricer.NodePricer.{NodePricer}
 use Rattle.branch_tree.specs.declared.node_pricer.PricedAll.{PricedAll}
 use Rattle.branch_tree.specs.declared.node_pricer.PricedAll.TheVariants as all
@@ -30,12 +31,13 @@ use Rattle.branch_tree.specs.Place.{Open}
 use Rattle.branch_tree.specs.Node.{Ending, Stuck, Bounded, IsShownEnding, AreFirstCovers}
 use Rattle.branch_tree.specs.NodeEvents.{cover_events, ending_events, bound_events}
 
--- the node pricer is of the book and the table: what it reads of them, and a store that has room for the labels
+-- the node pricer is of the book and the table: what it reads of them, a store that has room for the labels, and a search
 pub record IsNodePricerOf (table : CostTableSeen) (book : BookSeen) (prices : NodePricer) : Type 0 where
   pub costs : IsTableFor book table
   pub pricer : IsPricerOf book table prices.pricer
   pub nodes : length prices.store.buckets ≡ activities book
   pub width : prices.store.width ≡ 1 + length book.rules.counters
+  pub search : IsSearchOf book prices.search
 
 -- all that pricing a node asks for is of one book
 pub record IsReady (table : CostTableSeen) (book : BookSeen) (net : NetSeen) (marks : MarksSeen) (prices : NodePricer) : Type 0 where

@@ -8,20 +8,8 @@ returns-in_err-add_routes-clause-pool c =
     (open_fits c.args.table.now c.args.book.now c.args.marks.now.facts c.args.duals.now.values c.weigh.new.best.target c.in_ok-end.field-0 c.in-Open.found
     c.in_ok-end.ensures.weighed c.in-Open.is c.deref.result.now c.deref.ensures.value)
 
-pub returns-in_err-try_pool-clause-pool : goal.returns-in_err-try_pool-clause-pool
-returns-in_err-try_pool-clause-pool c =
-    c.add_routes.ensures.fitting c.args.marks.now.facts c.requires.pool
-    (open_fits c.args.table.now c.args.book.now c.args.marks.now.facts c.args.duals.now.values c.weigh.new.best.target c.in_ok-end.field-0 c.in-Open.found
-    c.in_ok-end.ensures.weighed c.in-Open.is c.deref.result.now c.deref.ensures.value)
-
-pub returns-then-passes-clause-pool : goal.returns-then-passes-clause-pool
-returns-then-passes-clause-pool c =
-    c.add_routes.ensures.fitting c.args.marks.now.facts c.requires.pool
-    (open_fits c.args.table.now c.args.book.now c.args.marks.now.facts c.args.duals.now.values c.weigh.new.best.target c.in_ok-end.field-0 c.in-Open.found
-    c.in_ok-end.ensures.weighed c.in-Open.is c.deref.result.now c.deref.ensures.value)
-
-pub returns-clause-pool : goal.returns-clause-pool
-returns-clause-pool c =
+pub suggest_all-requires-clause-pool : goal.suggest_all-requires-clause-pool
+suggest_all-requires-clause-pool c =
     c.add_routes.ensures.fitting c.args.marks.now.facts c.requires.pool
     (open_fits c.args.table.now c.args.book.now c.args.marks.now.facts c.args.duals.now.values c.weigh.new.best.target c.in_ok-end.field-0 c.in-Open.found
     c.in_ok-end.ensures.weighed c.in-Open.is c.deref.result.now c.deref.ensures.value)

@@ -1,0 +1,201 @@
+//! What a pool and a search suggest to each other: cuts for pricing, from what the pool's routes weigh, and routes for the
+//! pool, from the rows of a search.
+//!
+//! A cut needs no proof, since pricing looks further out where nothing is within it. A route is judged before it is added:
+//! it has to be legal for its aircraft and to fit the marks.
+
+ghost use Rattle.std.specs.Prelude.{◌≡◌, ◌<◌, ◌+◌, length};
+ghost use Rattle.tail_book.specs.Lookup.{activities, aircraft};
+ghost use Rattle.tail_book.specs.declared.place.Place.TheVariants.{Carry};
+ghost use Rattle.tail_book.specs.inside.CostTable.{IsTableFor};
+ghost use Rattle.tail_book.specs.inside.Rising.{IsRisingFrom};
+ghost use Rattle.maint_counters.specs.inside.StepTable.{IsStepTableOf};
+ghost use Rattle.branch_marks.specs.Settled.{AreDuals};
+ghost use Rattle.branch_marks.specs.inside.MarkTables.{AreMarksOf};
+ghost use Rattle.route_search.specs.Search.{IsSearchOf};
+ghost use Rattle.branch_tree.specs.inside.Leaf.{IsReady};
+ghost use Rattle.branch_tree.specs.inside.Stepping.{IsFittingPool};
+
+use crate::NodePricer;
+use branch_marks::Marks;
+use connection_net::Net;
+use maint_counters::{StepTable, is_legal_route};
+use restricted_master::Pool;
+use route_search::{RouteSearch, Suggestions};
+use std::alloc::Global;
+use tail_book::laws::every_book_is_sound;
+use tail_book::{Book, COST_UNIT, CostTable, Duals, Memory, Route};
+
+// What a route costs less the duals of its activities, in thousandths of a cost unit.
+fn pooled_weight(cost: u64, route: &[u32], duals: &[i64]) -> i64 {
+    let mut weight = (cost.min(1 << 52) * COST_UNIT) as i64;
+    for a in route {
+        weight = weight.saturating_sub(duals.get(*a as usize).copied().unwrap_or(0));
+    }
+    weight
+}
+
+/// For each aircraft the least weight of its routes in a pool: no least weight is above it, if those routes fit.
+pub fn cuts_of(alloc: Global, book: &Book, pool: &Pool, duals: &Duals) -> Result<Vec<i64>, Memory> {
+    let mut cuts = vec![in alloc; i64::MAX; book.tails.len()]?;
+    for i in 0..pool.count() {
+        let weight = pooled_weight(pool.cost(i), pool.route(i), &duals.values);
+        if let Some(cut) = cuts.get_mut(pool.aircraft(i) as usize) {
+            *cut = weight.min(*cut);
+        }
+    }
+    Ok(cuts)
+}
+
+// Adds a route of an aircraft to a pool, if it is legal and fits.
+fn add_judged(
+    book: &Book,
+    table: &CostTable,
+    marks: &Marks,
+    pool: &mut Pool,
+    k: u32,
+    route: &Route,
+    steps: &StepTable,
+    row: &mut [i64],
+) -> Result<(), Memory>
+    requires table { IsTableFor book.now table.now }
+    requires marks { AreMarksOf book.now marks.now }
+    requires pool { IsFittingPool table.now book.now marks.now.facts pool.old }
+    requires aircraft { k < aircraft book.now }
+    requires rising { IsRisingFrom (activities book.now) Carry route.now }
+    requires steps { IsStepTableOf book.now steps.now }
+    requires width { length row.old ≡ 1 + length book.now.rules.counters }
+    ensures pool { IsFittingPool table.now book.now marks.now.facts pool.new }
+    ensures width { length row.new ≡ length row.old }
+{
+    every_book_is_sound(book);
+    if marks.fits(book, k, &route.0) && is_legal_route(book, steps, k, &route.0, &mut row[1..]) {
+        let _ = pool.add(book, table, k, route)?;
+    }
+    Ok(())
+}
+
+// Adds a suggested route to a pool, if it is legal and fits.
+fn add_suggested(
+    alloc: Global,
+    book: &Book,
+    table: &CostTable,
+    marks: &Marks,
+    pool: &mut Pool,
+    k: u32,
+    suggested: &Suggestions,
+    i: usize,
+    search: &mut RouteSearch,
+) -> Result<(), Memory>
+    requires table { IsTableFor book.now table.now }
+    requires marks { AreMarksOf book.now marks.now }
+    requires pool { IsFittingPool table.now book.now marks.now.facts pool.old }
+    requires aircraft { k < aircraft book.now }
+    requires search { IsSearchOf book.now search.old }
+    ensures pool { IsFittingPool table.now book.now marks.now.facts pool.new }
+    ensures search { IsSearchOf book.now search.new }
+{
+    let route = Route(Vec::from_slice(alloc, suggested.route(book, i))?);
+    add_judged(
+        book,
+        table,
+        marks,
+        pool,
+        k,
+        &route,
+        &search.steps,
+        &mut search.row,
+    )
+}
+
+// Adds to a pool what the last search suggests for an aircraft.
+fn add_suggestions(
+    alloc: Global,
+    book: &Book,
+    table: &CostTable,
+    marks: &Marks,
+    pool: &mut Pool,
+    k: u32,
+    suggested: &Suggestions,
+    search: &mut RouteSearch,
+) -> Result<(), Memory>
+    requires table { IsTableFor book.now table.now }
+    requires marks { AreMarksOf book.now marks.now }
+    requires pool { IsFittingPool table.now book.now marks.now.facts pool.old }
+    requires aircraft { k < aircraft book.now }
+    requires search { IsSearchOf book.now search.old }
+    ensures pool { IsFittingPool table.now book.now marks.now.facts pool.new }
+    ensures search { IsSearchOf book.now search.new }
+{
+    for i in 0..suggested.count() {
+        add_suggested(alloc, book, table, marks, pool, k, suggested, i, search)?;
+    }
+    Ok(())
+}
+
+impl NodePricer {
+    // Searches an aircraft's routes as far as a cut, and adds to a pool the best through each activity that are suggested.
+    fn suggest_routes(
+        &mut self,
+        alloc: Global,
+        book: &Book,
+        table: &CostTable,
+        net: &Net,
+        marks: &Marks,
+        duals: &Duals,
+        pool: &mut Pool,
+        k: u32,
+        cut: i64,
+        slack: u32,
+    ) -> Result<(), Memory>
+        requires ready { IsReady table.now book.now net.now marks.now self.old }
+        requires duals { AreDuals table.now book.now duals.now.values }
+        requires pool { IsFittingPool table.now book.now marks.now.facts pool.old }
+        requires aircraft { k < aircraft book.now }
+        ensures ready { IsReady table.now book.now net.now marks.now self.new }
+        ensures pool { IsFittingPool table.now book.now marks.now.facts pool.new }
+    {
+        self.search
+            .least_route(book, table, net, marks, duals, k, cut, slack)?;
+        self.search.suggest(book, table, net, marks, duals, k, cut, &mut self.suggested)?;
+        add_suggestions(
+            alloc,
+            book,
+            table,
+            marks,
+            pool,
+            k,
+            &self.suggested,
+            &mut self.search,
+        )
+    }
+
+    /// Adds to a pool what searches suggest that look further than the least weights by the slack, in thousandths of a cost
+    /// unit.
+    pub fn suggest_all(
+        &mut self,
+        alloc: Global,
+        book: &Book,
+        table: &CostTable,
+        net: &Net,
+        marks: &Marks,
+        duals: &Duals,
+        pool: &mut Pool,
+        values: &[i64],
+        slack: u32,
+    ) -> Result<(), Memory>
+        requires ready { IsReady table.now book.now net.now marks.now self.old }
+        requires duals { AreDuals table.now book.now duals.now.values }
+        requires pool { IsFittingPool table.now book.now marks.now.facts pool.old }
+        ensures ready { IsReady table.now book.now net.now marks.now self.new }
+        ensures pool { IsFittingPool table.now book.now marks.now.facts pool.new }
+    {
+        every_book_is_sound(book);
+        for k in 0..book.tails.len() as u32 {
+            let value = values.get(k as usize).copied().unwrap_or(0);
+            let cut = value.saturating_add(i64::from(slack));
+            self.suggest_routes(alloc, book, table, net, marks, duals, pool, k, cut, slack)?;
+        }
+        Ok(())
+    }
+}
