@@ -1,10 +1,16 @@
 pub mod Accepted
 pub mod Accepting
+pub mod AtEnds
+pub mod AtNodes
 pub mod Claiming
+pub mod Closing
 pub mod Duals
 pub mod Growing
 pub mod InLeaf
+pub mod Keeping
 pub mod LeafRuns
+pub mod LineByLine
+pub mod Planned
 pub mod Running
 pub mod Standing
 pub mod Taking

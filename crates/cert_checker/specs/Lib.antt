@@ -4,3 +4,4 @@ pub mod Reasons
 pub mod State
 pub mod TreeEvents
 pub mod Verdict
+pub mod inside
