@@ -1,9 +1,10 @@
-//! A log that writes each event to a sink, as a line of a certificate.
+//! A log that writes the events to a sink, as lines of a certificate.
 //!
-//! It tells a list where the sink tells the header's line and the lines of the list, and is torn where the sink took only a
-//! front of the next line.
+//! Lines wait until there are many, and the sink takes them as one piece: so a file is opened for many lines at once. The log
+//! tells a list where what the sink took and the lines that wait are together the header's line and the lines of the list.
+//! It is torn where a piece failed: then the sink took a front of these lines and the next.
 
-ghost use Rattle.std.specs.Prelude.{◌≡◌, ◌≤◌, ◌∷◌, [], false, OnOk, OnErr, IsErrOf, length};
+ghost use Rattle.std.specs.Prelude.{◌≡◌, ◌≤◌, ◌∷◌, ◌++◌, [], false, OnOk, OnErr, IsErrOf, length};
 ghost use Rattle.tail_book.specs.Lookup.{activities, aircraft};
 ghost use Rattle.tail_outside.specs.Outside.{PieceHasFailed, Takes, TakesFront};
 ghost use Rattle.cert_checker.specs.Certificate.{text_of};
@@ -20,40 +21,48 @@ use tail_book::{Book, Outcome};
 use tail_outside::{Fault, Sink};
 use tail_text::Line;
 
-/// A certificate that is being written. The line is kept for its room.
+/// As soon as so many bytes wait, the sink takes them.
+const PIECE: usize = 65_536;
+
+/// A certificate that is being written.
 #[derive(Drop)]
-pub struct CertLog<S: Sink + Drop> {
+pub struct CertLog<S: Sink> {
     /// How many activities, aircraft and counters the book has.
     pub activities: u32,
     pub aircraft: u32,
     pub counters: u32,
-    line: Line,
+    /// The lines that the sink has not taken yet.
+    pub waiting: Line,
     /// Where the lines go.
     pub sink: S,
 }
 
-impl<S: Sink + Drop> CertLog<S> {
-    /// A certificate of the book, of which nothing is written yet. The line is cleared before each use.
+impl<S: Sink> CertLog<S> {
+    /// A certificate of the book, of which nothing is written yet. The line gives its room to those that wait.
     pub fn new(book: &Book, line: Line, sink: S) -> CertLog<S>
         ensures activities { result.activities ≡ activities book.now }
         ensures aircraft { result.aircraft ≡ aircraft book.now }
         ensures counters { result.counters ≡ length book.now.rules.counters }
+        ensures none_wait { result.waiting ≡ [] }
         ensures sink { result.sink ≡ sink }
     {
         every_book_is_sound(book);
+        let mut waiting = line;
+        waiting.clear();
         CertLog {
             activities: book.activities.len() as u32,
             aircraft: book.tails.len() as u32,
             counters: book.rules.counters.len() as u32,
-            line,
+            waiting,
             sink,
         }
     }
 
-    /// Writes the header.
+    /// Writes the header at once.
     pub fn begin(&mut self) -> Result<(), LogFail>
         ensures taken { OnOk result (Takes (S.shows self.old.sink) (S.shows self.new.sink) (text_of (HeaderLine 1 self.old.activities self.old.aircraft self.old.counters ∷ []))) }
         ensures front { OnErr result (TakesFront (S.shows self.old.sink) (S.shows self.new.sink) (text_of (HeaderLine 1 self.old.activities self.old.aircraft self.old.counters ∷ []))) }
+        ensures none_wait { OnOk result (self.new.waiting ≡ []) }
         ensures beside { S.beside self.old.sink self.new.sink }
         ensures activities { self.new.activities ≡ self.old.activities }
         ensures aircraft { self.new.aircraft ≡ self.old.aircraft }
@@ -63,18 +72,18 @@ impl<S: Sink + Drop> CertLog<S> {
         ensures cause { IsErrOf result LogFail.Write → PieceHasFailed (S.shows self.old.sink) (S.shows self.new.sink) }
     {
         let header = header_line(self.activities, self.aircraft, self.counters);
-        self.line.clear();
-        if add_line(&header, &mut self.line).is_err() {
+        self.waiting.clear();
+        if add_line(&header, &mut self.waiting).is_err() {
             return Err(LogFail::Memory);
         }
-        put(&mut self.sink, &self.line)
+        put_all(&mut self.sink, &mut self.waiting)
     }
 
-    /// Writes the plan of an outcome, where it has one, and its claim. All of it is one piece.
+    /// Writes what waits, and behind it the plan of an outcome, where it has one, and its claim. All of it is one piece.
     pub fn finish(&mut self, alloc: Global, outcome: &Outcome) -> Result<(), LogFail>
         requires { IsSpelled self.old.aircraft outcome.now }
-        ensures taken { OnOk result (Takes (S.shows self.old.sink) (S.shows self.new.sink) (text_of (trailer_lines self.old.activities outcome.now))) }
-        ensures front { OnErr result (TakesFront (S.shows self.old.sink) (S.shows self.new.sink) (text_of (trailer_lines self.old.activities outcome.now))) }
+        ensures taken { OnOk result (Takes (S.shows self.old.sink) (S.shows self.new.sink) (self.old.waiting ++ text_of (trailer_lines self.old.activities outcome.now))) }
+        ensures front { OnErr result (TakesFront (S.shows self.old.sink) (S.shows self.new.sink) (self.old.waiting ++ text_of (trailer_lines self.old.activities outcome.now))) }
         ensures beside { S.beside self.old.sink self.new.sink }
         ensures activities { self.new.activities ≡ self.old.activities }
         ensures aircraft { self.new.aircraft ≡ self.old.aircraft }
@@ -83,19 +92,18 @@ impl<S: Sink + Drop> CertLog<S> {
         ensures counts { (S.shows self.old.sink).faults ≤ (S.shows self.new.sink).faults }
         ensures cause { IsErrOf result LogFail.Write → PieceHasFailed (S.shows self.old.sink) (S.shows self.new.sink) }
     {
-        self.line.clear();
         if add_trailer(
             alloc,
             outcome,
             self.activities,
             self.aircraft,
-            &mut self.line,
+            &mut self.waiting,
         )
         .is_err()
         {
             return Err(LogFail::Memory);
         }
-        put(&mut self.sink, &self.line)
+        put_all(&mut self.sink, &mut self.waiting)
     }
 
     /// The sink as it stands.
@@ -120,39 +128,45 @@ fn header_line(activities: u32, aircraft: u32, counters: u32) -> CertLine
     }
 }
 
-// Puts what a line holds.
-fn put<S: Sink>(sink: &mut S, line: &Line) -> Result<(), LogFail>
-    ensures taken { OnOk result (Takes (S.shows sink.old) (S.shows sink.new) line.now) }
-    ensures front { OnErr result (TakesFront (S.shows sink.old) (S.shows sink.new) line.now) }
+// Puts all that waits.
+fn put_all<S: Sink>(sink: &mut S, waiting: &mut Line) -> Result<(), LogFail>
+    ensures taken { OnOk result (Takes (S.shows sink.old) (S.shows sink.new) waiting.old) }
+    ensures front { OnErr result (TakesFront (S.shows sink.old) (S.shows sink.new) waiting.old) }
+    ensures none_wait { OnOk result (waiting.new ≡ []) }
     ensures beside { S.beside sink.old sink.new }
     ensures ceases { (S.shows sink.new).ceased ≡ false → (S.shows sink.old).ceased ≡ false }
     ensures counts { (S.shows sink.old).faults ≤ (S.shows sink.new).faults }
     ensures cause { IsErrOf result LogFail.Write → PieceHasFailed (S.shows sink.old) (S.shows sink.new) }
 {
-    match sink.put(line.bytes()) {
-        Ok(()) => Ok(()),
+    match sink.put(waiting.bytes()) {
+        Ok(()) => {
+            waiting.clear();
+            Ok(())
+        }
         Err(Fault::Failed) => Err(LogFail::Write),
         Err(Fault::Memory) => Err(LogFail::Memory),
     }
 }
 
-impl<S: Sink + Drop> TreeLog for CertLog<S> {
+impl<S: Sink> TreeLog for CertLog<S> {
     ghost use Rattle.std.specs.Prelude.{◌≡◌, refl};
     ghost use Rattle.std.proofs.Common.{◌∙◌};
     ghost use Rattle.cert_lines.specs.declared.cert_line.CertLine.TheVariants.{Header};
     ghost use Rattle.cert_writer.specs.CertText.{log_over};
 
-    ghost shows = { λ c. log_over (Header 1 c.activities c.aircraft c.counters) (S.shows c.sink) };
+    ghost shows = { λ c. log_over (Header 1 c.activities c.aircraft c.counters) (S.shows c.sink) c.waiting };
 
     // The numbers of the header stay.
     ghost beside = { λ a b. S.beside a.sink b.sink × (b.activities ≡ a.activities) × (b.aircraft ≡ a.aircraft) × (b.counters ≡ a.counters) };
 
     fn note(&mut self, event: &Event) -> Result<(), LogFail> {
-        self.line.clear();
-        if add_line(&CertLine::Event(*event), &mut self.line).is_err() {
+        if add_line(&CertLine::Event(*event), &mut self.waiting).is_err() {
             return Err(LogFail::Memory);
         }
-        put(&mut self.sink, &self.line)
+        if self.waiting.bytes().len() < PIECE {
+            return Ok(());
+        }
+        put_all(&mut self.sink, &mut self.waiting)
     }
 
     ghost beside_same = { λ c. (S.beside_same c.sink, refl, refl, refl) };

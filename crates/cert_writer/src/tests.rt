@@ -77,8 +77,30 @@ fn a_failed_write_is_told(rt: HostRuntime) -> Result<(), Fail> {
     let alloc = rt.alloc();
     let mut log = log(alloc, vec![in alloc; 2]?)?;
     assert!(rt; log.begin().is_ok());
-    assert!(rt; log.note(&Event::Hole(1)) == Err(LogFail::Write));
+    assert!(rt; notes(&mut log, Event::Hole(1)));
+    assert!(rt; log.finish(alloc, &Outcome::Infeasible) == Err(LogFail::Write));
     assert!(rt; log.sink.bytes() == b"tailcert 1 0 0 0\n".as_slice());
+    Ok(())
+}
+
+// How many events are noted before a note fails.
+fn count_noted(log: &mut CertLog<MemSink>) -> u32 {
+    for n in 0..20_000 {
+        if log.note(&Event::Hole(1)).is_err() {
+            return n;
+        }
+    }
+    20_000
+}
+
+// Lines of seven bytes wait until there are 65,536 of these, and are one piece then.
+#[test]
+fn many_lines_are_one_piece(rt: HostRuntime) -> Result<(), Fail> {
+    let alloc = rt.alloc();
+    let mut log = log(alloc, vec![in alloc; 3]?)?;
+    assert!(rt; log.begin().is_ok());
+    assert!(rt; count_noted(&mut log) == 2 * 9_363 - 1);
+    assert!(rt; log.sink.bytes().len() == 17 + 7 * 9_363);
     Ok(())
 }
 

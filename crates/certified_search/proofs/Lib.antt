@@ -1,0 +1,4 @@
+pub mod SameEvents
+pub mod Spelled
+pub mod Accepted
+pub mod Writing

@@ -1,0 +1,59 @@
+-- Each line of a search's certificate is one that a certificate may have.
+use Rattle.std.proofs.Common.{◌≡◌, ◌∙◌, ◌+◌, ◌*◌, ◌^◌, ◌/◌, ◌<◌, ◌≤◌, ℕ, ℤ, List, [], ◌∷◌, ◌++◌, length, map, Option, Some, None, refl, arith}
+use Rattle.std.proofs.lemmas.List.Elements.{All-append, All-cons, All-head, All-map, All-nil, All-tail}
+use Rattle.std.specs.Prelude.{All, option_map}
+use Rattle.tail_book.specs.Lookup.{activities, aircraft}
+use Rattle.tail_book.specs.Seen.{BookSeen}
+use Rattle.tail_book.specs.Truth.{IsTrueOutcome, claim_of}
+use Rattle.tail_book.specs.declared.outcome.Outcome.{Outcome}
+use Rattle.tail_book.specs.declared.outcome.Outcome.TheVariants.{Optimal, Infeasible, Between, Above}
+use Rattle.tail_book.specs.inside.Bounds.{LegalPlansCostAtMost}
+use Rattle.tail_book.specs.inside.CostTable.{costs_of}
+use Rattle.tail_book.specs.inside.Sound.{IsBook}
+use Rattle.branch_marks.specs.Bound.{bound_of}
+use Rattle.branch_marks.specs.Events.{IsNotable}
+use Rattle.branch_marks.specs.declared.event.Event.{Event}
+use Rattle.branch_tree.specs.Closing.{IsLeftAt, IsLowest}
+use Rattle.branch_tree.specs.Node.{Ending, Hole, Stuck, Bounded, Split, Node}
+use Rattle.branch_tree.specs.SearchTree.{IsOutcomeOf}
+use Rattle.branch_tree.specs.Target.{no_target}
+use Rattle.branch_tree.specs.declared.limit.Limit.{Limit}
+use Rattle.cert_lines.specs.Grammar.{IsLine, IsLineClaim}
+use Rattle.cert_lines.specs.declared.cert_line.CertLine.{CertLine}
+use Rattle.cert_lines.specs.declared.cert_line.CertLine.TheVariants as line
+use Rattle.cert_checker.specs.Certificate.{fly_lines, header_of, plan_lines}
+
+pub header_good : (book : BookSeen) → IsBook book → IsLine (header_of book)
+header_good book sound = (refl, omega (arith, sound.few_activities), omega (arith, sound.few_tails), omega (arith, sound.rules.few_counters))
+
+pub events_good : (told : List Event) → All IsNotable told → All IsLine (map line.Event told)
+events_good told notable = All-map IsLine line.Event told notable
+
+flies_good : (a : ℕ) (fliers : List ℕ) → a + length fliers < 2 ^ 32 → All (λ k. k < 2 ^ 32) fliers → All IsLine (fly_lines a fliers)
+flies_good a [] few small = All-nil IsLine
+flies_good a (k ∷ fliers) few small =
+    All-cons IsLine (line.Fly a k) (fly_lines (a + 1) fliers) (omega (arith, few), All-head (λ k. k < 2 ^ 32) k fliers small)
+    (flies_good (a + 1) fliers (omega (arith, few)) (All-tail (λ k. k < 2 ^ 32) k fliers small))
+
+pub plan_good : (fliers : List ℕ) → length fliers < 2 ^ 32 → All (λ k. k < 2 ^ 32) fliers → All IsLine (plan_lines (Some fliers))
+plan_good fliers few small = All-cons IsLine line.Plan (fly_lines 0 fliers) tt (flies_good 0 fliers (omega (arith, few)) small)
+
+-- a bound that is left lies below the final target, rounded up at most at it
+left_below : (final low : ℕ) (ending : Ending) → IsLeftAt final ending low → low ≤ final
+left_below final low (Hole a) left = absurd left
+left_below final low (Stuck k family) left = absurd left
+left_below final low (Bounded duals covers) left = omega (arith, left.0, left.1)
+left_below final low (Split pair duals routes dive) left = absurd left
+
+lowest_below : (final low : ℕ) (nodes : List Node) → IsLowest final nodes (Some low) → low ≤ final
+lowest_below final low nodes lowest = left_below final low lowest.0.1.ending lowest.0.4
+
+pub claim_good : (book : BookSeen) → IsBook book → LegalPlansCostAtMost → (limit : Limit) (count : ℕ) (closing : List Node) (final : ℕ) (outcome : Outcome)
+    → IsOutcomeOf (costs_of book) book limit count closing final outcome → IsTrueOutcome book outcome → IsLineClaim (claim_of outcome)
+claim_good book sound most limit count closing final (Optimal plan cost) is truth =
+    omega (arith, most book sound plan truth.plan.legal, truth.plan.costs, sound.few_activities)
+claim_good book sound most limit count closing final Infeasible is truth = tt
+claim_good book sound most limit count closing final (Between plan low high nodes) is truth =
+    (omega (arith, most book sound plan truth.plan.legal, truth.plan.costs, sound.few_activities), truth.claim.0)
+claim_good book sound most limit count closing final (Above low nodes) is truth =
+    omega (arith, lowest_below final low closing is.1, is.0, sound.few_activities)

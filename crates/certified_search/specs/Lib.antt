@@ -1,0 +1,3 @@
+pub mod SearchText
+pub mod Written
+pub mod inside
