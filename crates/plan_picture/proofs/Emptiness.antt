@@ -1,0 +1,8 @@
+-- A list whose length is not 0 is not empty.
+use Rattle.std.proofs.Common.{◌≡◌, ℕ, false, length, List, [], ◌∷◌, refl}
+use Rattle.std.specs.Prelude.{◌==◌}
+use Rattle.tail_book.specs.Numbers.{is_empty}
+
+pub not_empty : (xs : List ℕ) → (length xs == 0) ≡ false → is_empty xs ≡ false
+not_empty [] long = cc
+not_empty (x ∷ xs) long = refl

@@ -1,0 +1,6 @@
+mod Appends
+mod Emptiness
+mod Followed
+mod LastEnd
+mod Signed
+mod Uncovered

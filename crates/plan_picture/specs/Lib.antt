@@ -1,0 +1,11 @@
+pub mod Layout
+pub mod Calendar
+pub mod Fixed
+pub mod Ports
+pub mod Bars
+pub mod Stops
+pub mod Shares
+pub mod Curfews
+pub mod Rows
+pub mod Picture
+pub mod inside

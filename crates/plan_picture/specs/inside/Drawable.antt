@@ -1,0 +1,17 @@
+-- Which plans can be drawn, and how far the numbers of a picture go.
+use Rattle.std.specs.Prelude.{ℕ, ℤ, pos, ◌-ℤ◌, ◌≡◌, ◌<◌, All, List, length}
+use Rattle.tail_book.specs.Seen.{BookSeen}
+use Rattle.tail_book.specs.Lookup.{activities, aircraft}
+use Rattle.tail_book.specs.inside.Sound.{IsWithin}
+use Rattle.plan_audit.specs.declared.broken.Broken.{Broken}
+use Rattle.plan_report.specs.inside.AuditText.{IsOfBook}
+
+-- a moment from a day before the calendar on, to beyond its end
+abbrev pub IsNear : ℤ → Type 0
+IsNear z = IsWithin (pos 0 -ℤ pos 1440) (pos 1000000000) z
+
+-- a route of activities of the book for each aircraft, and broken rules whose numbers are of the book
+pub record IsDrawable (book : BookSeen) (plan : List (List ℕ)) (rules : List Broken) : Type 0 where
+  pub one_each : length plan ≡ aircraft book
+  pub activities : All (All (λ a. a < activities book)) plan
+  pub of_book : All (IsOfBook book) rules

@@ -1,0 +1,16 @@
+//! The picture of a plan: a row of bars for each aircraft, by the minute, with what is broken in red.
+#![tactic(auto)]
+
+mod bars;
+mod calendar;
+mod curfews;
+mod fixed;
+mod layout;
+mod picture;
+mod rows;
+mod shares;
+mod stops;
+mod view;
+
+pub use picture::write_picture;
+pub use view::{View, port_named};

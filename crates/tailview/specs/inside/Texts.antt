@@ -1,0 +1,13 @@
+-- The names of a run of the checker as contracts see them, and the fronts of what is held.
+use Rattle.std.specs.Prelude.{option_map}
+use Rattle.run_frame.specs.inside.TableFiles.{front, fronts, names_seen}
+use Rattle.tailview.specs.Texts.{ViewNamesSeen, TextsSeen}
+use Rattle.tailview.specs.declared.words.ViewNames.{ViewNames}
+
+-- the names, as bytes
+abbrev pub view_names_seen : ViewNames → ViewNamesSeen
+view_names_seen names = record { tables = names_seen names.tables; plan = names.plan.now; airport = option_map (λ s. s.now) names.airport; html = names.html }
+
+-- as much of the tables and of the plan's file as is read
+abbrev pub text_fronts : TextsSeen → TextsSeen
+text_fronts texts = record { tables = fronts texts.tables; plan = front texts.plan; airport = texts.airport; html = texts.html }

@@ -1,0 +1,81 @@
+//! Reads and writes that fail.
+
+use super::fixtures::{
+    FLEET, ONE_AT_ARLANDA, RULES, THERE_AND_BACK, TIMETABLE, Typed, WORDS, files_of, run_failing,
+};
+use std::test::Fail;
+
+const GOOD: Typed<'_> = Typed {
+    timetable: &[TIMETABLE, THERE_AND_BACK],
+    fleet: &[FLEET, ONE_AT_ARLANDA],
+    rules: &[RULES],
+    plan: &["optimal 120\nA1: F1 F2\n"],
+};
+
+// A plan that breaks three rules.
+const BROKEN: Typed<'_> = Typed {
+    plan: &["optimal 120\nA1: F1 F9 F1\n"],
+    ..GOOD
+};
+
+const REFUSED: Typed<'_> = Typed {
+    plan: &["infeasible\n"],
+    ..GOOD
+};
+
+// A write that fails ends a run, whichever line it is that of.
+#[test]
+fn a_failed_write_ends_a_run(rt: HostRuntime) -> Result<(), Fail> {
+    for (typed, put, status, printed) in [
+        (GOOD, 1, 6, ""),
+        (REFUSED, 1, 6, ""),
+        (REFUSED, 2, 3, "refused 3 plan 1\n"),
+    ] {
+        let files = files_of(rt.alloc(), typed)?;
+        let seen = run_failing(rt.alloc(), &WORDS, files, &[], &[put])?;
+        assert!(rt; seen.is(status, printed), "{put} {printed}");
+    }
+    for (put, status) in [(2, 6), (10, 6), (1000, 1)] {
+        let files = files_of(rt.alloc(), BROKEN)?;
+        let seen = run_failing(rt.alloc(), &WORDS, files, &[], &[put])?;
+        assert!(rt; seen.has(status, "<svg xmlns"), "{put}");
+    }
+    Ok(())
+}
+
+// Each file is read in two calls, of which the second finds its end. Whichever of them fails, nothing is printed, also
+// where a table or the plan's file would be refused.
+#[test]
+fn a_failed_read_ends_a_run(rt: HostRuntime) -> Result<(), Fail> {
+    for call in 1..9 {
+        for typed in [GOOD, REFUSED] {
+            let files = files_of(rt.alloc(), typed)?;
+            let seen = run_failing(rt.alloc(), &WORDS, files, &[call], &[])?;
+            assert!(rt; seen.is(5, ""), "{call}");
+        }
+    }
+    let files = files_of(rt.alloc(), GOOD)?;
+    let seen = run_failing(rt.alloc(), &WORDS, files, &[9], &[])?;
+    assert!(rt; seen.has(0, ">cost 120<"));
+    Ok(())
+}
+
+// A file that isn't there can't be read, even where a table is bad: the plan's file is no timetable.
+#[test]
+fn a_missing_file_ends_a_run(rt: HostRuntime) -> Result<(), Fail> {
+    for (timetable, fleet, rules, plan) in [
+        ("none", "f", "r", "p"),
+        ("t", "none", "r", "p"),
+        ("t", "f", "none", "p"),
+        ("t", "f", "r", "none"),
+        ("p", "f", "r", "none"),
+        ("t", "p", "r", "none"),
+        ("t", "f", "p", "none"),
+    ] {
+        let words = ["tailview", timetable, fleet, rules, "--plan", plan];
+        let files = files_of(rt.alloc(), GOOD)?;
+        let seen = run_failing(rt.alloc(), &words, files, &[], &[])?;
+        assert!(rt; seen.is(5, ""), "{timetable} {fleet} {rules} {plan}");
+    }
+    Ok(())
+}

@@ -1,0 +1,81 @@
+//! Words that are refused, and names that are taken in their places.
+
+use super::fixtures::{
+    FLEET, ONE_AT_ARLANDA, RULES, Seen, THERE_AND_BACK, TIMETABLE, Typed, files_of, run_failing,
+};
+use std::alloc::Global;
+use std::test::Fail;
+
+const GOOD: Typed<'_> = Typed {
+    timetable: &[TIMETABLE, THERE_AND_BACK],
+    fleet: &[FLEET, ONE_AT_ARLANDA],
+    rules: &[RULES],
+    plan: &["optimal 120\nA1: F1 F2\n"],
+};
+
+fn run_as(alloc: Global, words: &[&str]) -> Result<Seen, Fail> {
+    run_failing(alloc, words, files_of(alloc, GOOD)?, &[], &[])
+}
+
+// Words that do not name three tables and one plan's file.
+#[test]
+fn other_words_are_refused(rt: HostRuntime) -> Result<(), Fail> {
+    for words in [
+        [].as_slice(),
+        &["tailview"],
+        &["tailview", "t", "f", "r"],
+        &["tailview", "t", "f", "--plan", "p"],
+        &["tailview", "t", "f", "r", "x", "--plan", "p"],
+        &["tailview", "t", "f", "r", "--plan"],
+        &["tailview", "t", "f", "r", "--cert", "p"],
+        &["tailview", "t", "f", "r", "--plan", "p", "--cert", "p"],
+        &["tailview", "t", "f", "r", "--plan", "p", "--curfews"],
+        &["tailview", "t", "f", "r", "--plan", "p", "--html", "x"],
+        &["tailview", "t", "f", "r", "--plan", "p", "--html=x"],
+        &["tailview", "t", "f", "r", "--plan", "p", "--plan", "p"],
+        &["tailview", "t", "f", "r", "--plan", "p", "--help"],
+    ] {
+        let seen = run_as(rt.alloc(), words)?;
+        assert!(rt;
+            seen.is(
+                2,
+                "usage: tailview TIMETABLE FLEET RULES --plan FILE [--curfews AIRPORT] [--html]\n"
+            ),
+            "{words:?}"
+        );
+    }
+    Ok(())
+}
+
+// The option stands anywhere, and each name is that of its own file.
+#[test]
+fn names_are_taken_in_their_places(rt: HostRuntime) -> Result<(), Fail> {
+    for (words, status, printed) in [
+        (["tailview", "t", "f", "r", "--plan", "p"], 0, ">cost 120<"),
+        (["tailview", "--plan", "p", "t", "f", "r"], 0, ">cost 120<"),
+        (
+            ["tailview", "f", "t", "r", "--plan", "p"],
+            3,
+            "refused 3 timetable 1\n",
+        ),
+        (
+            ["tailview", "t", "r", "f", "--plan", "p"],
+            3,
+            "refused 3 fleet 1\n",
+        ),
+        (
+            ["tailview", "t", "f", "p", "--plan", "r"],
+            3,
+            "refused 13 rules 0\n",
+        ),
+        (
+            ["tailview", "t", "f", "r", "--plan", "r"],
+            3,
+            "refused 3 plan 1\n",
+        ),
+    ] {
+        let seen = run_as(rt.alloc(), &words)?;
+        assert!(rt; seen.has(status, printed), "{words:?}");
+    }
+    Ok(())
+}

@@ -1,0 +1,61 @@
+//! The files that the words name, read before one of them is judged: the tables first, and then the plan.
+
+ghost use Rattle.std.specs.Prelude.{◌≡◌, IfOk, IfSome, IsErrOf};
+ghost use Rattle.tail_outside.specs.Outside.{OnlyRead, ReadHasFailed};
+ghost use Rattle.tailview.specs.Texts.{MayReadTexts, texts_held};
+ghost use Rattle.tailview.specs.inside.Texts.{view_names_seen, text_fronts};
+
+use crate::words::ViewNames;
+use run_frame::{READ_LIMIT, Tables, read_tables};
+use std::alloc::Global;
+use std::marker::Model;
+use tail_outside::{Files, ReadFail, read_all};
+
+/// The bytes of the three tables and of the plan's file, beside what the words say of the picture.
+#[derive(Debug, Drop)]
+pub struct Texts<'a> {
+    /// The three tables.
+    pub tables: Tables,
+    /// The file of the plan.
+    pub plan: Vec<u8>,
+    /// The airport whose curfews are drawn.
+    pub airport: Option<&'a str>,
+    /// Whether the picture stands on a page of its own.
+    pub html: bool,
+}
+
+impl<'a> Model for Texts<'a> {
+    ghost use Rattle.std.specs.Prelude.{option_map};
+    ghost use Rattle.tailview.specs.Texts.{TextsSeen};
+
+    ghost Value = { TextsSeen };
+
+    ghost view = { λ t. record { tables = t.tables; plan = t.plan.items; airport = option_map (λ s. s.now) t.airport; html = t.html } };
+}
+
+/// The bytes of the three tables, and then those of the plan's file, each up to the limit.
+pub fn read_texts<'a, F: Files>(
+    alloc: Global,
+    files: &mut F,
+    names: &ViewNames<'a>,
+) -> Result<Texts<'a>, ReadFail>
+    requires { MayReadTexts (F.shows files.old) (view_names_seen names.now) }
+    ensures texts { IfOk result (λ texts. IfSome (texts_held (F.shows files.old) (view_names_seen names.now))
+        (λ whole. texts ≡ text_fronts whole)) }
+    ensures only_read { OnlyRead (F.shows files.old) (F.shows files.new) }
+    ensures cause { IsErrOf result ReadFail.Failed → ReadHasFailed (F.shows files.old) (F.shows files.new) }
+{
+    let tables = match read_tables(alloc, files, &names.tables) {
+        Ok(tables) => tables,
+        Err(fail) => return Err(fail),
+    };
+    match read_all(alloc, files, names.plan, READ_LIMIT) {
+        Ok(plan) => Ok(Texts {
+            tables,
+            plan,
+            airport: names.airport,
+            html: names.html,
+        }),
+        Err(fail) => Err(fail),
+    }
+}

@@ -1,0 +1,78 @@
+//! The reading of the words: which tables and which plan are drawn, and how.
+
+ghost use Rattle.std.specs.Prelude.{◌≡◌, IfOk, option_map};
+ghost use Rattle.clap.specs.Words.{app_of, found_of, rows_of};
+ghost use Rattle.run_frame.specs.Spelled.{spelled};
+ghost use Rattle.tailview.specs.inside.Texts.{view_names_seen};
+ghost use Rattle.tailview.specs.Words.{names_of, command, names_in, with_curfews, with_plan};
+
+use clap::error::ErrorKind;
+use clap::{Arg, ArgAction, ArgMatches, Command};
+use run_frame::{TableNames, tables_command, tables_in, value_of};
+use std::alloc::{AllocError, Global};
+use tail_book::Memory;
+
+/// What the words give: the names of the three tables and of the plan's file, and what is shown beside the plan.
+#[derive(Clone, Copy, PartialEq, Eq, Debug)]
+pub struct ViewNames<'a> {
+    /// The tables.
+    pub tables: TableNames<'a>,
+    /// The file of the plan.
+    pub plan: &'a str,
+    /// The airport whose curfews are drawn.
+    pub airport: Option<&'a str>,
+    /// Whether the picture stands on a page of its own.
+    pub html: bool,
+}
+
+// The command: three words that have to stand in their places, an option that has to be given, and two that may be.
+fn command<'a>(alloc: Global) -> Result<Command<'a>, AllocError>
+    ensures { IfOk result (λ c. app_of c ≡ command) }
+{
+    let command = with_curfews(alloc)?;
+    command.arg(
+        Arg::new(alloc, "html")
+            .long("html")
+            .action(ArgAction::Count),
+    )
+}
+
+fn with_curfews<'a>(alloc: Global) -> Result<Command<'a>, AllocError>
+    ensures { IfOk result (λ c. app_of c ≡ with_curfews) }
+{
+    with_plan(alloc)?.arg(Arg::new(alloc, "curfews").long("curfews"))
+}
+
+fn with_plan<'a>(alloc: Global) -> Result<Command<'a>, AllocError>
+    ensures { IfOk result (λ c. app_of c ≡ with_plan) }
+{
+    tables_command(alloc, "tailview")?.arg(Arg::new(alloc, "plan").long("plan").required(true))
+}
+
+// The names among what the command matched.
+fn names_in<'a>(matches: &ArgMatches<'a>) -> Option<ViewNames<'a>>
+    ensures { option_map view_names_seen result ≡ names_in (rows_of (found_of matches.now)) }
+{
+    let tables = tables_in(matches)?;
+    let plan = value_of(matches, "plan")?;
+    Some(ViewNames {
+        tables,
+        plan,
+        airport: value_of(matches, "curfews"),
+        html: matches.get_count("html") > 0,
+    })
+}
+
+/// The names of the tables and of the plan's file, or nothing where the words are refused. The words begin with the
+/// program's name.
+#[tactic(auto, unfolding(crate::specs::Words::names_of))]
+pub fn names_of<'a>(alloc: Global, words: &'a [String]) -> Result<Option<ViewNames<'a>>, Memory>
+    ensures { IfOk result (λ names. option_map view_names_seen names ≡ names_of (spelled words.now)) }
+{
+    let command = command(alloc)?;
+    match command.try_get_matches_from(words) {
+        Ok(matches) => Ok(names_in(&matches)),
+        Err(error) if error.kind() == ErrorKind::OutOfMemory => Err(Memory),
+        Err(_) => Ok(None),
+    }
+}
