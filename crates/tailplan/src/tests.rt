@@ -3,6 +3,7 @@
 mod costs;
 mod counters;
 mod curfews;
+mod families;
 mod faults;
 mod limits;
 mod links;
@@ -11,6 +12,7 @@ mod permissions;
 mod plans;
 mod refusals;
 mod rooms;
+mod week;
 mod words;
 
 use crate::run::solve_run;

@@ -4,6 +4,7 @@ use super::{
     FLEET, ONE, RULES, THERE, THERE_AND_BACK, TIMETABLE, ends_so, ends_under, files_of, is_so,
     run_on, run_over, text_of,
 };
+use std::alloc::Global;
 use std::test::Fail;
 
 const WORDS: [&str; 4] = ["tailplan", "t", "f", "r"];
@@ -217,5 +218,29 @@ fn a_table_is_text(rt: HostRuntime) -> Result<(), Fail> {
     let files = files_of(rt.alloc(), timetable, fleet, rules)?;
     let seen = run_over(rt.alloc(), &WORDS, files)?;
     assert!(rt; is_so(&seen, 3, "refused 2 fleet 0\n"));
+    Ok(())
+}
+
+// So many flights at one moment.
+fn flights(alloc: Global, count: u32) -> Result<String, Fail> {
+    let mut text = String::from_str(alloc, TIMETABLE)?;
+    for number in 0..count {
+        text.push_str(&format!(in alloc; "F{number}")?)?;
+        text.push_str(",flight,ARN,OSL,2025-03-03T06:00,2025-03-03T07:00,,,,\n")?;
+    }
+    Ok(text)
+}
+
+// The last activity that a timetable may have is its 4,000th.
+#[test]
+fn a_timetable_may_be_too_long(rt: HostRuntime) -> Result<(), Fail> {
+    for (count, status, printed) in [
+        (4_000, 1, "infeasible\n"),
+        (4_001, 3, "refused 10 timetable 4002\n"),
+    ] {
+        let records = flights(rt.alloc(), count)?;
+        let seen = run_on(rt.alloc(), &[&records], &[FLEET], &[RULES])?;
+        assert!(rt; is_so(&seen, status, printed), "{count}");
+    }
     Ok(())
 }
