@@ -30,17 +30,13 @@ const BACK: u32 = 2;
 
 const AGAIN: u32 = 3;
 
-fn named(text: &[u8]) -> Name {
-    Name::new(text)
-}
-
 fn flights(alloc: Global) -> Result<Vec<Activity>, Memory> {
     let mut flights = Vec::new(alloc);
     for (id, from, to, start, end) in [
-        (named(b"LONG".as_slice()), ARN, OSL, 360, 420),
-        (named(b"SHORT".as_slice()), ARN, OSL, 370, 400),
-        (named(b"BACK".as_slice()), OSL, ARN, 480, 540),
-        (named(b"AGAIN".as_slice()), ARN, OSL, 600, 640),
+        (Name::new(b"LONG".as_slice()), ARN, OSL, 360, 420),
+        (Name::new(b"SHORT".as_slice()), ARN, OSL, 370, 400),
+        (Name::new(b"BACK".as_slice()), OSL, ARN, 480, 540),
+        (Name::new(b"AGAIN".as_slice()), ARN, OSL, 600, 640),
     ] {
         let mut resets = Vec::new(alloc);
         if start == 360 {
@@ -66,8 +62,8 @@ fn flights(alloc: Global) -> Result<Vec<Activity>, Memory> {
 fn fleet(alloc: Global) -> Result<Vec<Tail>, Memory> {
     let mut tails = Vec::new(alloc);
     for (name, at, minutes, landings) in [
-        (named(b"A".as_slice()), ARN, 0, 0),
-        (named(b"B".as_slice()), OSL, 50, 3),
+        (Name::new(b"A".as_slice()), ARN, 0, 0),
+        (Name::new(b"B".as_slice()), OSL, 50, 3),
     ] {
         tails.push(Tail {
             name,
@@ -86,14 +82,14 @@ fn fleet(alloc: Global) -> Result<Vec<Tail>, Memory> {
 // Minutes flown up to a limit, between stops of so long at ARN; and landings, which no stop clears.
 fn counters(alloc: Global, limit: i64, stop: i64) -> Result<Vec<Counter>, Memory> {
     let minutes = Counter {
-        name: named(b"minutes".as_slice()),
+        name: Name::new(b"minutes".as_slice()),
         kind: CounterKind::Minutes,
         limit,
         bases: vec![in alloc; ARN]?,
         stop,
     };
     let landings = Counter {
-        name: named(b"landings".as_slice()),
+        name: Name::new(b"landings".as_slice()),
         kind: CounterKind::Landings,
         limit: 9,
         bases: Vec::new(alloc),
@@ -104,9 +100,9 @@ fn counters(alloc: Global, limit: i64, stop: i64) -> Result<Vec<Counter>, Memory
 
 fn book(alloc: Global, limit: i64, stop: i64) -> Result<Book, Fail> {
     let (kind, arn, osl) = (
-        named(b"A320".as_slice()),
-        named(b"ARN".as_slice()),
-        named(b"OSL".as_slice()),
+        Name::new(b"A320".as_slice()),
+        Name::new(b"ARN".as_slice()),
+        Name::new(b"OSL".as_slice()),
     );
     let airport = |name| Airport {
         name,
@@ -186,19 +182,43 @@ fn floor_text(alloc: Global, book: &Book, row: &FloorRow, a: usize) -> Result<St
     }
 }
 
-// All floors of an aircraft under a fact, as text.
-fn floors_text(alloc: Global, book: &Book, fact: Option<Fact>, k: u32) -> Result<String, Fail> {
-    let (net, steps) = (Net::new(alloc, book)?, StepTable::of(alloc, book)?);
-    let marks = marked(alloc, book, fact)?;
+// All floors of a row as text.
+fn row_text(alloc: Global, book: &Book, row: &FloorRow) -> Result<String, Fail>
+    requires row { IsRowOf book.now row.now }
+{
+    let mut text = String::new(alloc);
+    for a in 0..book.activities.len() {
+        text.push_str(&floor_text(alloc, book, row, a)?)?;
+    }
+    Ok(text)
+}
+
+// The floors of an aircraft as text.
+fn text_of(
+    alloc: Global,
+    book: &Book,
+    net: &Net,
+    steps: &StepTable,
+    marks: &Marks,
+    k: u32,
+) -> Result<String, Fail>
+    requires net { net.now ≡ net_of book.now }
+    requires steps { IsStepTableOf book.now steps.now }
+    requires marks { AreMarksOf book.now marks.now }
+{
     if k as usize >= book.tails.len() {
         return Err("no aircraft")?;
     }
-    let row = floors(alloc, book, &net, &steps, &marks, k)?;
-    let mut text = String::new(alloc);
-    for a in 0..book.activities.len() {
-        text.push_str(&floor_text(alloc, book, &row, a)?)?;
-    }
-    Ok(text)
+    let row = floors(alloc, book, net, steps, marks, k)?;
+    row_text(alloc, book, &row)
+}
+
+// All floors of an aircraft under a fact, as text.
+fn floors_text(alloc: Global, book: &Book, fact: Option<Fact>, k: u32) -> Result<String, Fail> {
+    let net = Net::new(alloc, book)?;
+    let steps = StepTable::of(alloc, book)?;
+    let marks = marked(alloc, book, fact)?;
+    text_of(alloc, book, &net, &steps, &marks, k)
 }
 
 // Whether the floors of an aircraft are these, where a stop of so many minutes clears its minutes in the air.
@@ -264,8 +284,34 @@ fn stops_clear_floors(rt: HostRuntime) -> Result<(), Fail> {
     Ok(())
 }
 
-// Whether the first aircraft can go on from an activity at all, and to another one, under a fact; and whether it can over
-// a link between them that it may use.
+// Whether the first aircraft can go on from an activity at all, and to another one; and whether it can over a link
+// between them that it may use.
+fn goings_of(
+    alloc: Global,
+    book: &Book,
+    net: &Net,
+    steps: &StepTable,
+    marks: &Marks,
+    a: u32,
+    b: u32,
+) -> Result<(bool, bool, bool), Fail>
+    requires net { net.now ≡ net_of book.now }
+    requires steps { IsStepTableOf book.now steps.now }
+    requires marks { AreMarksOf book.now marks.now }
+{
+    let n = book.activities.len() as u32;
+    if book.tails.is_empty() || a >= n || b >= n {
+        return Err("no such numbers")?;
+    }
+    let row = floors(alloc, book, net, steps, marks, 0)?;
+    let mut values = room(alloc, book)?;
+    let all = goes_on(book, net, steps, marks, 0, a, &row, &mut values);
+    let one = goes_on_to(book, steps, marks, 0, a, b, &row, &mut values);
+    let over = goes_on_over(book, steps, 0, a, b, &row, &mut values);
+    Ok((all, one, over))
+}
+
+// The same under a fact.
 fn goings(
     alloc: Global,
     book: &Book,
@@ -273,18 +319,10 @@ fn goings(
     a: u32,
     b: u32,
 ) -> Result<(bool, bool, bool), Fail> {
-    let (net, steps) = (Net::new(alloc, book)?, StepTable::of(alloc, book)?);
+    let net = Net::new(alloc, book)?;
+    let steps = StepTable::of(alloc, book)?;
     let marks = marked(alloc, book, fact)?;
-    let n = book.activities.len() as u32;
-    if book.tails.is_empty() || a >= n || b >= n {
-        return Err("no such numbers")?;
-    }
-    let row = floors(alloc, book, &net, &steps, &marks, 0)?;
-    let mut values = room(alloc, book)?;
-    let all = goes_on(book, &net, &steps, &marks, 0, a, &row, &mut values);
-    let one = goes_on_to(book, &steps, &marks, 0, a, b, &row, &mut values);
-    let over = goes_on_over(book, &steps, 0, a, b, &row, &mut values);
-    Ok((all, one, over))
+    goings_of(alloc, book, &net, &steps, &marks, a, b)
 }
 
 // With 100 minutes the aircraft cannot come back from the long flight; a Cut leaves nothing behind the short one, though
