@@ -47,6 +47,3 @@ pub use step::Step;
 pub use stop::Stop;
 pub use telling::{note_all, note_one, note_steps};
 pub use tools::NodeTools;
-
-#[cfg(test)]
-mod tests;

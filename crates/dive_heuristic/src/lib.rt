@@ -15,6 +15,3 @@ mod tally;
 pub use answer::{DeadEnd, Dive, DiveStep};
 pub use diver::Diver;
 pub use diving::dive;
-
-#[cfg(test)]
-mod tests;

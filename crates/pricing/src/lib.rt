@@ -20,6 +20,3 @@ mod window;
 pub use exact_price::price;
 pub use priced::Priced;
 pub use pricer::Pricer;
-
-#[cfg(test)]
-mod tests;

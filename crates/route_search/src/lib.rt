@@ -17,6 +17,3 @@ mod task;
 pub use found::Found;
 pub use search::RouteSearch;
 pub use suggest::Suggestions;
-
-#[cfg(test)]
-mod tests;
