@@ -10,5 +10,6 @@ mod Shifted
 mod PoolSums
 mod Climbing
 mod FlatPool
+mod Indexing
 mod Compaction
 mod KeptPool

@@ -12,6 +12,8 @@ ghost use Rattle.restricted_master.specs.inside.Hash.{hash_of};
 use crate::costing::route_cost;
 use crate::entry::Entry;
 use crate::hashing::hash_of;
+use crate::index::LISTS;
+use crate::route_lists::list_at;
 use crate::{Pool, PoolAdd};
 use tail_book::{Book, CostTable, Memory, Route};
 
@@ -35,14 +37,6 @@ fn put(entries: &mut Vec<Entry>, entry: Entry)
 }
 
 impl Pool {
-    // The hash of a route of the pool.
-    fn hash(&self, i: usize) -> u32
-        requires { i < length self.now.entries }
-        ensures { result ≡ hash_of (aircraft_at self.now i) (route_at self.now i) }
-    {
-        self.entries[i].hash
-    }
-
     // Whether an entry is this route of this aircraft.
     fn is_entry(&self, i: usize, k: u32, route: &[u32]) -> bool
         requires { i < length self.now.entries }
@@ -51,13 +45,31 @@ impl Pool {
         self.aircraft(i) == k && self.route(i) == route
     }
 
-    // The number of a route, where the pool has it.
+    // Whether this number is that of this route, which has this hash.
+    fn is_number(&self, i: usize, hash: u32, k: u32, route: &[u32]) -> bool
+        requires { hash ≡ hash_of k route.now }
+        ensures { IsTrue result ↔ ((i < length self.now.entries) × (entry_at self.now i ≡ record { aircraft = k; route = route.now })) }
+    {
+        if i >= self.count() || self.hash(i) != hash {
+            return false;
+        }
+        self.is_entry(i, k, route)
+    }
+
+    // The number of a route, where the pool has it: in the list of its hash, or among the routes that are not listed yet.
     fn find(&self, k: u32, route: &[u32]) -> Option<usize>
         ensures { MatchOption result (¬ Contains self.now.entries (record { aircraft = k; route = route.now })) (λ i. (i < length self.now.entries) × (entry_at self.now i ≡ record { aircraft = k; route = route.now })) }
     {
         let hash = hash_of(k, route);
-        for i in 0..self.count() {
-            if self.hash(i) == hash && self.is_entry(i, k, route) {
+        let numbers = list_at(&self.lists, hash as usize % LISTS);
+        for q in 0..numbers.len() {
+            let i = numbers[q] as usize;
+            if self.is_number(i, hash, k, route) {
+                return Some(i);
+            }
+        }
+        for i in self.listed..self.count() {
+            if self.is_number(i, hash, k, route) {
                 return Some(i);
             }
         }
@@ -101,6 +113,7 @@ impl Pool {
         ensures memory { OnErr result (self.new ≡ self.old) }
         ensures kept { IsPoolFor table.now book.now self.old → IsPoolFor table.now book.now self.new }
     {
+        self.list_rest()?;
         if let Some(i) = self.find(k, &route.0) {
             return Ok(PoolAdd::There(i));
         }

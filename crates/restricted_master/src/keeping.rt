@@ -14,6 +14,7 @@ ghost use Rattle.restricted_master.specs.inside.Flat.{pooled_in, LiesWithin};
 
 use crate::Pool;
 use crate::entry::Entry;
+use crate::index::clear_all;
 use branch_marks::Marks;
 use tail_book::Book;
 
@@ -53,5 +54,7 @@ impl Pool {
         ensures { KeepsFitting book.now marks.now.facts self.old self.new }
     {
         keep(book, marks, &self.activities, &mut self.entries);
+        self.listed = 0;
+        clear_all(&mut self.lists);
     }
 }

@@ -7,6 +7,7 @@ mod choosing;
 mod costing;
 mod entry;
 mod hashing;
+mod index;
 mod keeping;
 pub mod laws;
 mod moving;

@@ -2,11 +2,15 @@
 //!
 //! Routes lie flat: the activities of all of them in one list, and for each route an entry that says where it begins and
 //! ends. So a walk over the pool reads memory in order, and a route is lent as a slice.
+//!
+//! The numbers of routes are listed by their hashes, so that a route is found without a walk.
 
 ghost use Rattle.std.specs.Prelude.{◌≡◌, ◌<◌, ◌≤◌, ◌^◌, length, IfOk};
 ghost use Rattle.restricted_master.specs.Pool.{aircraft_at, cost_at, empty_pool, route_at};
 
 use crate::entry::Entry;
+use crate::index::LISTS;
+use crate::route_lists::{Numbers, empty_lists};
 use std::alloc::Global;
 use std::marker::Model;
 use tail_book::Memory;
@@ -17,17 +21,21 @@ use tail_book::Memory;
 pub struct Pool {
     pub(crate) activities: Vec<u32>,
     pub(crate) entries: Vec<Entry>,
+    // the numbers of the first so many routes, by their hashes
+    pub(crate) lists: Vec<Numbers>,
+    pub(crate) listed: usize,
 }
 
 impl Model for Pool {
     ghost use Rattle.restricted_master.specs.Seen.{PoolSeen};
     ghost use Rattle.restricted_master.specs.inside.Flat.{IsFlat, pool_of};
+    ghost use Rattle.restricted_master.specs.inside.Index.{IsIndexed};
 
     ghost Value = { PoolSeen };
 
     ghost view = { λ p. pool_of p.activities.items p.entries.items };
 
-    ghost invariant = { λ p. IsFlat p.activities.items p.entries.items };
+    ghost invariant = { λ p. IsFlat p.activities.items p.entries.items × IsIndexed (pool_of p.activities.items p.entries.items) p.lists.items p.listed };
 }
 
 impl Pool {
@@ -36,9 +44,12 @@ impl Pool {
         ensures { IfOk result (λ pool. pool ≡ empty_pool) }
     {
         let (activities, entries) = (Vec::new(alloc), Vec::new(alloc));
+        let lists = empty_lists(alloc, LISTS)?;
         Ok(Pool {
             activities,
             entries,
+            lists,
+            listed: 0,
         })
     }
 

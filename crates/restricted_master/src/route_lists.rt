@@ -3,7 +3,7 @@
 //! They are made in one walk over the pool, aircraft by aircraft, so that the routes of an activity come in order of
 //! aircraft. Whoever goes over a pool many times makes them once, and they serve until the pool changes.
 
-ghost use Rattle.std.specs.Prelude.{◌≡◌, ℕ, ◌<◌, ◌≤◌, ◌^◌, ◌++◌, ◌∷◌, [], All, length, replicate, slice_set, IfOk};
+ghost use Rattle.std.specs.Prelude.{◌≡◌, ℕ, ◌<◌, ◌≤◌, ◌^◌, ◌++◌, ◌∷◌, [], All, length, replicate, slice_set, IfOk, OnErr};
 ghost use Rattle.tail_book.specs.Lookup.{activities, aircraft};
 ghost use Rattle.tail_book.specs.declared.place.Place.TheVariants.{Carry};
 ghost use Rattle.tail_book.specs.inside.Rising.{IsRisingFrom};
@@ -34,7 +34,7 @@ impl Model for RouteLists {
 
 /// Numbers of routes. Contracts see their list.
 #[derive(Debug, Drop)]
-struct Numbers(Vec<u32>);
+pub(crate) struct Numbers(pub(crate) Vec<u32>);
 
 impl Model for Numbers {
     ghost use Rattle.std.specs.Prelude.{ℕ, List};
@@ -81,7 +81,7 @@ impl RouteLists {
 }
 
 // One of the lists.
-fn list_at(lists: &[Numbers], at: usize) -> &[u32]
+pub(crate) fn list_at(lists: &[Numbers], at: usize) -> &[u32]
     requires { at < length lists.now }
     ensures { result.now ≡ list_at lists.now at }
 {
@@ -90,7 +90,7 @@ fn list_at(lists: &[Numbers], at: usize) -> &[u32]
 }
 
 // So many empty lists.
-fn empty_lists(alloc: Global, count: usize) -> Result<Vec<Numbers>, Memory>
+pub(crate) fn empty_lists(alloc: Global, count: usize) -> Result<Vec<Numbers>, Memory>
     ensures { IfOk result (λ lists. lists.items ≡ replicate count []) }
 {
     let mut lists = Vec::with_capacity(alloc, count)?;
@@ -101,9 +101,10 @@ fn empty_lists(alloc: Global, count: usize) -> Result<Vec<Numbers>, Memory>
 }
 
 // Puts a number at the end of one list.
-fn put(lists: &mut Vec<Numbers>, at: usize, i: u32) -> Result<(), Memory>
+pub(crate) fn put(lists: &mut Vec<Numbers>, at: usize, i: u32) -> Result<(), Memory>
     requires { at < length lists.old.items }
-    ensures { IfOk result (λ _. lists.new.items ≡ slice_set lists.old.items at (list_at lists.old.items at ++ i ∷ [])) }
+    ensures put { IfOk result (λ _. lists.new.items ≡ slice_set lists.old.items at (list_at lists.old.items at ++ i ∷ [])) }
+    ensures memory { OnErr result (lists.new.items ≡ lists.old.items) }
 {
     let numbers = &mut lists[at];
     numbers.0.push(i)?;

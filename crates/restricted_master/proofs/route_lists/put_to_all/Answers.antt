@@ -14,4 +14,4 @@ pub loop-q-preserved : goal.loop-q-preserved
 loop-q-preserved c =
     grow_one c.args.route.now c.loop-q.q c.args.i _ c.args.lists.now.items c.loop-q.lists.items c.put.new.lists.items c.loop-q.invariant
     c.loop-q-test.true refl (rising_in _ Carry c.args.route.now c.loop-q.q c.requires c.loop-q-test.true)
-    (rising_apart _ Carry c.args.route.now c.loop-q.q c.requires c.loop-q-test.true) c.in_ok-put.ensures
+    (rising_apart _ Carry c.args.route.now c.loop-q.q c.requires c.loop-q-test.true) c.in_ok-put.ensures.put

@@ -1,4 +1,4 @@
-use Rattle.std.proofs.Common.{◌≡◌, ◌<◌, sym, subst, refl, List, ℕ}
+use Rattle.std.proofs.Common.{◌≡◌, ◌<◌, ◌∙◌, sym, subst, refl, List, ℕ}
 use Rattle.std.proofs.lemmas.List.{get_or-map, length-map}
 use Rattle.std.specs.Prelude.{All, filter}
 use Rattle.tail_book.specs.Lookup.{aircraft}
@@ -8,6 +8,7 @@ use Rattle.restricted_master.specs.Pool.{IsPoolFor}
 use Rattle.restricted_master.specs.declared.entry.Entry.{Entry}
 use Rattle.restricted_master.specs.Keeping.{fits_entry}
 use Rattle.restricted_master.specs.inside.Flat.{pooled_in}
+use Rattle.restricted_master.proofs.Indexing.{none_indexed}
 use Rattle.restricted_master.proofs.KeptPool.{left_flat, left_for, left_keeps}
 use Rattle.restricted_master.proofs.pool.Pool.keep_fitting.Goals as goal
 
@@ -21,8 +22,10 @@ keep-requires-clause-aircraft c = λ k d lt.
 
 -- those that are left are kept as they were
 pub invariant_of-self : goal.invariant_of-self
-invariant_of-self c =
-    left_flat c.self.inside.activities.items c.self.inside.entries.items c.keep.new.entries.items (fits_entry c.args.book.now c.args.marks.now.facts) (subst (λ (xs : List ℕ). c.keep.new.entries.items ≡ filter (λ (entry : Entry). fits_entry c.args.book.now c.args.marks.now.facts (pooled_in xs entry)) c.self.inside.entries.items) c.deref.ensures.value c.keep.ensures) c.self.invariant
+invariant_of-self c = (
+  left_flat c.self.inside.activities.items c.self.inside.entries.items c.keep.new.entries.items (fits_entry c.args.book.now c.args.marks.now.facts) (subst (λ (xs : List ℕ). c.keep.new.entries.items ≡ filter (λ (entry : Entry). fits_entry c.args.book.now c.args.marks.now.facts (pooled_in xs entry)) c.self.inside.entries.items) c.deref.ensures.value c.keep.ensures) c.self.invariant.0,
+  none_indexed _ c.clear_all.new.lists.items (c.clear_all.ensures ∙ c.self.invariant.1.each),
+)
 
 pub returns : goal.returns
 returns c = record {
