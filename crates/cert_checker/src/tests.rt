@@ -355,33 +355,41 @@ fn cut_at_every_byte(rt: HostRuntime) -> Result<(), Fail> {
     Ok(())
 }
 
-// Whether a claim is true where two flights at once cost 240 or 300.
-fn is_true_of_rates(claim: Claim) -> bool {
+// Whether a claim is true where legal plans have these costs, which rise, and no others.
+fn is_true(costs: &[u64], claim: Claim) -> bool {
     match claim {
-        Claim::Optimal(cost) => cost == 240,
-        Claim::Infeasible => false,
-        Claim::Limit { low, high } => low <= 240
-            && (high.is_none() || high == Some(240) || high == Some(300)),
+        Claim::Optimal(cost) => costs.first().copied() == Some(cost),
+        Claim::Infeasible => costs.is_empty(),
+        Claim::Limit { low, high } => {
+            let is_low = costs.first().copied().is_none_or(|least| low <= least);
+            is_low && high.is_none_or(|cost| costs.contains(&cost))
+        }
     }
 }
 
 // Whether a verdict is none that claims what is not true.
-fn is_safe(verdict: Verdict) -> bool {
+fn is_safe(costs: &[u64], verdict: Verdict) -> bool {
     match verdict {
-        Verdict::Yes(claim) => is_true_of_rates(claim),
+        Verdict::Yes(claim) => is_true(costs, claim),
         Verdict::No { .. } => true,
     }
 }
 
 // Whether a text never claims what is not true, with any of six bytes at a place.
-fn is_safe_at(alloc: Global, book: &Book, bytes: &mut [u8], at: usize) -> Result<bool, Memory>
+fn is_safe_at(
+    alloc: Global,
+    book: &Book,
+    costs: &[u64],
+    bytes: &mut [u8],
+    at: usize,
+) -> Result<bool, Memory>
     requires { at < length bytes.old }
     ensures { length bytes.new ≡ length bytes.old }
 {
     let known = bytes[at];
     for byte in [b'0', b'1', b'9', b'-', b' ', b'\n'] {
         bytes[at] = byte;
-        if !is_safe(judge(alloc, book, bytes)?) {
+        if !is_safe(costs, judge(alloc, book, bytes)?) {
             return Ok(false);
         }
     }
@@ -389,16 +397,37 @@ fn is_safe_at(alloc: Global, book: &Book, bytes: &mut [u8], at: usize) -> Result
     Ok(true)
 }
 
-// A certificate of the least cost with one byte changed, each in turn to six others, never claims what is not true.
-#[test]
-fn one_byte_away(rt: HostRuntime) -> Result<(), Fail> {
-    let book = rates(rt.alloc())?;
-    let text = with_lines(rt.alloc(), 0, 0, "")?;
-    let mut copy = Vec::from_slice(rt.alloc(), text.as_bytes())?;
+// The first place at which another byte makes a text claim what is not true.
+fn unsafe_place(
+    alloc: Global,
+    book: &Book,
+    costs: &[u64],
+    text: &str,
+) -> Result<Option<usize>, Memory> {
+    let mut copy = Vec::from_slice(alloc, text.as_bytes())?;
     let bytes = copy.as_mut_slice();
     for at in 0..bytes.len() {
-        assert!(rt; is_safe_at(rt.alloc(), &book, bytes, at)?, "{at}");
+        if !is_safe_at(alloc, book, costs, bytes, at)? {
+            return Ok(Some(at));
+        }
     }
+    Ok(None)
+}
+
+// Certificates of a least cost, of a split and of a leaf without covers, with one byte changed, each in turn to six
+// others, never claim what is not true.
+#[test]
+fn one_byte_away(rt: HostRuntime) -> Result<(), Fail> {
+    let (book, costs) = (rates(rt.alloc())?, [240, 300]);
+    let text = with_lines(rt.alloc(), 0, 0, "")?;
+    assert_eq!(rt; unsafe_place(rt.alloc(), &book, &costs, &text)?, None);
+    let book = late(rt.alloc())?;
+    let text =
+        "tailcert 1 2 1 0\nsplit fly 0 1\nstuck 0\nlabel 0 60000\nhole 1\nclaim infeasible\n";
+    assert_eq!(rt; unsafe_place(rt.alloc(), &book, &[], text)?, None);
+    let book = nobody(rt.alloc())?;
+    let text = "tailcert 1 1 0 0\nbound\ndual 0 1001\nclaim limit 2 -\n";
+    assert_eq!(rt; unsafe_place(rt.alloc(), &book, &[], text)?, None);
     Ok(())
 }
 
