@@ -1,0 +1,5 @@
+pub mod Draws
+pub mod Flights
+pub mod Rows
+pub mod Trial
+pub mod inside
