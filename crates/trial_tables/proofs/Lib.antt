@@ -1,2 +1,8 @@
 pub mod FlightLemmas
+pub mod LineLemmas
+pub mod TableLemmas
+pub mod StampLemmas
+pub mod RouteLemmas
+pub mod RulesLemmas
+pub mod ReadLemmas
 mod Examples
