@@ -5,4 +5,7 @@ pub mod StampLemmas
 pub mod RouteLemmas
 pub mod RulesLemmas
 pub mod ReadLemmas
+pub mod MadeLemmas
+pub mod NewNames
+pub mod PlaceLemmas
 mod Examples

@@ -3,3 +3,4 @@ pub mod Halves
 pub mod Plain
 pub mod TrialBook
 pub mod RawTrial
+pub mod Ids
