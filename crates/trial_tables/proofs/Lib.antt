@@ -8,4 +8,7 @@ pub mod ReadLemmas
 pub mod MadeLemmas
 pub mod NewNames
 pub mod PlaceLemmas
+pub mod BookLemmas
+pub mod PlanLemmas
+pub mod TrialLemmas
 mod Examples

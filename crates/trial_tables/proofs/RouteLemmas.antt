@@ -155,7 +155,7 @@ module _ (acts : List ActivitySeen) (tails : List TailSeen) (k home : ℕ) (is_t
     Placed flights = All (λ f. IsAt acts (number f) f) flights
 
     -- flights from j on, from a place where the aircraft stands since a moment
-    legal-from : (more j at since x fh count : ℕ) (place : Place) → j + more ≡ 15 → at < 5
+    pub legal-from : (more j at since x fh count : ℕ) (place : Place) → j + more ≡ 15 → at < 5
         → port (book_with acts tails) k place ≡ at → free_from (book_with acts tails) k place ≡ pos (first_minute + since)
         → IsAllowedAt (book_with acts tails) k place → ((m : ℕ) → turn_time (book_with acts tails) k place m ≤ℤ pos 30)
         → (j ≡ 0 → fh ≡ 0) → fh ≤ 179 * ((j + 4) % 5 + 1) → count ≡ j
@@ -189,7 +189,7 @@ module _ (acts : List ActivitySeen) (tails : List TailSeen) (k home : ℕ) (is_t
         (legal-from more (j + 1) f.to f.end (next (next (next x))) fh_after (count + 1) (After n) (omega arith) to
         (rw (here.is) refl) (rw (here.is) refl) flies (λ m. turn-short n m f here to) (λ none. absurd (omega arith)) spent (omega arith) others))
 
-    costs-from : (more j at since x : ℕ) (place : Place) → Placed (flights_from more k j at since x)
+    pub costs-from : (more j at since x : ℕ) (place : Place) → Placed (flights_from more k j at since x)
         → cost_from (book_with acts tails) k place (map number (flights_from more k j at since x)) ≡ sum_by flight_cost (flights_from more k j at since x)
     unfolding flights_from
     costs-from zero j at since x place placed = refl

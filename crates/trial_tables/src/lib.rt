@@ -3,6 +3,7 @@
 
 mod draws;
 mod flight;
+pub mod laws;
 mod rows;
 mod trial;
 

@@ -7,11 +7,13 @@
 ghost use Rattle.std.specs.Prelude.{◌≡◌, ◌++◌, ◌≤◌, ◌<◌, ◌+◌, map, IfOk, OnOk};
 ghost use Rattle.trial_tables.specs.Draws.{after, next};
 ghost use Rattle.trial_tables.specs.Flights.{airports_from, all_flights_from, behind, flights_from, flights_of};
+ghost use Rattle.trial_tables.specs.Making.{HasBook};
 ghost use Rattle.trial_tables.specs.Rows.{flight_fields, lines_of};
 ghost use Rattle.trial_tables.specs.Trial.{fleet_rows, rules_text, trial_of};
 
 use crate::draws::{drawn, next};
 use crate::flight::flight_of;
+use crate::laws::trials_are_books;
 use crate::rows::{add_aircraft, add_flight};
 use std::alloc::Global;
 use std::marker::Model;
@@ -104,8 +106,10 @@ fn rules_text(alloc: Global) -> Result<Vec<u8>, Memory>
 /// The three tables of a seed.
 pub fn trial_tables(alloc: Global, seed: u64) -> Result<Trial, Memory>
     requires { seed ≤ SEED_LIMIT }
-    ensures { IfOk result (λ trial. trial ≡ trial_of seed) }
+    ensures texts { IfOk result (λ trial. trial ≡ trial_of seed) }
+    ensures book { IfOk result (λ trial. HasBook seed trial) }
 {
+    trials_are_books();
     let mut timetable = Line::new(alloc)?;
     let mut fleet = Line::new(alloc)?;
     timetable.text(TIMETABLE_HEADER)?;

@@ -42,15 +42,15 @@ abbrev pub raw_tails : ℕ → List ℕ → List RawTailSeen
 raw_tails k [] = []
 raw_tails k (at ∷ more) = raw_tail k at ∷ raw_tails (k + 1) more
 
-abbrev pub airport_names : List (List ℕ)
-airport_names = codes "T0" ∷ codes "T1" ∷ codes "T2" ∷ codes "T3" ∷ codes "T4" ∷ []
+abbrev pub all_airports : List (List ℕ)
+all_airports = codes "T0" ∷ codes "T1" ∷ codes "T2" ∷ codes "T3" ∷ codes "T4" ∷ []
 
 abbrev pub raw_rules : RawRulesSeen
 raw_rules = record {
   kinds = kinds_made;
   airports = airports_made;
   curfews = [];
-  counters = record { name = codes "fh"; kind = Minutes; limit = pos 900; bases = airport_names; stop = pos 480 }
+  counters = record { name = codes "fh"; kind = Minutes; limit = pos 900; bases = all_airports; stop = pos 480 }
       ∷ record { name = codes "ldg"; kind = Landings; limit = pos 20; bases = []; stop = pos 1 } ∷ [];
   bands = [];
 }

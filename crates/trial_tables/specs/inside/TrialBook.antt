@@ -1,9 +1,11 @@
 -- The book of a trial: what its three tables stand for.
-use Rattle.std.specs.Prelude.{ℕ, ◌+◌, ◌%◌, ◌==◌, ℤ, pos, if◌then◌else◌, true, List, [], ◌∷◌, None, codes}
+use Rattle.std.specs.Prelude.{ℕ, ◌+◌, ◌%◌, ◌==◌, ℤ, pos, if◌then◌else◌, true, List, [], ◌∷◌, None, codes, map}
 use Rattle.tail_book.specs.Seen.{ActivitySeen, AirportSeen, BookSeen, CounterSeen, RulesSeen, TailSeen}
 use Rattle.tail_book.specs.declared.rules.AircraftType.{AircraftType}
 use Rattle.tail_book.specs.declared.rules.CounterKind.TheVariants.{Landings, Minutes}
 use Rattle.trial_tables.specs.declared.flight.Flight.{Flight}
+use Rattle.book_maker.specs.Order.{in_order}
+use Rattle.trial_tables.specs.Flights.{all_flights, first_airports}
 use Rattle.trial_tables.specs.Rows.{aircraft_name, flight_id}
 
 -- the start of the first day, 2025-03-03, in minutes since 1970-01-01T00:00 UTC
@@ -67,3 +69,7 @@ rules_made = record { kinds = kinds_made; airports = airports_made; curfews = []
 
 abbrev pub book_with : List ActivitySeen → List TailSeen → BookSeen
 book_with activities tails = record { activities = activities; tails = tails; rules = rules_made }
+
+-- the book of a seed
+abbrev pub book_made : ℕ → BookSeen
+book_made seed = book_with (in_order (map activity_made (all_flights seed))) (tails_made 0 (first_airports seed))
