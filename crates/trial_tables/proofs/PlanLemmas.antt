@@ -1,4 +1,4 @@
--- The routes of the making are a legal plan, and cost what the making says.
+-- What each aircraft was made to fly is a legal route, all of them a plan, and they cost what the making says.
 use Rattle.std.proofs.Common.{◌≡◌, ◌≢◌, ◌∙◌, ◌+◌, ◌*◌, ◌<◌, ◌≤◌, ℕ, zero, suc, ℤ, pos, List, [], ◌∷◌, ◌++◌, map, length, get_or, All, AllPairs, Contains, IsPermutation, slice_index_or, nat_eq, count_by, sum_by, arith, refl, sym, ap, subst}
 use Rattle.std.specs.List.{flat_map}
 use Rattle.std.proofs.lemmas.List.{get_or-map, length-map, map-append}

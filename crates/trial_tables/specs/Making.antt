@@ -34,7 +34,7 @@ routes_from book (suc more) k x = map (number_in book) (flights_of k x) ∷ rout
 abbrev pub making_plan : BookSeen → ℕ → List (List ℕ)
 making_plan book seed = routes_from book 8 0 seed
 
--- the three texts are this book, and the routes of the making are a legal plan of it, at the cost of the making
+-- the three texts are this book, and what each aircraft was made to fly is a legal plan of it, which costs what was made
 pub record IsBookOfTrial (seed : ℕ) (trial : TrialSeen) (book : BookSeen) : Type 0 where
   pub read : book_of trial.timetable trial.fleet trial.rules ≡ Ok book
   pub plan : IsPlanOf book (making_cost seed) (making_plan book seed)

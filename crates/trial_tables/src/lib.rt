@@ -9,3 +9,6 @@ mod trial;
 
 pub use trial::{SEED_LIMIT, Trial, trial_tables};
 
+
+#[cfg(test)]
+mod tests;

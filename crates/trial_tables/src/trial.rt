@@ -1,8 +1,8 @@
 //! The three texts of a trial.
 //!
 //! Flights are made for each aircraft in turn, each from where the one before it ends, and with stops that are long
-//! enough for every turn and every limit: so the routes of the making are a legal plan. Which aircraft flies what is
-//! then left out of the texts.
+//! enough for every turn and every limit. So some legal plan is known from the start, with its cost, and a search that
+//! is given the texts alone has to find one as good.
 
 ghost use Rattle.std.specs.Prelude.{◌≡◌, ◌++◌, ◌≤◌, ◌<◌, ◌+◌, map, IfOk, OnOk};
 ghost use Rattle.trial_tables.specs.Draws.{after, next};
