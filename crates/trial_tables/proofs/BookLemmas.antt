@@ -57,8 +57,11 @@ flights-found : (tails tags before : List (List ℕ)) (place : ℕ) (flights : L
 unfolding looked_up_from
 flights-found tails tags before place [] made new = refl
 flights-found tails tags before place (f ∷ flights) made new =
-    rw (first-new before (id_of f) (map id_of flights) new, flight-found tails tags f (All-head IsMade f flights made),
-    flights-found tails tags (before ++ id_of f ∷ []) (place + 1) flights (All-tail IsMade f flights made) (others-new before (id_of f) (map id_of flights) new)) refl
+    rw (
+      first-new before (id_of f) (map id_of flights) new,
+      flight-found tails tags f (All-head IsMade f flights made),
+      flights-found tails tags (before ++ id_of f ∷ []) (place + 1) flights (All-tail IsMade f flights made) (others-new before (id_of f) (map id_of flights) new),
+    ) refl
 
 tail-found : (tags : List (List ℕ)) (k at : ℕ) → at < 5
     → tail_in (kind_names raw_rules) (airport_names raw_rules) (counter_names raw_rules) tags (raw_tail k at) ≡ Ok (tail_made k at)
@@ -71,8 +74,11 @@ tails-found : (tags before : List (List ℕ)) (k place : ℕ) (airports : List �
 unfolding looked_up_from
 tails-found tags before k place [] below new = refl
 tails-found tags before k place (at ∷ more) below new =
-    rw (first-new before (aircraft_name k) (aircraft_names (k + 1) more) new, tail-found tags k at (All-head (λ at. at < 5) at more below),
-    tails-found tags (before ++ aircraft_name k ∷ []) (k + 1) (place + 1) more (All-tail (λ at. at < 5) at more below) (others-new before (aircraft_name k) (aircraft_names (k + 1) more) new)) refl
+    rw (
+      first-new before (aircraft_name k) (aircraft_names (k + 1) more) new,
+      tail-found tags k at (All-head (λ at. at < 5) at more below),
+      tails-found tags (before ++ aircraft_name k ∷ []) (k + 1) (place + 1) more (All-tail (λ at. at < 5) at more below) (others-new before (aircraft_name k) (aircraft_names (k + 1) more) new),
+    ) refl
 
 names-new : (x : ℕ) → are_new [] (aircraft_names 0 (airports_from 8 x)) ≡ true
 unfolding airports_from are_new
@@ -86,15 +92,18 @@ made : (seed : ℕ) → made_of (map raw_flight (all_flights seed)) (raw_tails 0
 made seed =
     let tags = tags_of (raw_tails 0 (first_airports seed)) (map raw_flight (all_flights seed)) in
     let tails : tails_in raw_rules tags (raw_tails 0 (first_airports seed)) ≡ Ok (tails_made 0 (first_airports seed)) =
-        tails-found tags [] 0 2 (first_airports seed) (airports-below 8 seed) (names-new seed) in
+    tails-found tags [] 0 2 (first_airports seed) (airports-below 8 seed) (names-new seed) in
     let activities : activities_in raw_rules (raw_tails 0 (first_airports seed)) tags (map raw_flight (all_flights seed)) ≡ Ok (map activity_made (all_flights seed)) =
-        flights-found (map (λ t. t.name) (raw_tails 0 (first_airports seed))) tags [] 2 (all_flights seed) (all-made 8 0 seed)
-        (rw (all-ids 8 0 seed) ids-new) in
+    flights-found (map (λ t. t.name) (raw_tails 0 (first_airports seed))) tags [] 2 (all_flights seed) (all-made 8 0 seed)
+    (rw (all-ids 8 0 seed) ids-new) in
     rw (rules-found, tails, activities) refl
 
 -- the three texts are a book
 pub book-read : (seed : ℕ) → book_of (timetable_text seed) (fleet_text seed) rules_text ≡ Ok (book_made seed)
 unfolding book_of
 book-read seed =
-    rw (timetable-read (all_flights seed) (all-made 8 0 seed) (omega (arith, all-many 8 0 seed)),
-    fleet-read (first_airports seed) (omega (arith, airports-many 8 seed)), rules-read) (made seed)
+    rw (
+      timetable-read (all_flights seed) (all-made 8 0 seed) (omega (arith, all-many 8 0 seed)),
+      fleet-read (first_airports seed) (omega (arith, airports-many 8 seed)),
+      rules-read,
+    ) (made seed)

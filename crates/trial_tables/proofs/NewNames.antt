@@ -47,7 +47,7 @@ names-differ before (x ∷ xs) e zero zero d less within = absurd (omega arith)
 names-differ before (x ∷ xs) e zero (suc j) d less within =
     let behind = apart-from (before ++ x ∷ []) xs j d (others-new before x xs e) (omega arith) in
     let one = none-right (list_any (bytes_eq (get_or xs j d)) before) (list_any (bytes_eq (get_or xs j d)) (x ∷ []))
-        (sym (list_any-append (bytes_eq (get_or xs j d)) before (x ∷ [])) ∙ behind) in
+    (sym (list_any-append (bytes_eq (get_or xs j d)) before (x ∷ [])) ∙ behind) in
     differs x (get_or xs j d) (none-left (bytes_eq (get_or xs j d) x) false one)
 names-differ before (x ∷ xs) e (suc i) zero d less within = absurd (omega arith)
 names-differ before (x ∷ xs) e (suc i) (suc j) d less within =

@@ -36,9 +36,9 @@ less i n h = grind (arith, nat_tests)
 pub place-is : (names : List (List ℕ)) (m : ℕ) (x : List ℕ) → AllPairs (λ a b. a ≢ b) names → m < length names → get_or names m [] ≡ x → place_of names x ≡ m
 place-is names m x apart within is =
     let at : position_or_len (bytes_eq x) names ≡ m =
-        position_or_len_is (bytes_eq x) names m [] (omega arith)
-        (λ k before. not-equal x (get_or names k []) (λ same. apart k m [] before within (sym same ∙ sym is)))
-        (λ _. subst (λ (y : List ℕ). bytes_eq x y ≡ true) (sym is) (equal x)) in
+    position_or_len_is (bytes_eq x) names m [] (omega arith)
+    (λ k before. not-equal x (get_or names k []) (λ same. apart k m [] before within (sym same ∙ sym is)))
+    (λ _. subst (λ (y : List ℕ). bytes_eq x y ≡ true) (sym is) (equal x)) in
     rw (at, less m (length names) within) refl
 
 -- an activity's own id finds it

@@ -89,8 +89,8 @@ costs-are acts tails (suc more) k x are known placed =
     let mine = front P (flights_of k x) (all_flights_from more (k + 1) (behind x)) placed in
     let others = back P (flights_of k x) (all_flights_from more (k + 1) (behind x)) placed in
     let first : route_cost book k (map (number_in book) (flights_of k x)) ≡ sum_by flight_cost (flights_of k x) =
-        costs-from acts tails k (first_airport x) (are 0 k (omega arith) (omega arith)) (known 0 k (omega arith) (omega arith)) (number_in book)
-        15 0 (first_airport x) 0 (next x) Carry mine in
+    costs-from acts tails k (first_airport x) (are 0 k (omega arith) (omega arith)) (known 0 k (omega arith) (omega arith)) (number_in book)
+    15 0 (first_airport x) 0 (next x) Carry mine in
     let rest = costs-are acts tails more (k + 1) (behind x) (λ i j h e. are (suc i) j (omega arith) (omega arith)) (λ i j h e. known (suc i) j (omega arith) (omega arith)) others in
     rw (first, rest) (sym (sum_by-append flight_cost (flights_of k x) (all_flights_from more (k + 1) (behind x))))
 
@@ -144,8 +144,8 @@ module _ (seed : ℕ) (acts : List ActivitySeen) (moved : IsPermutation (map act
       let is_tail = tail k h in
       let carries : carry_of book k ≡ pos 0 ∷ pos 0 ∷ [] = ap (λ (t : TailSeen). t.carry) is_tail in
       let legal = legal-from acts tails k home is_tail (omega (arith, many, h)) (number_in book) 15 0 home 0 (next (state_of k seed)) 0 0 Carry refl
-          (airport-below (state_of k seed)) (ap (λ (t : TailSeen). t.at) is_tail) (ap (λ (t : TailSeen). t.ready) is_tail) tt (λ m. omega arith) (λ _. refl) (omega arith) refl
-          (one-of-all (λ f. IsAt acts (place_of (ids acts) (id_of f)) f) 8 0 seed k k h (omega arith) placed) in
+      (airport-below (state_of k seed)) (ap (λ (t : TailSeen). t.at) is_tail) (ap (λ (t : TailSeen). t.ready) is_tail) tt (λ m. omega arith) (λ _. refl) (omega arith) refl
+      (one-of-all (λ f. IsAt acts (place_of (ids acts) (id_of f)) f) 8 0 seed k k h (omega arith) placed) in
       rw (route-is book 8 0 seed k k h (omega arith))
       (subst (λ (v : List ℤ). IsLegalFrom book k Carry v (map (number_in book) (flights_of k (state_of k seed)))) (sym carries) legal)
 

@@ -140,8 +140,15 @@ span-is-good s e some few =
 
 flight-read : (f : Flight) → IsMade f → activity_of (flight_fields f) ≡ Ok (raw_flight f)
 flight-read f made =
-    rw (id-name f.aircraft f.number, airport-is-name f.from, airport-is-name f.to, stamp-read f.start (omega (arith, made.lasts, made.early)), stamp-read f.end made.early,
-    span-is-good f.start f.end made.lasts made.short, types-read f.aircraft) refl
+    rw (
+      id-name f.aircraft f.number,
+      airport-is-name f.from,
+      airport-is-name f.to,
+      stamp-read f.start (omega (arith, made.lasts, made.early)),
+      stamp-read f.end made.early,
+      span-is-good f.start f.end made.lasts made.short,
+      types-read f.aircraft,
+    ) refl
 
 pub timetable-read : (flights : List Flight) → All IsMade flights → length flights ≤ 1000
     → timetable_of (codes "id,kind,from,to,start,end,types,tags,tail,resets\n" ++ lines_of (map flight_fields flights)) ≡ Ok (map raw_flight flights)

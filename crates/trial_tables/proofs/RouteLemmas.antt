@@ -182,12 +182,14 @@ module _ (acts : List ActivitySeen) (tails : List TailSeen) (k home : ℕ) (is_t
           time = rw (free, here.is) (in-time since g (turn_time (book_with acts tails) k place n) (turn n) (omega (arith, long.least)));
           before = may;
           after = flies;
-        } in
-        (here.within, link,
-        subst (λ (v : List ℤ). WithinLimits rules_made.counters v) (sym values) (within fh_after 900 (omega arith), (within (count + 1) 20 (omega arith), tt)),
-        subst (λ (v : List ℤ). IsLegalFrom (book_with acts tails) k (After n) v (map number (flights_from more k (j + 1) f.to f.end (next (next (next x)))))) (sym values)
-        (legal-from more (j + 1) f.to f.end (next (next (next x))) fh_after (count + 1) (After n) (omega arith) to
-        (rw (here.is) refl) (rw (here.is) refl) flies (λ m. turn-short n m f here to) (λ none. absurd (omega arith)) spent (omega arith) others))
+        } in (
+          here.within,
+          link,
+          subst (λ (v : List ℤ). WithinLimits rules_made.counters v) (sym values) (within fh_after 900 (omega arith), (within (count + 1) 20 (omega arith), tt)),
+          subst (λ (v : List ℤ). IsLegalFrom (book_with acts tails) k (After n) v (map number (flights_from more k (j + 1) f.to f.end (next (next (next x)))))) (sym values)
+              (legal-from more (j + 1) f.to f.end (next (next (next x))) fh_after (count + 1) (After n) (omega arith) to
+              (rw (here.is) refl) (rw (here.is) refl) flies (λ m. turn-short n m f here to) (λ none. absurd (omega arith)) spent (omega arith) others),
+        )
 
     pub costs-from : (more j at since x : ℕ) (place : Place) → Placed (flights_from more k j at since x)
         → cost_from (book_with acts tails) k place (map number (flights_from more k j at since x)) ≡ sum_by flight_cost (flights_from more k j at since x)

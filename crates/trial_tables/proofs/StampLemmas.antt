@@ -45,6 +45,11 @@ pub stamp-read : (t : ℕ) → t < 7200 → stamp_of (stamp_text t) ≡ Ok (pos 
 stamp-read t early =
     stamp-parts (digit ((3 + t / 1440) / 10)) (digit (3 + t / 1440)) (digit (t / 60 % 24 / 10)) (digit (t / 60 % 24)) (digit (t % 60 / 10)) (digit (t % 60))
     (is-digit ((3 + t / 1440) / 10)) (is-digit (3 + t / 1440)) (is-digit (t / 60 % 24 / 10)) (is-digit (t / 60 % 24)) (is-digit (t % 60 / 10)) (is-digit (t % 60))
-    ∙ rw (two-value (3 + t / 1440) (omega arith), two-value (t / 60 % 24) (omega arith), two-value (t % 60) (omega arith),
-    day (t / 1440) (omega arith), minutes (t / 60 % 24) (t % 60) (omega arith) (omega arith))
+    ∙ rw (
+      two-value (3 + t / 1440) (omega arith),
+      two-value (t / 60 % 24) (omega arith),
+      two-value (t % 60) (omega arith),
+      day (t / 1440) (omega arith),
+      minutes (t / 60 % 24) (t % 60) (omega arith) (omega arith),
+    )
     (ap (λ (n : ℕ). Ok (pos n)) (whole t))

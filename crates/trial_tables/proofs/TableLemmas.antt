@@ -88,8 +88,12 @@ pub table-read : {A : Type 0} (layout : Layout A) (rows : List (List (List ℕ))
     → strip_bom (lines_of (layout.header ∷ rows)) ≡ lines_of (layout.header ∷ rows) → length rows ≤ 1000
     → rows_from layout 2 layout.limit rows ≡ values → table_of layout (lines_of (layout.header ∷ rows)) ≡ values
 table-read layout rows values same plain short unmarked few read =
-    rw (small (length (lines_of (layout.header ∷ rows))) (omega (arith, lines-short (layout.header ∷ rows) short)), lines-utf8 (layout.header ∷ rows) plain,
-    records-read (layout.header ∷ rows) plain unmarked, same) read
+    rw (
+      small (length (lines_of (layout.header ∷ rows))) (omega (arith, lines-short (layout.header ∷ rows) short)),
+      lines-utf8 (layout.header ∷ rows) plain,
+      records-read (layout.header ∷ rows) plain unmarked,
+      same,
+    ) read
 
 positive : (n : ℕ) → 0 < n → nat_lt 0 n ≡ true
 positive n h = grind (arith, nat_tests)

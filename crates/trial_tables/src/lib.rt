@@ -9,6 +9,5 @@ mod trial;
 
 pub use trial::{SEED_LIMIT, Trial, trial_tables};
 
-
 #[cfg(test)]
 mod tests;

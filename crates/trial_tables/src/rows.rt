@@ -42,11 +42,7 @@ fn add_stamp(minute: u64, text: &mut Line) -> Result<(), Memory>
 fn add_types(k: u64, text: &mut Line) -> Result<(), Memory>
     ensures { OnOk result (text.new ≡ text.old ++ types_field k) }
 {
-    if k % 2 == 0 {
-        Ok(())
-    } else {
-        text.text(b"Q")
-    }
+    if k % 2 == 0 { Ok(()) } else { text.text(b"Q") }
 }
 
 fn add_type(k: u64, text: &mut Line) -> Result<(), Memory>

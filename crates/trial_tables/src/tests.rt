@@ -64,7 +64,11 @@ fn audited(alloc: Global, seed: u64) -> Result<Option<u64>, Fail> {
 #[test]
 fn plans_of_the_making_are_legal(rt: HostRuntime) -> Result<(), Fail> {
     for seed in 0..SUMS.len() {
-        assert_eq!(rt; audited(rt.alloc(), seed as u64)?, Some(SUMS[seed]), "{seed}");
+        assert_eq!(rt;
+            audited(rt.alloc(), seed as u64)?,
+            Some(SUMS[seed]),
+            "{seed}"
+        );
     }
     Ok(())
 }

@@ -94,12 +94,22 @@ fn rules_text(alloc: Global) -> Result<Vec<u8>, Memory>
     ensures { IfOk result (λ text. text.items ≡ rules_text) }
 {
     let mut text = Line::new(alloc)?;
-    text.text(b"[[type]]\nname = \"P\"\nrate = 1\nturn = 30\n[[type]]\nname = \"Q\"\nrate = 2\nturn = 30\n")?;
-    text.text(b"[[airport]]\nname = \"T0\"\noffset = 0\nturn = 20\n[[airport]]\nname = \"T1\"\noffset = 0\nturn = 20\n")?;
-    text.text(b"[[airport]]\nname = \"T2\"\noffset = 0\nturn = 20\n[[airport]]\nname = \"T3\"\noffset = 0\nturn = 20\n")?;
+    text.text(
+        b"[[type]]\nname = \"P\"\nrate = 1\nturn = 30\n[[type]]\nname = \"Q\"\nrate = 2\nturn = 30\n",
+    )?;
+    text.text(
+        b"[[airport]]\nname = \"T0\"\noffset = 0\nturn = 20\n[[airport]]\nname = \"T1\"\noffset = 0\nturn = 20\n",
+    )?;
+    text.text(
+        b"[[airport]]\nname = \"T2\"\noffset = 0\nturn = 20\n[[airport]]\nname = \"T3\"\noffset = 0\nturn = 20\n",
+    )?;
     text.text(b"[[airport]]\nname = \"T4\"\noffset = 0\nturn = 20\n")?;
-    text.text(b"[[counter]]\nname = \"fh\"\nkind = \"minutes\"\nlimit = 900\nbases = [\"T0\", \"T1\", \"T2\", \"T3\", \"T4\"]\nstop = 480\n")?;
-    text.text(b"[[counter]]\nname = \"ldg\"\nkind = \"landings\"\nlimit = 20\nbases = []\nstop = 1\n")?;
+    text.text(
+        b"[[counter]]\nname = \"fh\"\nkind = \"minutes\"\nlimit = 900\nbases = [\"T0\", \"T1\", \"T2\", \"T3\", \"T4\"]\nstop = 480\n",
+    )?;
+    text.text(
+        b"[[counter]]\nname = \"ldg\"\nkind = \"landings\"\nlimit = 20\nbases = []\nstop = 1\n",
+    )?;
     Ok(text.bytes().to_vec(alloc)?)
 }
 
