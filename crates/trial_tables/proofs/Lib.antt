@@ -10,5 +10,6 @@ pub mod NewNames
 pub mod PlaceLemmas
 pub mod BookLemmas
 pub mod PlanLemmas
+pub mod LeastLemmas
 pub mod TrialLemmas
 mod Examples

@@ -58,6 +58,11 @@ found-at acts m apart within =
     place-is (ids acts) m (get_or acts m no_activity).id (ids-differ acts apart) (rw (length-map acts (λ (a : ActivitySeen). a.id)) within)
     (get_or-map (λ (a : ActivitySeen). a.id) acts m no_activity [] within)
 
+pub same-default : (xs : List ActivitySeen) (i : ℕ) (d e : ActivitySeen) → i < length xs → get_or xs i d ≡ get_or xs i e
+same-default [] i d e h = absurd (omega arith)
+same-default (y ∷ ys) zero d e h = refl
+same-default (y ∷ ys) (suc i) d e h = same-default ys i d e (omega arith)
+
 -- an activity of the list stands where its id says
 pub record IsFound (acts : List ActivitySeen) (x : ActivitySeen) : Type 0 where
   pub within : place_of (ids acts) x.id < length acts
@@ -65,14 +70,9 @@ pub record IsFound (acts : List ActivitySeen) (x : ActivitySeen) : Type 0 where
 
 pub found : (acts : List ActivitySeen) (x : ActivitySeen) → AllPairs (λ a b. a.id ≢ b.id) acts → Contains acts x → IsFound acts x
 found acts x apart (k, within, is) =
-    let here : get_or acts k no_activity ≡ x = same_default acts k no_activity x within ∙ is in
+    let here : get_or acts k no_activity ≡ x = same-default acts k no_activity x within ∙ is in
     let place : place_of (ids acts) x.id ≡ k = subst (λ (y : ActivitySeen). place_of (ids acts) y.id ≡ k) here (found-at acts k apart within) in
     record { within = rw place within; is = rw place here }
-  where
-    same_default : (xs : List ActivitySeen) (i : ℕ) (d e : ActivitySeen) → i < length xs → get_or xs i d ≡ get_or xs i e
-    same_default [] i d e h = absurd (omega arith)
-    same_default (y ∷ ys) zero d e h = refl
-    same_default (y ∷ ys) (suc i) d e h = same_default ys i d e (omega arith)
 
 -- the numbers from s on, n of them, have none below s, and each other one once
 none-in-range : (s n a : ℕ) → a < s → count_by (nat_eq a) (range_with_len s n) ≡ 0

@@ -7,11 +7,11 @@ use Rattle.std.proofs.lemmas.List.Sorted.{Contains-permutation}
 use Rattle.std.proofs.lemmas.List.Sums.{sum_by-append}
 use Rattle.tail_book.specs.Seen.{ActivitySeen, BookSeen, TailSeen}
 use Rattle.tail_book.specs.declared.place.Place.TheVariants.{Carry}
-use Rattle.tail_book.specs.Cost.{cost_of_routes, route_cost}
+use Rattle.tail_book.specs.Cost.{cost_of_routes, plan_cost, route_cost}
 use Rattle.tail_book.specs.Lookup.{carry_of, no_tail}
 use Rattle.tail_book.specs.Plan.{IsLegalPlan, route_of, times_flown}
 use Rattle.tail_book.specs.Route.{IsLegalFrom, IsLegalRoute}
-use Rattle.tail_book.specs.Truth.{IsPlanOf}
+use Rattle.tail_book.specs.Truth.{CostsAtLeastBy, IsPlanOf}
 use Rattle.book_maker.specs.Order.{in_order}
 use Rattle.book_maker.proofs.OrderLemmas.{differ_anywhere, in_order-permutes}
 use Rattle.trial_tables.specs.declared.flight.Flight.{Flight}
@@ -20,7 +20,9 @@ use Rattle.trial_tables.specs.Flights.{airports_from, all_flights, all_flights_f
 use Rattle.trial_tables.specs.Making.{flight_cost, making_cost, making_plan, number_in, routes_from}
 use Rattle.trial_tables.specs.inside.Ids.{all_ids_from, id_of}
 use Rattle.trial_tables.specs.inside.TrialBook.{activity_made, book_made, book_with, tail_made, tails_made}
-use Rattle.trial_tables.proofs.MadeLemmas.{airport-below, airports-many, all-ids}
+use Rattle.trial_tables.specs.inside.Least.{least_cost}
+use Rattle.trial_tables.proofs.LeastLemmas.{each-made, least-sum, plan-least, same-sum}
+use Rattle.trial_tables.proofs.MadeLemmas.{airport-below, all-made, airports-many, all-ids}
 use Rattle.trial_tables.proofs.NewNames.{ids-new, names-differ}
 use Rattle.trial_tables.proofs.PlaceLemmas.{IsFound, found, ids, place_of, places-once, places_in}
 use Rattle.trial_tables.proofs.RouteLemmas.{IsAt, costs-from, legal-from}
@@ -168,8 +170,27 @@ module _ (seed : ℕ) (acts : List ActivitySeen) (moved : IsPermutation (map act
         (λ i j h e. omega (arith, many, h, e)) placed;
   }
 
+  -- no legal plan costs less
+  pub costs-least : (plan : List (List ℕ)) → IsLegalPlan (book_with acts (tails_made 0 (first_airports seed))) plan
+      → making_cost seed ≤ plan_cost (book_with acts (tails_made 0 (first_airports seed))) plan
+  costs-least plan legal =
+      let tails = tails_made 0 (first_airports seed) in
+      let book = book_with acts tails in
+      let own = least-sum acts tails (number_in book) (all_flights seed) (all-made 8 0 seed) placed in
+      let flown = ap (λ (xs : List ℕ). sum_by (least_cost book) xs) (flown-is book 8 0 seed) in
+      let same = same-sum book (least_cost book) (making_plan book seed) plan legal-plan.legal legal in
+      let low = plan-least acts tails (each-made (all_flights seed) acts (all-made 8 0 seed) moved) 0 plan
+      (λ i j h e. (first_airport (state_of j seed), tail j (omega (arith, many, legal.one_each, h, e))))
+      (λ i j h e. let is : i ≡ j = omega arith in subst (λ (n : ℕ). IsLegalRoute book n (route_of plan i)) is (legal.routes i (omega (arith, legal.one_each, h)))) in
+      omega (arith, own, flown, same, low)
+
 -- the plan of a seed
 pub plan-is-legal : (seed : ℕ) → IsPlanOf (book_made seed) (making_cost seed) (making_plan (book_made seed) seed)
 plan-is-legal seed =
     let acts = map activity_made (all_flights seed) in
     legal-plan seed (in_order acts) (in_order-permutes acts) (differ_anywhere acts (in_order acts) (made-differ seed) (in_order-permutes acts))
+
+pub plan-is-least : (seed : ℕ) → CostsAtLeastBy (plan_cost (book_made seed)) (book_made seed) (making_cost seed)
+plan-is-least seed =
+    let acts = map activity_made (all_flights seed) in
+    costs-least seed (in_order acts) (in_order-permutes acts) (differ_anywhere acts (in_order acts) (made-differ seed) (in_order-permutes acts))

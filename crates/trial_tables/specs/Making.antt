@@ -1,7 +1,8 @@
 -- The routes of the making, and what they cost.
 use Rattle.std.specs.Prelude.{ℕ, zero, suc, ◌≡◌, ◌+◌, ◌*◌, ◌-◌, ◌%◌, ◌==◌, if◌then◌else◌, List, [], ◌∷◌, map, sum_by, Result, Ok}
 use Rattle.tail_book.specs.Seen.{BookSeen}
-use Rattle.tail_book.specs.Truth.{IsPlanOf}
+use Rattle.tail_book.specs.Cost.{plan_cost}
+use Rattle.tail_book.specs.Truth.{CostsAtLeastBy, IsPlanOf}
 use Rattle.book_maker.specs.Made.{book_of}
 use Rattle.book_maker.specs.NameNumbers.{place_in}
 use Rattle.trial_tables.specs.declared.flight.Flight.{Flight}
@@ -34,10 +35,12 @@ routes_from book (suc more) k x = map (number_in book) (flights_of k x) ∷ rout
 abbrev pub making_plan : BookSeen → ℕ → List (List ℕ)
 making_plan book seed = routes_from book 8 0 seed
 
--- the three texts are this book, and what each aircraft was made to fly is a legal plan of it, which costs what was made
+-- the three texts are this book; what each aircraft was made to fly is a legal plan of it, which costs what was made; and
+-- no legal plan costs less
 pub record IsBookOfTrial (seed : ℕ) (trial : TrialSeen) (book : BookSeen) : Type 0 where
   pub read : book_of trial.timetable trial.fleet trial.rules ≡ Ok book
   pub plan : IsPlanOf book (making_cost seed) (making_plan book seed)
+  pub least : CostsAtLeastBy (plan_cost book) book (making_cost seed)
 
 -- there is such a book
 abbrev pub HasBook : ℕ → TrialSeen → Type 0

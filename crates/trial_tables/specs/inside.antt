@@ -4,3 +4,4 @@ pub mod Plain
 pub mod TrialBook
 pub mod RawTrial
 pub mod Ids
+pub mod Least
