@@ -1,0 +1,10 @@
+-- A trial is a book with a legal plan of least cost.
+use Rattle.std.proofs.Common.{ℕ}
+use Rattle.trial_tables.specs.Making.{HasBook}
+use Rattle.trial_tables.specs.Trial.{trial_of}
+use Rattle.trial_tables.specs.inside.TrialBook.{book_made}
+use Rattle.trial_tables.proofs.BookLemmas.{book-read}
+use Rattle.trial_tables.proofs.PlanLemmas.{plan-is-least, plan-is-legal}
+
+pub has-book : (seed : ℕ) → HasBook seed (trial_of seed)
+has-book seed = (book_made seed, record { read = book-read seed; plan = plan-is-legal seed; least = plan-is-least seed })

@@ -1,0 +1,7 @@
+-- What only proofs, and calls further in, cite.
+pub mod Halves
+pub mod Plain
+pub mod TrialBook
+pub mod RawTrial
+pub mod Ids
+pub mod Least
