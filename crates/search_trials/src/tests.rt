@@ -5,6 +5,7 @@ ghost use Rattle.tail_book.specs.inside.CostTable.{IsTableFor};
 
 mod beside;
 mod branching;
+mod certificates;
 mod limits;
 mod logs;
 mod worked;

@@ -1,7 +1,7 @@
 -- What the words mean, at command lines that are written out.
 use Rattle.std.proofs.Common.{◌≡◌, ℕ, List, [], ◌∷◌, Option, Some, None, codes, refl}
 use Rattle.clap.proofs.OnLiterals.{clap_on_literals}
-use Rattle.tailcheck.specs.Texts.{CheckNamesSeen}
+use Rattle.tailcheck.specs.Texts.{CheckNamesSeen, PlanName, CertificateName}
 use Rattle.tailcheck.specs.Words.{check_of}
 
 -- the words after the program's name
@@ -10,11 +10,15 @@ after_name words = check_of (codes "tailcheck" ∷ words)
 
 -- the words name these tables and this plan
 abbrev named : List ℕ → List ℕ → List ℕ → List ℕ → Option CheckNamesSeen
-named timetable fleet rules plan = Some (record { tables = record { timetable = timetable; fleet = fleet; rules = rules }; plan = plan })
+named timetable fleet rules plan = Some (record { tables = record { timetable = timetable; fleet = fleet; rules = rules }; subject = PlanName plan })
 
 -- the same, with a letter for each
 abbrev all_named : Option CheckNamesSeen
 all_named = named (codes "t") (codes "f") (codes "r") (codes "p")
+
+-- the words name these tables, `t`, `f` and `r`, and this certificate
+abbrev certified : List ℕ → Option CheckNamesSeen
+certified cert = Some (record { tables = record { timetable = codes "t"; fleet = codes "f"; rules = codes "r" }; subject = CertificateName cert })
 
 -- no words at all, or the program's name alone, give no names
 no_words : (check_of [] ≡ None) × (after_name [] ≡ None)
@@ -100,10 +104,18 @@ no_help : (after_name (codes "--help" ∷ []) ≡ None)
 unfolding clap_on_literals check_of
 no_help = (refl, refl, refl, refl, refl)
 
--- no other option is taken, in place of the plan's or beside it
-no_other_options : (after_name (codes "t" ∷ codes "f" ∷ codes "r" ∷ codes "--cert" ∷ codes "c" ∷ []) ≡ None)
-    × (after_name (codes "t" ∷ codes "f" ∷ codes "r" ∷ codes "--cert=c" ∷ []) ≡ None)
-    × (after_name (codes "t" ∷ codes "f" ∷ codes "r" ∷ codes "--plan" ∷ codes "p" ∷ codes "--cert" ∷ codes "c" ∷ []) ≡ None)
+-- a certificate is named like a plan, and in its place
+certificates : (after_name (codes "t" ∷ codes "f" ∷ codes "r" ∷ codes "--cert" ∷ codes "c" ∷ []) ≡ certified (codes "c"))
+    × (after_name (codes "--cert=c" ∷ codes "t" ∷ codes "f" ∷ codes "r" ∷ []) ≡ certified (codes "c"))
+    × (after_name (codes "t" ∷ codes "--cert" ∷ codes "" ∷ codes "f" ∷ codes "r" ∷ []) ≡ certified (codes ""))
+    × (after_name (codes "t" ∷ codes "f" ∷ codes "r" ∷ codes "--cert=-c" ∷ []) ≡ certified (codes "-c"))
+unfolding clap_on_literals check_of
+certificates = (refl, refl, refl, refl)
+
+-- both are not judged at once, nor two certificates, and no other option is taken
+no_other_options : (after_name (codes "t" ∷ codes "f" ∷ codes "r" ∷ codes "--plan" ∷ codes "p" ∷ codes "--cert" ∷ codes "c" ∷ []) ≡ None)
+    × (after_name (codes "t" ∷ codes "f" ∷ codes "r" ∷ codes "--cert=c" ∷ codes "--cert=c" ∷ []) ≡ None)
+    × (after_name (codes "t" ∷ codes "f" ∷ codes "r" ∷ codes "--cert" ∷ []) ≡ None)
     × (after_name (codes "t" ∷ codes "f" ∷ codes "r" ∷ codes "--plan" ∷ codes "p" ∷ codes "--nodes" ∷ codes "5" ∷ []) ≡ None)
 unfolding clap_on_literals check_of
 no_other_options = (refl, refl, refl, refl)

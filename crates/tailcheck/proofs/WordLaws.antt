@@ -1,12 +1,16 @@
 -- What the words mean, whatever the names are.
 use Rattle.std.proofs.Common.{false, ◌==◌, ◌≡◌, ℕ, List, [], ◌∷◌, ◌++◌, Option, Some, None, codes, refl}
 use Rattle.clap.proofs.OnLiterals.{clap_on_literals}
-use Rattle.tailcheck.specs.Texts.{CheckNamesSeen}
+use Rattle.tailcheck.specs.Texts.{CheckNamesSeen, PlanName, CertificateName}
 use Rattle.tailcheck.specs.Words.{check_of}
 
--- the words name these files
+-- the words name these tables and this plan
 abbrev named : List ℕ → List ℕ → List ℕ → List ℕ → Option CheckNamesSeen
-named timetable fleet rules plan = Some (record { tables = record { timetable = timetable; fleet = fleet; rules = rules }; plan = plan })
+named timetable fleet rules plan = Some (record { tables = record { timetable = timetable; fleet = fleet; rules = rules }; subject = PlanName plan })
+
+-- or this certificate
+abbrev certified : List ℕ → List ℕ → List ℕ → List ℕ → Option CheckNamesSeen
+certified timetable fleet rules cert = Some (record { tables = record { timetable = timetable; fleet = fleet; rules = rules }; subject = CertificateName cert })
 
 -- the program's name does not matter
 whatever_it_is_called : (one other : List ℕ) (words : List (List ℕ)) → check_of (one ∷ words) ≡ check_of (other ∷ words)
@@ -18,6 +22,17 @@ any_names : (program timetable fleet rules plan : List ℕ)
     → check_of (program ∷ (codes "--plan=" ++ plan) ∷ codes "--" ∷ timetable ∷ fleet ∷ rules ∷ []) ≡ named timetable fleet rules plan
 unfolding clap_on_literals check_of
 any_names program timetable fleet rules plan = refl
+
+any_certificate : (program timetable fleet rules cert : List ℕ)
+    → check_of (program ∷ (codes "--cert=" ++ cert) ∷ codes "--" ∷ timetable ∷ fleet ∷ rules ∷ []) ≡ certified timetable fleet rules cert
+unfolding clap_on_literals check_of
+any_certificate program timetable fleet rules cert = refl
+
+-- a plan and a certificate are never judged at once
+one_or_the_other : (program timetable fleet rules plan cert : List ℕ)
+    → check_of (program ∷ (codes "--plan=" ++ plan) ∷ (codes "--cert=" ++ cert) ∷ codes "--" ∷ timetable ∷ fleet ∷ rules ∷ []) ≡ None
+unfolding clap_on_literals check_of
+one_or_the_other program timetable fleet rules plan cert = refl
 
 -- more than three tables are too many
 any_four : (program plan one two three four : List ℕ) (rest : List (List ℕ))
@@ -31,7 +46,7 @@ plain_names : (program timetable fleet rules plan : List ℕ) (t f r : ℕ) → 
 unfolding clap_on_literals check_of
 plain_names program timetable fleet rules plan t f r et ef er = rw (et, et, ef, ef, er, er) refl
 
--- without the plan's option no names are taken
-plan_wanted : (program timetable fleet rules : List ℕ) → check_of (program ∷ codes "--" ∷ timetable ∷ fleet ∷ rules ∷ []) ≡ None
+-- without an option no names are taken
+option_wanted : (program timetable fleet rules : List ℕ) → check_of (program ∷ codes "--" ∷ timetable ∷ fleet ∷ rules ∷ []) ≡ None
 unfolding clap_on_literals check_of
-plan_wanted program timetable fleet rules = refl
+option_wanted program timetable fleet rules = refl

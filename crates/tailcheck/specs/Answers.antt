@@ -1,23 +1,30 @@
 -- When an answer is true, and what is printed for it.
-use Rattle.std.specs.Prelude.{ℕ, ◌≡◌, List, Ok, Err, IfSome}
-use Rattle.tail_book.specs.Seen.{RawPlanSeen}
+use Rattle.std.specs.Prelude.{ℕ, ◌≡◌, ◌<◌, ◌≤◌, ⊤, List, [], ◌∷◌, length, Option, Ok, Err, IfSome}
+use Rattle.tail_book.specs.Seen.{BookSeen, RawPlanSeen}
+use Rattle.tail_book.specs.inside.Truth.{IsTrueClaim}
 use Rattle.tail_outside.specs.Shown.{FilesShown}
 use Rattle.tail_text.specs.declared.refusal.Refusal.{Refusal}
+use Rattle.cert_checker.specs.Verdict.{verdict}
+use Rattle.cert_checker.specs.declared.verdict.Verdict.{Verdict}
+use Rattle.cert_checker.specs.declared.verdict.Verdict.TheVariants.{Yes, No}
 use Rattle.plan_audit.specs.Broken.{IsAuditOf}
 use Rattle.plan_report.specs.AuditText.{audit_lines}
 use Rattle.plan_report.specs.Lines.{text_of}
 use Rattle.run_frame.specs.Answer.{IsTrueAnswer as IsTrueOf, lines_of}
 use Rattle.run_frame.specs.TableFiles.{OfHeld}
 use Rattle.run_frame.specs.declared.answer.Answer.{Answer as AnswerOf}
-use Rattle.tailcheck.specs.Cases.{case_of}
+use Rattle.tailcheck.specs.Cases.{PlanCase, CertificateCase, case_of}
 use Rattle.tailcheck.specs.Texts.{MayReadTexts, texts_held, TextsSeen}
 use Rattle.tailcheck.specs.Usage.{usage_line}
+use Rattle.tailcheck.specs.VerdictText.{too_long_line, verdict_line}
 use Rattle.tailcheck.specs.Words.{check_of}
-use Rattle.tailcheck.specs.declared.answer.Judged.{Judged}
+use Rattle.tailcheck.specs.declared.answer.Found.{Found}
+use Rattle.tailcheck.specs.declared.answer.Found.TheVariants.{Plan, Certificate, TooLong}
+use Rattle.tailcheck.specs.declared.certified.TheConstants.{CERTIFICATE_LIMIT}
 
 -- what a run answers
 abbrev pub Answer : Type 0
-Answer = AnswerOf Judged
+Answer = AnswerOf Found
 
 -- the files that the words name may be read
 abbrev pub MayRead : List (List ℕ) → FilesShown → Type 0
@@ -31,14 +38,37 @@ OfTexts words files P = OfHeld (check_of words) (texts_held files) P
 abbrev pub AreRefused : TextsSeen → Refusal → Type 0
 AreRefused texts refusal = case_of texts ≡ Err refusal
 
--- the tables are this book, and an audit of the plan's file finds this
-abbrev pub AreJudged : TextsSeen → Judged → Type 0
-AreJudged texts judged = (plan : RawPlanSeen) × (case_of texts ≡ Ok (record { book = judged.book; plan = plan })) × IsAuditOf judged.book plan judged.found
+-- what a yes claims is true of the book
+abbrev pub IsTrueVerdict : BookSeen → Verdict → Type 0
+IsTrueVerdict book (Yes claim) = IsTrueClaim book claim
+IsTrueVerdict book (No line reason) = ⊤
+
+-- the certificate is short enough to be judged, and this is the verdict on it
+abbrev pub IsJudgedSo : BookSeen → Verdict → List ℕ → Type 0
+IsJudgedSo book found bytes = (length bytes ≤ CERTIFICATE_LIMIT) × (verdict book bytes ≡ found)
+
+-- the certificate has more bytes than are judged
+abbrev pub IsTooLong : List ℕ → Type 0
+IsTooLong bytes = CERTIFICATE_LIMIT < length bytes
+
+-- the tables are a book, and this is what an audit of the plan's file finds, or the verdict on the certificate, or the
+-- certificate is too long
+abbrev pub AreJudged : TextsSeen → Found → Type 0
+AreJudged texts (Plan judged) = (plan : RawPlanSeen) × (case_of texts ≡ Ok (PlanCase judged.book plan)) × IsAuditOf judged.book plan judged.found
+AreJudged texts (Certificate found) =
+    (book : BookSeen) × (text : Option (List ℕ)) × (case_of texts ≡ Ok (CertificateCase book text)) × IsTrueVerdict book found × IfSome text (IsJudgedSo book found)
+AreJudged texts TooLong = (book : BookSeen) × (text : Option (List ℕ)) × (case_of texts ≡ Ok (CertificateCase book text)) × IfSome text IsTooLong
 
 -- the answer is true of these words and files
 abbrev pub IsTrueAnswer : List (List ℕ) → FilesShown → Answer → Type 0
 IsTrueAnswer words files answer = IsTrueOf (check_of words) (texts_held files) AreRefused AreJudged answer
 
+-- the lines of what was found
+abbrev pub found_lines : Found → List (List ℕ)
+found_lines (Plan judged) = audit_lines judged.book judged.found
+found_lines (Certificate found) = verdict_line found ∷ []
+found_lines TooLong = too_long_line ∷ []
+
 -- what is printed for an answer
 abbrev pub answer_text : Answer → List ℕ
-answer_text answer = text_of (lines_of usage_line (λ judged. audit_lines judged.book judged.found) answer)
+answer_text answer = text_of (lines_of usage_line found_lines answer)

@@ -1,20 +1,22 @@
--- What is judged: a plan, by the book of three tables.
-use Rattle.std.specs.Prelude.{ℕ, List, Result, Ok}
+-- What is judged by the book of three tables: a plan or a certificate.
+use Rattle.std.specs.Prelude.{ℕ, List, Option, Result, Ok}
 use Rattle.tail_book.specs.Seen.{BookSeen, RawPlanSeen}
 use Rattle.tail_text.specs.Checks.{look}
 use Rattle.tail_text.specs.declared.refusal.Refusal.{Refusal}
 use Rattle.book_maker.specs.Made.{book_of}
 use Rattle.plan_report.specs.PlanText.{plan_in}
-use Rattle.tailcheck.specs.Texts.{TextsSeen}
+use Rattle.tailcheck.specs.Texts.{SubjectSeen, PlanBytes, CertificateBytes, TextsSeen}
 
--- a book, and the plan that is judged by it
-pub record Case : Type 0 where
-  pub book : BookSeen
-  pub plan : RawPlanSeen
+-- a book, and what is judged by it: the plan of a file, or the bytes of a certificate where they are told
+pub data Case : Type 0 where
+  PlanCase : BookSeen → RawPlanSeen → Case
+  CertificateCase : BookSeen → Option (List ℕ) → Case
 
--- the book of the tables and the plan of its file, or the first refusal: that of the tables, and then that of the plan's file
+-- a plan's file may be refused; no certificate is, since whatever stands in it is judged
+abbrev pub case_by : BookSeen → SubjectSeen → Result Case Refusal
+case_by book (PlanBytes bytes) = look (plan_in bytes) (λ plan. Ok (PlanCase book plan))
+case_by book (CertificateBytes text) = Ok (CertificateCase book text)
+
+-- the book of the tables with what is judged by it, or the first refusal: that of the tables, and then that of the plan's file
 abbrev pub case_of : TextsSeen → Result Case Refusal
-case_of texts =
-    look (book_of texts.tables.timetable texts.tables.fleet texts.tables.rules) (λ book.
-    look (plan_in texts.plan) (λ plan.
-    Ok (record { book = book; plan = plan })))
+case_of texts = look (book_of texts.tables.timetable texts.tables.fleet texts.tables.rules) (λ book. case_by book texts.subject)

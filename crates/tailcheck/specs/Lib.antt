@@ -2,6 +2,7 @@ pub mod Usage
 pub mod Texts
 pub mod Words
 pub mod Cases
+pub mod VerdictText
 pub mod Answers
 pub mod Promises
 pub mod inside

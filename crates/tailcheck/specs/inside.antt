@@ -1,3 +1,3 @@
 -- What only proofs, and calls further in, cite.
 pub mod Texts
-pub mod Audits
+pub mod Findings

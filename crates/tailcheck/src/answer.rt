@@ -1,39 +1,64 @@
-//! What a run finds: a book and the audit of a plan, which is printed as the cost or as the rules that are broken.
+//! What a run finds: the audit of a plan or the verdict on a certificate, and how each is printed.
 
 ghost use Rattle.std.specs.Prelude.{◌≡◌, ◌≤◌, ℕ, false, List, OnErr, OnOk, IsErrOf};
-ghost use Rattle.plan_report.specs.inside.AuditText.{AreOfBook};
-ghost use Rattle.plan_report.specs.AuditText.{audit_lines};
-ghost use Rattle.tailcheck.specs.inside.Audits.{audit_status};
+ghost use Rattle.tailcheck.specs.Answers.{found_lines};
+ghost use Rattle.tailcheck.specs.inside.Findings.{IsFit, found_status};
 
+use crate::verdict_text::{too_long_line, verdict_line};
+use cert_checker::Verdict;
 use plan_audit::Audit;
-use plan_report::{ReportFail, write_audit};
+use plan_report::{ReportFail, write_audit, write_lines};
 use run_frame::{Finding, Status};
 use std::alloc::Global;
 use tail_book::Book;
 use tail_outside::Sink;
 
-/// What a run finds: the book of the tables, and what an audit of the plan found.
+/// The book of the tables, and what an audit of the plan found.
 #[derive(Debug, Drop)]
 pub struct Judged {
     pub book: Book,
     pub found: Audit,
 }
 
-impl Finding for Judged {
-    ghost lines = { λ j. audit_lines j.book j.found };
+/// What a run finds.
+#[derive(Debug, Drop)]
+pub enum Found {
+    /// What an audit of the plan found.
+    Plan(Judged),
+    /// The verdict on the certificate.
+    Certificate(Verdict),
+    /// The certificate is too long to be judged.
+    TooLong,
+}
 
-    ghost code = { λ j. audit_status j.found };
+impl Finding for Found {
+    ghost lines = { found_lines };
 
-    ghost is_printable = { λ j. AreOfBook j.book j.found };
+    ghost code = { found_status };
+
+    ghost is_printable = { IsFit };
 
     fn status(&self) -> Status {
-        Status(match &self.found {
-            Audit::Legal(_) => 0,
-            Audit::Broken(_) => 1,
+        Status(match self {
+            Found::Plan(judged) => match &judged.found {
+                Audit::Legal(_) => 0,
+                Audit::Broken(_) => 1,
+            },
+            Found::Certificate(Verdict::Yes(_)) => 0,
+            Found::Certificate(Verdict::No { .. }) => 1,
+            Found::TooLong => 8,
         })
     }
 
     fn write<S: Sink>(&self, alloc: Global, out: &mut S) -> Result<(), ReportFail> {
-        write_audit(alloc, &self.book, &self.found, out)
+        let line = match self {
+            Found::Plan(judged) => return write_audit(alloc, &judged.book, &judged.found, out),
+            Found::Certificate(verdict) => verdict_line(alloc, verdict),
+            Found::TooLong => too_long_line(alloc),
+        };
+        match line {
+            Ok(line) => write_lines(&[line], out),
+            Err(_) => Err(ReportFail::Memory),
+        }
     }
 }

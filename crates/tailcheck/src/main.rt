@@ -1,10 +1,13 @@
-//! The checker: judges a plan by a timetable, a fleet and rules, and prints what it costs or which rules it breaks.
+//! The checker: judges a plan or a certificate by a timetable, a fleet and rules. Of a plan it prints what it costs or which
+//! rules it breaks, of a certificate what it shows or where it fails.
 #![tactic(auto)]
 
 mod answer;
+mod audited;
+mod certified;
 mod run;
-mod texts;
 mod usage;
+mod verdict_text;
 mod words;
 
 use run::check_run;

@@ -1,31 +1,31 @@
-//! A whole run: the words, the files, the audit of the plan, and what is printed.
+//! A whole run: the words, the files, what is judged, and what is printed.
 
 ghost use Rattle.std.specs.Prelude.{◌≡◌, ◌≤◌, None, false};
 ghost use Rattle.tail_outside.specs.Outside.{OnlyRead, PieceHasFailed, ReadHasFailed};
-ghost use Rattle.plan_report.specs.inside.AuditText.{AreOfBook};
-ghost use Rattle.run_frame.specs.inside.Answer.{IsAnswerTo, IsPrintable};
+ghost use Rattle.run_frame.specs.inside.Answer.{IsPrintable};
 ghost use Rattle.run_frame.specs.Answer.{IsUnlessStopped};
 ghost use Rattle.run_frame.specs.Spelled.{spelled};
 ghost use Rattle.run_frame.specs.declared.answer.Answer.TheVariants.{ReadFailed};
-ghost use Rattle.tailcheck.specs.Answers.{AreJudged, AreRefused, IsTrueAnswer, MayRead};
-ghost use Rattle.tailcheck.specs.Promises.{JudgesPlan, Promise, RefusesTexts};
+ghost use Rattle.tailcheck.specs.Answers.{IsTrueAnswer, MayRead};
+ghost use Rattle.tailcheck.specs.Promises.{JudgesTexts, Promise, RefusesTexts};
+ghost use Rattle.tailcheck.specs.Texts.{MayReadSubject};
 ghost use Rattle.tailcheck.specs.Words.{check_of};
+ghost use Rattle.tailcheck.specs.inside.Findings.{IsAnswerOver, IsFit};
+ghost use Rattle.tailcheck.specs.inside.Texts.{subject_seen};
 
-use crate::answer::Judged;
-use crate::texts::{Texts, read_texts};
+use crate::answer::Found;
+use crate::audited::audited;
+use crate::certified::certified;
 use crate::usage::usage_line;
-use crate::words::check_of;
-use book_maker::read_book;
-use plan_audit::audit;
-use plan_report::laws::audits_can_be_written;
-use plan_report::read_plan;
-use run_frame::{Answer, Ran, print};
+use crate::words::{Subject, check_of};
+use cert_checker::laws::{accepted_is_yes, yes_is_accepted};
+use run_frame::{Answer, Ran, Tables, print, read_tables};
 use std::alloc::Global;
 use tail_outside::{Files, ReadFail, Sink};
-use tail_text::Stopped;
 
-/// Judges the plan by the tables that the words name: prints what the plan costs where it breaks no rule, or the rules
-/// that it breaks, or why the words, a table or the plan's file are refused. The files are handed back as they stand.
+/// Judges the plan or the certificate by the tables that the words name. Of a plan it prints what it costs where it breaks no
+/// rule, or the rules that it breaks; of a certificate its claim where it is accepted, or its first failure; else why the words, a
+/// table or the plan's file are refused. The files are handed back as they stand.
 pub fn check_run<F: Files, S: Sink>(
     alloc: Global,
     words: &[String],
@@ -42,7 +42,7 @@ pub fn check_run<F: Files, S: Sink>(
     // When each status comes.
     ensures words_refused { check_of (spelled words.now) ≡ None → IsUnlessStopped 2 result.status.0 }
     ensures texts_refused { RefusesTexts (spelled words.now) (F.shows files) result.status.0 }
-    ensures judged { JudgesPlan (spelled words.now) (F.shows files) result.status.0 }
+    ensures judged { JudgesTexts (spelled words.now) (F.shows files) result.status.0 }
 
     // What stays.
     ensures same { OnlyRead (F.shows files) (F.shows result.files) }
@@ -50,6 +50,8 @@ pub fn check_run<F: Files, S: Sink>(
     ensures ceases { (S.shows out.new).ceased ≡ false → (S.shows out.old).ceased ≡ false }
     ensures counts { (S.shows out.old).faults ≤ (S.shows out.new).faults }
 {
+    yes_is_accepted();
+    accepted_is_yes();
     let mut files = files;
     let answer = answer_of(alloc, words, &mut files);
     let status = print(alloc, usage_line(), &answer, out);
@@ -57,10 +59,10 @@ pub fn check_run<F: Files, S: Sink>(
 }
 
 // The answer to the words.
-fn answer_of<F: Files>(alloc: Global, words: &[String], files: &mut F) -> Answer<Judged>
+fn answer_of<F: Files>(alloc: Global, words: &[String], files: &mut F) -> Answer<Found>
     requires { MayRead (spelled words.now) (F.shows files.old) }
     ensures answer { IsTrueAnswer (spelled words.now) (F.shows files.old) result }
-    ensures printable { IsPrintable (λ judged. AreOfBook judged.book judged.found) result }
+    ensures printable { IsPrintable IsFit result }
     ensures same { OnlyRead (F.shows files.old) (F.shows files.new) }
     ensures cause { result ≡ ReadFailed → ReadHasFailed (F.shows files.old) (F.shows files.new) }
 {
@@ -69,32 +71,28 @@ fn answer_of<F: Files>(alloc: Global, words: &[String], files: &mut F) -> Answer
         Ok(None) => return Answer::Usage,
         Err(_) => return Answer::Memory,
     };
-    match read_texts(alloc, files, &names) {
-        Ok(texts) => judged(alloc, &texts),
+    match read_tables(alloc, files, &names.tables) {
+        Ok(tables) => judged(alloc, files, &tables, names.subject),
         Err(ReadFail::Failed) => Answer::ReadFailed,
         Err(ReadFail::Memory) => Answer::Memory,
     }
 }
 
-// The answer to the three tables and the plan's file.
-fn judged(alloc: Global, texts: &Texts) -> Answer<Judged>
-    ensures answer { IsAnswerTo AreRefused AreJudged texts.now result }
-    ensures printable { IsPrintable (λ judged. AreOfBook judged.book judged.found) result }
+// The answer to the three tables and to what is judged by them.
+fn judged<F: Files>(
+    alloc: Global,
+    files: &mut F,
+    tables: &Tables,
+    subject: Subject<'_>,
+) -> Answer<Found>
+    requires { MayReadSubject (F.shows files.old) (subject_seen subject) }
+    ensures answer { IsAnswerOver (F.shows files.old) tables.now (subject_seen subject.entry) result }
+    ensures printable { IsPrintable IsFit result }
+    ensures same { OnlyRead (F.shows files.old) (F.shows files.new) }
+    ensures cause { result ≡ ReadFailed → ReadHasFailed (F.shows files.old) (F.shows files.new) }
 {
-    let tables = &texts.tables;
-    let book = match read_book(alloc, &tables.timetable, &tables.fleet, &tables.rules) {
-        Ok(book) => book,
-        Err(Stopped::Refused(refusal)) => return Answer::Refused(refusal),
-        Err(Stopped::Memory) => return Answer::Memory,
-    };
-    let raw = match read_plan(alloc, &texts.plan) {
-        Ok(raw) => raw,
-        Err(Stopped::Refused(refusal)) => return Answer::Refused(refusal),
-        Err(Stopped::Memory) => return Answer::Memory,
-    };
-    audits_can_be_written();
-    match audit(alloc, &book, &raw) {
-        Ok(found) => Answer::Found(Judged { book, found }),
-        Err(_) => Answer::Memory,
+    match subject {
+        Subject::Plan(name) => audited(alloc, files, tables, name),
+        Subject::Certificate(name) => certified(alloc, files, tables, name),
     }
 }

@@ -1,10 +1,10 @@
-//! The reading of the words: which tables and which plan are judged.
+//! The reading of the words: by which tables a plan or a certificate is judged.
 
 ghost use Rattle.std.specs.Prelude.{◌≡◌, IfOk, option_map};
 ghost use Rattle.clap.specs.Words.{app_of, found_of, rows_of};
 ghost use Rattle.run_frame.specs.Spelled.{spelled};
-ghost use Rattle.tailcheck.specs.inside.Texts.{check_names_seen};
-ghost use Rattle.tailcheck.specs.Words.{check_of, command, names_in};
+ghost use Rattle.tailcheck.specs.inside.Texts.{check_names_seen, subject_seen};
+ghost use Rattle.tailcheck.specs.Words.{check_of, command, names_in, subject_of};
 
 use clap::error::ErrorKind;
 use clap::{Arg, ArgMatches, Command};
@@ -12,18 +12,39 @@ use run_frame::{TableNames, tables_command, tables_in, value_of};
 use std::alloc::{AllocError, Global};
 use tail_book::Memory;
 
-/// The names of the three tables and of the plan's file, as the words give them.
+/// What is judged, by the name of its file.
+#[derive(Clone, Copy, PartialEq, Eq, Debug)]
+pub enum Subject<'a> {
+    /// A plan.
+    Plan(&'a str),
+    /// A certificate.
+    Certificate(&'a str),
+}
+
+/// The names of the three tables, and what is judged, as the words give them.
 #[derive(Clone, Copy, PartialEq, Eq, Debug)]
 pub struct CheckNames<'a> {
     pub tables: TableNames<'a>,
-    pub plan: &'a str,
+    pub subject: Subject<'a>,
 }
 
-// The command: three words that have to stand in their places, and an option that has to be given.
+// The command: three words that have to stand in their places, and two options that may be given.
 fn command<'a>(alloc: Global) -> Result<Command<'a>, AllocError>
     ensures { IfOk result (λ c. app_of c ≡ command) }
 {
-    tables_command(alloc, "tailcheck")?.arg(Arg::new(alloc, "plan").long("plan").required(true))
+    let command = tables_command(alloc, "tailcheck")?.arg(Arg::new(alloc, "cert").long("cert"))?;
+    command.arg(Arg::new(alloc, "plan").long("plan"))
+}
+
+// Exactly one of the two is judged.
+fn subject_of<'a>(cert: Option<&'a str>, plan: Option<&'a str>) -> Option<Subject<'a>>
+    ensures { option_map subject_seen result ≡ subject_of (option_map (λ s. s.now) cert.entry) (option_map (λ s. s.now) plan.entry) }
+{
+    match (cert, plan) {
+        (Some(cert), None) => Some(Subject::Certificate(cert)),
+        (None, Some(plan)) => Some(Subject::Plan(plan)),
+        _ => None,
+    }
 }
 
 // The names among what the command matched.
@@ -31,12 +52,12 @@ fn names_in<'a>(matches: &ArgMatches<'a>) -> Option<CheckNames<'a>>
     ensures { option_map check_names_seen result ≡ names_in (rows_of (found_of matches.now)) }
 {
     let tables = tables_in(matches)?;
-    let plan = value_of(matches, "plan")?;
-    Some(CheckNames { tables, plan })
+    let subject = subject_of(value_of(matches, "cert"), value_of(matches, "plan"))?;
+    Some(CheckNames { tables, subject })
 }
 
-/// The names of the tables and of the plan's file, or nothing where the words are refused. The words begin with the
-/// program's name.
+/// The names of the tables and of what is judged, or nothing where the words are refused. The words begin with the program's
+/// name.
 #[tactic(auto, unfolding(crate::specs::Words::check_of))]
 pub fn check_of<'a>(alloc: Global, words: &'a [String]) -> Result<Option<CheckNames<'a>>, Memory>
     ensures { IfOk result (λ names. option_map check_names_seen names ≡ check_of (spelled words.now)) }
@@ -74,7 +95,15 @@ mod tests {
                 fleet,
                 rules,
             },
-            plan,
+            subject: Subject::Plan(plan),
+        }
+    }
+
+    // The same with a certificate in the plan's place.
+    fn certified<'a>(cert: &'a str) -> CheckNames<'a> {
+        CheckNames {
+            subject: Subject::Certificate(cert),
+            ..named("t", "f", "r", "p")
         }
     }
 
@@ -126,6 +155,22 @@ mod tests {
             ),
         ] {
             let are_read = are_read_as(rt.alloc(), words, Some(names))?;
+            assert!(rt; are_read, "{words:?}");
+        }
+        Ok(())
+    }
+
+    // A certificate is named like a plan.
+    #[test]
+    fn certificates_are_taken(rt: HostRuntime) -> Result<(), Fail> {
+        for (words, cert) in [
+            (["tailcheck", "t", "f", "r", "--cert", "c"].as_slice(), "c"),
+            (&["tailcheck", "--cert=c", "t", "f", "r"], "c"),
+            (&["tailcheck", "t", "--cert", "", "f", "r"], ""),
+            (&["tailcheck", "t", "f", "r", "--cert=-x"], "-x"),
+            (&["--plan=p", "--cert", "c", "--", "t", "f", "r"], "c"),
+        ] {
+            let are_read = are_read_as(rt.alloc(), words, Some(certified(cert)))?;
             assert!(rt; are_read, "{words:?}");
         }
         Ok(())
@@ -205,7 +250,7 @@ mod tests {
         Ok(())
     }
 
-    // The plan's option left out, twice, without a value or written otherwise, flags, and options that are not built.
+    // No option, one twice, both, one without a value or written otherwise, flags, and options that there are not.
     #[test]
     fn other_options_are_refused(rt: HostRuntime) -> Result<(), Fail> {
         for words in [
@@ -219,7 +264,9 @@ mod tests {
             &["tailcheck", "t", "f", "r", "--pla", "p"],
             &["tailcheck", "t", "f", "r", "-plan", "p"],
             &["tailcheck", "t", "f", "r", "-p", "p"],
-            &["tailcheck", "t", "f", "r", "--cert", "c"],
+            &["tailcheck", "t", "f", "r", "--cert", "c", "--cert", "c"],
+            &["tailcheck", "t", "f", "r", "--cert"],
+            &["tailcheck", "t", "f", "r", "--cer", "c"],
             &["tailcheck", "t", "f", "r", "--plan", "p", "--cert", "c"],
             &["tailcheck", "t", "f", "r", "--plan", "p", "--nodes", "5"],
             &["tailcheck", "--help"],

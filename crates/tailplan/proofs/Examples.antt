@@ -16,11 +16,15 @@ t_f_r = record { timetable = codes "t"; fleet = codes "f"; rules = codes "r" }
 
 -- the words name these tables, and no limit
 abbrev named : List ℕ → List ℕ → List ℕ → Option TaskNamesSeen
-named timetable fleet rules = Some (record { tables = record { timetable = timetable; fleet = fleet; rules = rules }; limit = Free })
+named timetable fleet rules = Some (record { tables = record { timetable = timetable; fleet = fleet; rules = rules }; limit = Free; cert = None })
 
 -- they name the tables `t`, `f` and `r`, and this limit
 abbrev limited : ℕ → Option TaskNamesSeen
-limited most = Some (record { tables = t_f_r; limit = Nodes most })
+limited most = Some (record { tables = t_f_r; limit = Nodes most; cert = None })
+
+-- they name the tables `t`, `f` and `r`, and this file for the certificate
+abbrev certified : List ℕ → Option TaskNamesSeen
+certified cert = Some (record { tables = t_f_r; limit = Free; cert = Some cert })
 
 -- no words at all, or the program's name alone, give no names
 no_words : (run_of [] ≡ None) × (after_name [] ≡ None)
@@ -97,10 +101,16 @@ no_limits : (after_name (codes "t" ∷ codes "f" ∷ codes "r" ∷ codes "--node
 unfolding clap_on_literals run_of
 no_limits = (refl, refl, refl, refl, refl)
 
--- no other option is taken, in whatever way it is written
-no_options : (after_name (codes "t" ∷ codes "--cert" ∷ codes "c" ∷ codes "f" ∷ codes "r" ∷ []) ≡ None)
-    × (after_name (codes "t" ∷ codes "f" ∷ codes "r" ∷ codes "--cert=c" ∷ []) ≡ None)
-    × (after_name (codes "--cert" ∷ codes "f" ∷ codes "r" ∷ []) ≡ None)
+-- any text names the certificate's file, wherever it stands and in either way that it is written
+certificates : (after_name (codes "t" ∷ codes "--cert" ∷ codes "c" ∷ codes "f" ∷ codes "r" ∷ []) ≡ certified (codes "c"))
+    × (after_name (codes "t" ∷ codes "f" ∷ codes "r" ∷ codes "--cert=c" ∷ []) ≡ certified (codes "c"))
+    × (after_name (codes "t" ∷ codes "f" ∷ codes "r" ∷ codes "--cert=" ∷ []) ≡ certified (codes ""))
+unfolding clap_on_literals run_of
+certificates = (refl, refl, refl)
+
+-- no other option is taken, in whatever way it is written, and none without its value
+no_options : (after_name (codes "t" ∷ codes "f" ∷ codes "r" ∷ codes "--cert" ∷ []) ≡ None)
+    × (after_name (codes "--cert" ∷ codes "t" ∷ codes "f" ∷ codes "r" ∷ []) ≡ None)
     × (after_name (codes "t" ∷ codes "f" ∷ codes "r" ∷ codes "--rules=x" ∷ []) ≡ None)
 unfolding clap_on_literals run_of
-no_options = (refl, refl, refl, refl)
+no_options = (refl, refl, refl)

@@ -1,3 +1,6 @@
 pub mod Examples
 pub mod WordLaws
 pub mod Promised
+pub mod Reported
+pub mod Holding
+pub mod Lifting

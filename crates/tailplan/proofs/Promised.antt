@@ -23,7 +23,7 @@ use Rattle.run_frame.specs.inside.TableFiles.{fronts}
 use Rattle.run_frame.specs.TableFiles.{tables_held}
 use Rattle.run_frame.specs.Tables.{TablesSeen}
 use Rattle.run_frame.specs.declared.answer.Answer.TheVariants.{ReadFailed}
-use Rattle.tailplan.specs.Answers.{Answer, AreRefused, AreSolved, HasTree, IsBookOf, IsTrueAnswer, OfTask, answer_text}
+use Rattle.tailplan.specs.Answers.{Answer, AreRefused, AreSolved, HasTree, IsBookOf, IsCertified, IsTrueAnswer, OfTask, answer_text}
 use Rattle.tailplan.specs.inside.Outcomes.{outcome_status}
 use Rattle.tailplan.specs.inside.Tasks.{task_fronts}
 use Rattle.tailplan.specs.Promises.{Case, IsCaseOf, IsNumber, IsVerdict, JudgesBook, Promise, RefusesTables}
@@ -37,22 +37,23 @@ Same a b = a ≡ b
 
 -- tables that were read up to the limit are the fronts of the files
 pub task-read : (files : FilesShown) (names : TaskNamesSeen) (read : TablesSeen) → IfSome (tables_held files names.tables) (λ whole. read ≡ fronts whole)
-    → IfSome (task_held files names) (λ whole. record { tables = read; limit = names.limit } ≡ task_fronts whole)
+    → IfSome (task_held files names) (λ whole. record { tables = read; limit = names.limit; cert = names.cert } ≡ task_fronts whole)
 task-read files names read h = each (tables_held files names.tables) h
   where
-    alike : {t u : TablesSeen} → t ≡ u → Same (record { tables = t; limit = names.limit }) (record { tables = u; limit = names.limit })
+    alike : {t u : TablesSeen} → t ≡ u → Same (record { tables = t; limit = names.limit; cert = names.cert }) (record { tables = u; limit = names.limit; cert = names.cert })
     alike same = rw same refl
 
     each : (t : Option TablesSeen) → IfSome t (λ whole. read ≡ fronts whole)
-        → IfSome (option_map (λ tables. record { tables = tables; limit = names.limit }) t) (λ whole. record { tables = read; limit = names.limit } ≡ task_fronts whole)
+        → IfSome (option_map (λ tables. record { tables = tables; limit = names.limit; cert = names.cert }) t)
+        (λ whole. record { tables = read; limit = names.limit; cert = names.cert } ≡ task_fronts whole)
     each None a = tt
     each (Some tables) a = alike a
 
 -- an answer to the tables that were read is a true answer to the words
-pub true_answer : (words : List (List ℕ)) (files : FilesShown) (names : TaskNamesSeen) (read : TaskSeen) (answer : Answer) → run_of words ≡ Some names
-    → IfSome (task_held files names) (λ task. read ≡ task_fronts task) → IsAnswerTo AreRefused AreSolved read answer → IsTrueAnswer words files answer
-true_answer words files = ending.true_answer (run_of words) (task_held files) AreRefused AreSolved task_fronts
-    (λ task refusal h. sym (book_of-fronts task.tables) ∙ h) (λ task solved h. (sym (book_of-fronts task.tables) ∙ h.0, h.1, h.2))
+pub true_answer : (words : List (List ℕ)) (files later : FilesShown) (names : TaskNamesSeen) (read : TaskSeen) (answer : Answer) → run_of words ≡ Some names
+    → IfSome (task_held files names) (λ task. read ≡ task_fronts task) → IsAnswerTo AreRefused (AreSolved later) read answer → IsTrueAnswer words files later answer
+true_answer words files later = ending.true_answer (run_of words) (task_held files) AreRefused (AreSolved later) task_fronts
+    (λ task refusal h. sym (book_of-fronts task.tables) ∙ h) (λ task solved h. (sym (book_of-fronts task.tables) ∙ h.0, h.1, h.2, h.3))
 
 -- a book is no refusal
 apart : (task : TaskSeen) (book : BookSeen) (refusal : Refusal) → IsBookOf task book → AreRefused task refusal → ⊥
@@ -88,22 +89,24 @@ decides book limit Infeasible status truth tree is = inr (inl (is, truth.claim))
 decides book limit (Between plan low high nodes) status truth tree is = inr (inr (is, reached limit nodes tree.1.answered.3))
 decides book limit (Above low nodes) status truth tree is = inr (inr (is, reached limit nodes tree.1.answered.2))
 
-module _ (words : List (List ℕ)) (files : FilesShown) (before after : SinkShown) where
+module _ (words : List (List ℕ)) (files later : FilesShown) (before after : SinkShown) where
   -- an outcome that was printed promises what its status says
-  found : (book : BookSeen) (outcome : Outcome) → OfTask words files (λ task. IsBookOf task book × IsTrueOutcome book outcome × HasTree book task.limit outcome)
-      → Takes before after (report book outcome) → Promise words files before after (outcome_status outcome)
+  found : (book : BookSeen) (outcome : Outcome) → OfTask words files (λ task. IsBookOf task book × IsTrueOutcome book outcome × HasTree book task.limit outcome × IsCertified later task book outcome)
+      → Takes before after (report book outcome) → Promise words files later before after (outcome_status outcome)
   found book (Optimal plan cost) k took = OfHeld-map (run_of words) (task_held files) _ _ (λ task own. record {
     book = book;
     plan = plan;
     cost = cost;
     is = own.0;
     truth = own.1;
+    certified = own.3;
     printed = took;
   }) k
   found book Infeasible k took = OfHeld-map (run_of words) (task_held files) _ _ (λ task own. record {
     book = book;
     is = own.0;
     truth = own.1.claim;
+    certified = own.3;
     printed = took;
   }) k
   found book (Between plan low high nodes) k took = OfHeld-map (run_of words) (task_held files) _ _ (λ task own. record {
@@ -113,6 +116,7 @@ module _ (words : List (List ℕ)) (files : FilesShown) (before after : SinkShow
     bound = tt;
     truth = own.1;
     tree = own.2;
+    certified = own.3;
     printed = took;
   }) k
   found book (Above low nodes) k took = OfHeld-map (run_of words) (task_held files) _ _ (λ task own. record {
@@ -122,34 +126,35 @@ module _ (words : List (List ℕ)) (files : FilesShown) (before after : SinkShow
     bound = tt;
     truth = own.1;
     tree = own.2;
+    certified = own.3;
     printed = took;
   }) k
 
-  module _ (status : ℕ) (answer : Answer) (truth : IsTrueAnswer words files answer)
+  module _ (status : ℕ) (answer : Answer) (truth : IsTrueAnswer words files later answer)
       (printed : IsPrinted (answer_text answer) (status_of (λ solved. outcome_status solved.outcome) answer) before after status) where
-    pub promise : IsPrintableBy (λ solved. HasPlanFor solved.book solved.outcome) answer → Promise words files before after status
-    promise fit = ending.promise (run_of words) (task_held files) AreRefused AreSolved usage_line (λ solved. report_lines solved.book solved.outcome) (λ solved. outcome_status solved.outcome)
-        before after status answer truth printed (Promise words files before after) (λ solved. HasPlanFor solved.book solved.outcome) fit
-        (λ h. h) (λ h. h) (λ h. h) (λ h. h) (λ h. h) (λ solved fits k took. found solved.book solved.outcome k took)
+    pub promise : IsPrintableBy (λ solved. HasPlanFor solved.book solved.outcome) answer → Promise words files later before after status
+    promise fit = ending.promise (run_of words) (task_held files) AreRefused (AreSolved later) usage_line (λ solved. report_lines solved.book solved.outcome) (λ solved. outcome_status solved.outcome)
+        before after status answer truth printed (Promise words files later before after) (λ solved. HasPlanFor solved.book solved.outcome) fit
+        (λ h. h) (λ h. h) (λ h. h) (λ h. (inl h.0, h.1)) (λ h. h) (λ solved fits k took. found solved.book solved.outcome k took)
 
     pub piece_failed : status ≡ 6 → PieceHasFailed before after
-    piece_failed = ending.piece_failed (run_of words) (task_held files) AreRefused AreSolved usage_line (λ solved. report_lines solved.book solved.outcome) (λ solved. outcome_status solved.outcome)
+    piece_failed = ending.piece_failed (run_of words) (task_held files) AreRefused (AreSolved later) usage_line (λ solved. report_lines solved.book solved.outcome) (λ solved. outcome_status solved.outcome)
         before after status answer truth printed (λ solved. never_six solved.outcome)
 
     pub read_failed : (Cause : Type 0) → (answer ≡ ReadFailed → Cause) → status ≡ 5 → Cause
-    read_failed Cause cause = ending.read_failed (run_of words) (task_held files) AreRefused AreSolved usage_line (λ solved. report_lines solved.book solved.outcome) (λ solved. outcome_status solved.outcome)
+    read_failed Cause cause = ending.read_failed (run_of words) (task_held files) AreRefused (AreSolved later) usage_line (λ solved. report_lines solved.book solved.outcome) (λ solved. outcome_status solved.outcome)
         before after status answer truth printed Cause cause (λ solved. never_five solved.outcome)
 
     pub words_refused : run_of words ≡ None → IsUnlessStopped 2 status
-    words_refused = ending.words_refused (run_of words) (task_held files) AreRefused AreSolved usage_line (λ solved. report_lines solved.book solved.outcome) (λ solved. outcome_status solved.outcome)
+    words_refused = ending.words_refused (run_of words) (task_held files) AreRefused (AreSolved later) usage_line (λ solved. report_lines solved.book solved.outcome) (λ solved. outcome_status solved.outcome)
         before after status answer truth printed
 
     pub tables_refused : RefusesTables words files status
-    tables_refused = ending.refused (run_of words) (task_held files) AreRefused AreSolved usage_line (λ solved. report_lines solved.book solved.outcome) (λ solved. outcome_status solved.outcome)
+    tables_refused = ending.refused (run_of words) (task_held files) AreRefused (AreSolved later) usage_line (λ solved. report_lines solved.book solved.outcome) (λ solved. outcome_status solved.outcome)
         before after status answer truth printed (λ task refusal solved is own. apart task solved.book refusal own.0 is)
 
     pub judged : IsPrintableBy (λ solved. HasPlanFor solved.book solved.outcome) answer → JudgesBook words files status
-    judged fit = ending.judged (run_of words) (task_held files) AreRefused AreSolved usage_line (λ solved. report_lines solved.book solved.outcome) (λ solved. outcome_status solved.outcome)
+    judged fit = ending.judged (run_of words) (task_held files) AreRefused (AreSolved later) usage_line (λ solved. report_lines solved.book solved.outcome) (λ solved. outcome_status solved.outcome)
         before after status answer truth printed IsCaseOf IsVerdict (λ solved. HasPlanFor solved.book solved.outcome) fit (λ task case refusal is. apart task case.book refusal is.0)
         (λ task case solved is own fits s. subst (λ (b : BookSeen). IsVerdict (record { book = b; limit = case.limit }) status) (same_book task solved.book case.book own.0 is.0)
         (decides solved.book case.limit solved.outcome status own.1 (subst (λ (limit : Limit). HasTree solved.book limit solved.outcome) is.1 own.2) s))

@@ -5,9 +5,9 @@ use Rattle.branch_tree.specs.declared.limit.Limit.TheVariants.{Free}
 use Rattle.tailplan.specs.Tasks.{TaskNamesSeen}
 use Rattle.tailplan.specs.Words.{run_of}
 
--- the words name these files, and no limit
+-- the words name these files, no limit, and no certificate's file
 abbrev named : List ℕ → List ℕ → List ℕ → Option TaskNamesSeen
-named timetable fleet rules = Some (record { tables = record { timetable = timetable; fleet = fleet; rules = rules }; limit = Free })
+named timetable fleet rules = Some (record { tables = record { timetable = timetable; fleet = fleet; rules = rules }; limit = Free; cert = None })
 
 -- the program's name does not matter
 whatever_it_is_called : (one other : List ℕ) (words : List (List ℕ)) → run_of (one ∷ words) ≡ run_of (other ∷ words)

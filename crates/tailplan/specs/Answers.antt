@@ -1,5 +1,5 @@
 -- When an answer is true, and what is printed for it.
-use Rattle.std.specs.Prelude.{ℕ, ◌≡◌, List, Ok, Err, IfSome}
+use Rattle.std.specs.Prelude.{ℕ, ◌≡◌, false, List, Option, Some, Ok, Err, IfSome}
 use Rattle.tail_book.specs.Seen.{BookSeen}
 use Rattle.tail_book.specs.Truth.{IsTrueOutcome}
 use Rattle.tail_book.specs.declared.outcome.Outcome.{Outcome}
@@ -9,12 +9,13 @@ use Rattle.tail_text.specs.declared.refusal.Refusal.{Refusal}
 use Rattle.book_maker.specs.Made.{book_of}
 use Rattle.branch_tree.specs.SearchTree.{SearchTree, IsSearchTree}
 use Rattle.branch_tree.specs.declared.limit.Limit.{Limit}
+use Rattle.certified_search.specs.Written.{IsCertificateOf, IsFrontOfDue}
 use Rattle.plan_report.specs.Lines.{text_of}
 use Rattle.plan_report.specs.Report.{report_lines}
 use Rattle.run_frame.specs.Answer.{IsTrueAnswer as IsTrueOf, lines_of}
 use Rattle.run_frame.specs.TableFiles.{OfHeld}
 use Rattle.run_frame.specs.declared.answer.Answer.{Answer as AnswerOf}
-use Rattle.tailplan.specs.Tasks.{MayReadTask, TaskSeen, task_held}
+use Rattle.tailplan.specs.Tasks.{MayUseTask, TaskSeen, cert_in, task_held}
 use Rattle.tailplan.specs.Usage.{usage_line}
 use Rattle.tailplan.specs.Words.{run_of}
 use Rattle.tailplan.specs.declared.answer.Solved.{Solved}
@@ -23,9 +24,13 @@ use Rattle.tailplan.specs.declared.answer.Solved.{Solved}
 abbrev pub Answer : Type 0
 Answer = AnswerOf Solved
 
--- the tables that the words name may be read
-abbrev pub MayRead : List (List ℕ) → FilesShown → Type 0
-MayRead words files = IfSome (run_of words) (MayReadTask files)
+-- the tables that the words name may be read, and the certificate's file may be written
+abbrev pub MayUse : List (List ℕ) → FilesShown → Type 0
+MayUse words files = IfSome (run_of words) (MayUseTask files)
+
+-- the name of the certificate's file, where the words give one
+abbrev pub cert_of : List (List ℕ) → Option (List ℕ)
+cert_of words = cert_in (run_of words)
 
 -- the words give a task, and P holds of it with the tables under its names, where they are told
 abbrev pub OfTask : List (List ℕ) → FilesShown → (TaskSeen → Type 0) → Type 0
@@ -43,13 +48,28 @@ AreRefused task refusal = book_of task.tables.timetable task.tables.fleet task.t
 abbrev pub HasTree : BookSeen → Limit → Outcome → Type 0
 HasTree book limit outcome = (tree : SearchTree) × IsSearchTree (costs_of book) book limit outcome tree
 
--- the tables are this book, of which the outcome is true, and a search tree within the limit has it
-abbrev pub AreSolved : TaskSeen → Solved → Type 0
-AreSolved task solved = IsBookOf task solved.book × IsTrueOutcome solved.book solved.outcome × HasTree solved.book task.limit solved.outcome
+-- the file of this name holds a certificate of the outcome, where anything is told of it
+abbrev pub HoldsCertificate : FilesShown → BookSeen → Limit → Outcome → List ℕ → Type 0
+HoldsCertificate files book limit outcome name =
+    files.ceased name ≡ false → (text : List ℕ) × (files.holds name ≡ Some text) × IsCertificateOf book limit outcome text
 
--- the answer is true of these words and files
-abbrev pub IsTrueAnswer : List (List ℕ) → FilesShown → Answer → Type 0
-IsTrueAnswer words files answer = IsTrueOf (run_of words) (task_held files) AreRefused AreSolved answer
+-- so does the certificate's file, where the task names one
+abbrev pub IsCertified : FilesShown → TaskSeen → BookSeen → Outcome → Type 0
+IsCertified files task book outcome = IfSome task.cert (HoldsCertificate files book task.limit outcome)
+
+-- the tables are this book, of which the outcome is true, a search tree within the limit has it, and it is certified in the files as
+-- they are left
+abbrev pub AreSolved : FilesShown → TaskSeen → Solved → Type 0
+AreSolved later task solved =
+    IsBookOf task solved.book × IsTrueOutcome solved.book solved.outcome × HasTree solved.book task.limit solved.outcome × IsCertified later task solved.book solved.outcome
+
+-- the answer is true of these words and files, and of what the files are left with
+abbrev pub IsTrueAnswer : List (List ℕ) → FilesShown → FilesShown → Answer → Type 0
+IsTrueAnswer words files later answer = IsTrueOf (run_of words) (task_held files) AreRefused (AreSolved later) answer
+
+-- the text is a front of what was due in the certificate's file of the task
+abbrev pub HasFrontOfDue : TaskSeen → List ℕ → Type 0
+HasFrontOfDue task text = (book : BookSeen) × IsBookOf task book × IsFrontOfDue book task.limit text
 
 -- what is printed for an answer
 abbrev pub answer_text : Answer → List ℕ

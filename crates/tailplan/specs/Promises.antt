@@ -10,26 +10,30 @@ use Rattle.tail_outside.specs.Shown.{FilesShown, SinkShown}
 use Rattle.branch_tree.specs.declared.limit.Limit.{Limit}
 use Rattle.branch_tree.specs.declared.limit.Limit.TheVariants.{Free, Nodes}
 use Rattle.plan_report.specs.Report.{report}
-use Rattle.run_frame.specs.Promise.{ElsePromise, Judges, Refuses}
-use Rattle.tailplan.specs.Answers.{AreRefused, HasTree, IsBookOf, IsTrueAnswer, OfTask, answer_text}
+use Rattle.run_frame.specs.Promise.{ElsePromise, Judges, PrintsFront, Refuses}
+use Rattle.tailplan.specs.Answers.{AreRefused, HasTree, IsBookOf, IsCertified, IsTrueAnswer, OfTask, answer_text}
+use Rattle.tailplan.specs.Kept.{WriteHasFailed}
 use Rattle.tailplan.specs.Tasks.{TaskSeen, task_held}
 use Rattle.tailplan.specs.Usage.{usage_line}
 use Rattle.tailplan.specs.Words.{run_of}
 
--- the tables are a book, and the report of a plan was printed that is legal, has the printed cost, and is undercut by no legal plan
-pub record PrintsLeastPlan (before after : SinkShown) (task : TaskSeen) : Type 0 where
+-- the tables are a book, and the report of a plan was printed that is legal, has the printed cost, and is undercut by no legal plan;
+-- a certificate that was asked for is one of this outcome
+pub record PrintsLeastPlan (later : FilesShown) (before after : SinkShown) (task : TaskSeen) : Type 0 where
   pub book : BookSeen
   pub plan : List (List ℕ)
   pub cost : ℕ
   pub is : IsBookOf task book
   pub truth : IsTrueOutcome book (Optimal plan cost)
+  pub certified : IsCertified later task book (Optimal plan cost)
   pub printed : Takes before after (report book (Optimal plan cost))
 
--- the tables are a book of which no plan is legal, and that was printed
-pub record PrintsInfeasible (before after : SinkShown) (task : TaskSeen) : Type 0 where
+-- the tables are a book of which no plan is legal, and that was printed; a certificate that was asked for says so too
+pub record PrintsInfeasible (later : FilesShown) (before after : SinkShown) (task : TaskSeen) : Type 0 where
   pub book : BookSeen
   pub is : IsBookOf task book
   pub truth : HasNoPlan book
+  pub certified : IsCertified later task book Infeasible
   pub printed : Takes before after (report book Infeasible)
 
 -- the outcome is a bound, with the best plan found or without
@@ -40,24 +44,28 @@ IsBound (Between plan low high nodes) = ⊤
 IsBound (Above low nodes) = ⊤
 
 -- the tables are a book, and the report of a bound was printed that is true, with which a search tree within the limit ends:
--- its nodes reach the limit, and the bound is the least that its open places leave
-pub record PrintsBound (before after : SinkShown) (task : TaskSeen) : Type 0 where
+-- its nodes reach the limit, and the bound is the least that its open places leave; a certificate that was asked for is one of
+-- this outcome
+pub record PrintsBound (later : FilesShown) (before after : SinkShown) (task : TaskSeen) : Type 0 where
   pub book : BookSeen
   pub outcome : Outcome
   pub is : IsBookOf task book
   pub bound : IsBound outcome
   pub truth : IsTrueOutcome book outcome
   pub tree : HasTree book task.limit outcome
+  pub certified : IsCertified later task book outcome
   pub printed : Takes before after (report book outcome)
 
--- what a run over these words and files promises by its status, where the output was first so and then so: 0 a plan of
--- least cost, 1 that no plan is legal, 4 a bound at the limit, and else what every run promises
-abbrev pub Promise : List (List ℕ) → FilesShown → SinkShown → SinkShown → ℕ → Type 0
-Promise words files before after status =
-    cond (status == 0) (OfTask words files (PrintsLeastPlan before after)) (
-    cond (status == 1) (OfTask words files (PrintsInfeasible before after)) (
-    cond (status == 4) (OfTask words files (PrintsBound before after)) (
-    ElsePromise (run_of words) (task_held files) AreRefused usage_line (IsTrueAnswer words files) answer_text before after status)))
+-- what a run over these words and files promises by its status, where the files and the output were first so and then so: 0 a plan
+-- of least cost, 1 that no plan is legal, 4 a bound at the limit, 6 a front of the text of a true answer, after a write that failed,
+-- and else what every run promises
+abbrev pub Promise : List (List ℕ) → FilesShown → FilesShown → SinkShown → SinkShown → ℕ → Type 0
+Promise words files later before after status =
+    cond (status == 0) (OfTask words files (PrintsLeastPlan later before after)) (
+    cond (status == 1) (OfTask words files (PrintsInfeasible later before after)) (
+    cond (status == 4) (OfTask words files (PrintsBound later before after)) (
+    cond (status == 6) (WriteHasFailed words files later before after × PrintsFront (IsTrueAnswer words files later) answer_text before after) (
+    ElsePromise (run_of words) (task_held files) AreRefused usage_line (IsTrueAnswer words files later) answer_text before after status))))
 
 -- some plan is legal
 abbrev pub HasPlan : BookSeen → Type 0

@@ -1,4 +1,5 @@
--- The reading of the words: the program's name, the names of three tables, and how many nodes may be counted.
+-- The reading of the words: the program's name, the names of three tables, how many nodes may be counted, and the name of the
+-- certificate's file.
 use Rattle.std.specs.Prelude.{ℕ, List, codes, Option, Some, None, Result, Ok, Err, option_and_then, option_map}
 use Rattle.clap.specs.Words.{App, Row, Rule, first_of, new_rule, with_rule}
 use Rattle.tail_text.specs.Number.{number_of}
@@ -13,9 +14,9 @@ use Rattle.tailplan.specs.declared.words.TheConstants.{NODE_LIMIT}
 abbrev pub optional : List ℕ → Rule
 optional id = record (new_rule id) { long = Some id }
 
--- the command: three places and one option
+-- the command: three places and two options
 abbrev pub command : App
-command = with_rule (tables_command (codes "tailplan")) (optional (codes "nodes"))
+command = with_rule (with_rule (tables_command (codes "tailplan")) (optional (codes "nodes"))) (optional (codes "cert"))
 
 -- a number limits the nodes, and any other text is refused
 abbrev pub limited : Result ℕ Bad → Option Limit
@@ -27,10 +28,10 @@ abbrev pub limit_of : Option (List ℕ) → Option Limit
 limit_of None = Some Free
 limit_of (Some text) = limited (number_of NODE_LIMIT text)
 
--- the names and the limit among what the command matched
+-- the names and the limit among what the command matched; any text is the name of a certificate's file
 abbrev pub names_in : List Row → Option TaskNamesSeen
 names_in rows =
-    option_and_then (λ tables. option_map (λ limit. record { tables = tables; limit = limit }) (limit_of (first_of (codes "nodes") rows)))
+    option_and_then (λ tables. option_map (λ limit. record { tables = tables; limit = limit; cert = first_of (codes "cert") rows }) (limit_of (first_of (codes "nodes") rows)))
     (tables_in rows)
 
 -- what the words give; words that the command refuses give nothing

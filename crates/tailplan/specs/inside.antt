@@ -1,3 +1,4 @@
 -- What only proofs, and calls further in, cite.
 pub mod Outcomes
 pub mod Tasks
+pub mod Ending

@@ -2,6 +2,8 @@
 #![tactic(auto)]
 
 mod answer;
+mod answered;
+mod planning;
 mod run;
 mod usage;
 mod words;

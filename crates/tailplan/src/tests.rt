@@ -1,5 +1,6 @@
 //! Runs over files and a sink in memory, on tables as a planner types them.
 
+mod certificates;
 mod costs;
 mod counters;
 mod curfews;

@@ -1,4 +1,4 @@
-//! The reading of the words: which tables a run is over, and how many nodes it may count.
+//! The reading of the words: which tables a run is over, how many nodes it may count, and where its certificate goes.
 
 ghost use Rattle.std.specs.Prelude.{◌≡◌, IfOk, option_map};
 ghost use Rattle.clap.specs.Words.{app_of, found_of, rows_of};
@@ -17,18 +17,20 @@ use tail_text::number;
 /// The most nodes that a limit may name.
 pub const NODE_LIMIT: u64 = 1_000_000_000_000;
 
-/// The names of the three tables, and the limit of nodes, as the words give them.
+/// The names of the three tables, the limit of nodes, and the name of the certificate's file, as the words give them.
 #[derive(Clone, Copy, PartialEq, Eq, Debug)]
 pub struct TaskNames<'a> {
     pub tables: TableNames<'a>,
     pub limit: Limit,
+    pub cert: Option<&'a str>,
 }
 
-// The command: three words that have to stand in their places, and an option that may be given.
+// The command: three words that have to stand in their places, and two options that may be given.
 fn command<'a>(alloc: Global) -> Result<Command<'a>, AllocError>
     ensures { IfOk result (λ c. app_of c ≡ command) }
 {
-    tables_command(alloc, "tailplan")?.arg(Arg::new(alloc, "nodes").long("nodes"))
+    let command = tables_command(alloc, "tailplan")?.arg(Arg::new(alloc, "nodes").long("nodes"))?;
+    command.arg(Arg::new(alloc, "cert").long("cert"))
 }
 
 // The limit that a value of the option gives, or nothing where it is no number that a limit may be.
@@ -50,7 +52,12 @@ fn names_in<'a>(matches: &ArgMatches<'a>) -> Option<TaskNames<'a>>
 {
     let tables = tables_in(matches)?;
     let limit = limit_of(value_of(matches, "nodes"))?;
-    Some(TaskNames { tables, limit })
+    let cert = value_of(matches, "cert");
+    Some(TaskNames {
+        tables,
+        limit,
+        cert,
+    })
 }
 
 /// The names of the tables and the limit, or nothing where the words are refused. The words begin with the program's
@@ -93,6 +100,7 @@ mod tests {
                 rules,
             },
             limit,
+            cert: None,
         }
     }
 
@@ -163,7 +171,34 @@ mod tests {
         Ok(())
     }
 
-    // Other numbers of names, names that begin with a dash, flags, and options that are not built yet.
+    // Any text is a certificate's name, and the option stands where that of the limit may.
+    #[test]
+    fn certificates_have_names(rt: HostRuntime) -> Result<(), Fail> {
+        for (words, limit, cert) in [
+            (
+                ["tailplan", "t", "--cert", "c", "f", "r"].as_slice(),
+                Limit::Free,
+                "c",
+            ),
+            (&["tailplan", "t", "f", "r", "--cert=t"], Limit::Free, "t"),
+            (&["tailplan", "t", "f", "r", "--cert", ""], Limit::Free, ""),
+            (
+                &["tailplan", "--cert=-c", "--nodes", "5", "t", "f", "r"],
+                Limit::Nodes(5),
+                "-c",
+            ),
+        ] {
+            let names = TaskNames {
+                cert: Some(cert),
+                ..limited("t", "f", "r", limit)
+            };
+            let are_read = are_read_as(rt.alloc(), words, Some(names))?;
+            assert!(rt; are_read, "{words:?}");
+        }
+        Ok(())
+    }
+
+    // Other numbers of names, names that begin with a dash, flags, and options without a value or twice.
     #[test]
     fn other_words_are_refused(rt: HostRuntime) -> Result<(), Fail> {
         for words in [
@@ -196,9 +231,10 @@ mod tests {
             &["tailplan", "t", "f", "r", "--nodes", "5 "],
             &["tailplan", "t", "f", "r", "--nodes", "1000000000001"],
             &["tailplan", "--nodes", "t", "f", "r"],
-            &["tailplan", "t", "--cert", "c", "f", "r"],
-            &["tailplan", "t", "f", "r", "--cert=c"],
-            &["tailplan", "--cert", "f", "r"],
+            &["tailplan", "t", "f", "r", "--cert"],
+            &["tailplan", "t", "f", "r", "--cert", "-c"],
+            &["tailplan", "t", "f", "r", "--cert", "c", "--cert", "c"],
+            &["tailplan", "--cert", "t", "f", "r"],
         ] {
             let are_refused = are_read_as(rt.alloc(), words, None)?;
             assert!(rt; are_refused, "{words:?}");

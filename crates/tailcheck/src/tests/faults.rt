@@ -9,17 +9,17 @@ const GOOD: Typed<'_> = Typed {
     timetable: &[TIMETABLE, THERE_AND_BACK],
     fleet: &[FLEET, ONE_AT_ARLANDA],
     rules: &[RULES],
-    plan: &["optimal 120\nA1: F1 F2\n"],
+    judged: &["optimal 120\nA1: F1 F2\n"],
 };
 
 // A plan that breaks three rules: four lines are printed.
 const BROKEN: Typed<'_> = Typed {
-    plan: &["optimal 120\nA1: F1 F9 F1\n"],
+    judged: &["optimal 120\nA1: F1 F9 F1\n"],
     ..GOOD
 };
 
 const REFUSED: Typed<'_> = Typed {
-    plan: &["infeasible\n"],
+    judged: &["infeasible\n"],
     ..GOOD
 };
 

@@ -28,7 +28,8 @@ pub struct Typed<'a> {
     pub timetable: &'a [&'a str],
     pub fleet: &'a [&'a str],
     pub rules: &'a [&'a str],
-    pub plan: &'a [&'a str],
+    /// The plan or the certificate.
+    pub judged: &'a [&'a str],
 }
 
 /// How a run ended, and what it printed.
@@ -65,8 +66,8 @@ pub fn files_of(alloc: Global, typed: Typed<'_>) -> Result<Vec<MemFile>, Fail> {
     let timetable = file_of(alloc, "t", text_of(alloc, typed.timetable)?)?;
     let fleet = file_of(alloc, "f", text_of(alloc, typed.fleet)?)?;
     let rules = file_of(alloc, "r", text_of(alloc, typed.rules)?)?;
-    let plan = file_of(alloc, "p", text_of(alloc, typed.plan)?)?;
-    Ok(vec![in alloc; timetable, fleet, rules, plan]?)
+    let judged = file_of(alloc, "p", text_of(alloc, typed.judged)?)?;
+    Ok(vec![in alloc; timetable, fleet, rules, judged]?)
 }
 
 fn words_of(alloc: Global, words: &[&str]) -> Result<Vec<String>, Fail> {
@@ -101,7 +102,10 @@ pub fn run_over(alloc: Global, files: Vec<MemFile>) -> Result<Seen, Fail> {
     run_failing(alloc, &WORDS, files, &[], &[])
 }
 
-/// The words that name the four files.
+/// The words that name the four files, the last as a certificate.
+pub const CERT_WORDS: [&str; 6] = ["tailcheck", "t", "f", "r", "--cert", "p"];
+
+/// The words that name the four files, the last as a plan.
 pub const WORDS: [&str; 6] = ["tailcheck", "t", "f", "r", "--plan", "p"];
 
 /// A run over these texts.
@@ -123,7 +127,7 @@ pub fn run_with(
             timetable: &[TIMETABLE, records],
             fleet: &[FLEET, aircraft],
             rules: &[RULES, more_rules],
-            plan: &[plan],
+            judged: &[plan],
         },
     )
 }

@@ -68,7 +68,7 @@ fn with_plan(alloc: Global, fleet: &[&str], plan: Vec<u8>) -> Result<Vec<MemFile
         timetable: &[TIMETABLE, THERE_AND_BACK],
         fleet,
         rules: &[RULES],
-        plan: &[],
+        judged: &[],
     };
     let mut files = files_of(alloc, typed)?;
     files.pop();
@@ -116,7 +116,7 @@ fn tables_are_refused_before_the_plan(rt: HostRuntime) -> Result<(), Fail> {
         timetable: &[TIMETABLE, THERE_AND_BACK],
         fleet: &[FLEET, ONE_AT_ARLANDA],
         rules: &[RULES],
-        plan: &["infeasible\n"],
+        judged: &["infeasible\n"],
     };
     let late = "F1,flight,ARN,OSL,2025-03-03T07:00,2025-03-03T07:00,,,,\n";
     let unknown = "F1,flight,ARN,LHR,2025-03-03T06:00,2025-03-03T07:00,,,,\n";

@@ -194,7 +194,7 @@ fn run_on_the_week(alloc: Global, plan: &[&str]) -> Result<Seen, Fail> {
             timetable: &[TIMETABLE, FLIGHTS_AND_CHECK],
             fleet: &[FLEET, AIRCRAFT],
             rules: &[RULES],
-            plan,
+            judged: plan,
         },
     )
 }

@@ -10,14 +10,14 @@ const GOOD: Typed<'_> = Typed {
     timetable: &[TIMETABLE, THERE_AND_BACK],
     fleet: &[FLEET, ONE_AT_ARLANDA],
     rules: &[RULES],
-    plan: &["optimal 120\nA1: F1 F2\n"],
+    judged: &["optimal 120\nA1: F1 F2\n"],
 };
 
 fn run_as(alloc: Global, words: &[&str]) -> Result<Seen, Fail> {
     run_failing(alloc, words, files_of(alloc, GOOD)?, &[], &[])
 }
 
-// Words that do not name three tables and one plan's file.
+// Words that do not name three tables and one file to judge by them.
 #[test]
 fn other_words_are_refused(rt: HostRuntime) -> Result<(), Fail> {
     for words in [
@@ -27,7 +27,7 @@ fn other_words_are_refused(rt: HostRuntime) -> Result<(), Fail> {
         &["tailcheck", "t", "f", "--plan", "p"],
         &["tailcheck", "t", "f", "r", "x", "--plan", "p"],
         &["tailcheck", "t", "f", "r", "--plan"],
-        &["tailcheck", "t", "f", "r", "--cert", "p"],
+        &["tailcheck", "t", "f", "r", "--cert", "p", "--cert", "p"],
         &["tailcheck", "t", "f", "r", "--plan", "p", "--cert", "p"],
         &["tailcheck", "t", "f", "r", "--plan", "p", "--plan", "p"],
         &["tailcheck", "t", "f", "r", "--plan", "p", "--help"],
@@ -77,6 +77,16 @@ fn names_are_taken_in_their_places(rt: HostRuntime) -> Result<(), Fail> {
             ["tailcheck", "t", "f", "r", "--plan", "r"],
             3,
             "refused 3 plan 1\n",
+        ),
+        (
+            ["tailcheck", "t", "f", "r", "--cert", "p"],
+            1,
+            "no 1 BadLine\n",
+        ),
+        (
+            ["tailcheck", "--cert", "t", "t", "f", "r"],
+            1,
+            "no 1 BadLine\n",
         ),
     ] {
         let seen = run_as(rt.alloc(), &words)?;

@@ -266,19 +266,26 @@ F1,flight,OSL,ARN,2025-03-03T12:30,2025-03-03T13:30,,,,\n";
     each_ends_so(&rt, rt.alloc(), &cases)
 }
 
+/// Two flights away from Arlanda and home, with G1 there between them.
+pub const WITH_A_STOP: &str = "F1,flight,ARN,OSL,2025-03-03T06:00,2025-03-03T07:00,,,A1,\n\
+F2,flight,OSL,ARN,2025-03-03T07:30,2025-03-03T08:30,,,A1,\n\
+G1,ground,ARN,ARN,2025-03-03T09:00,2025-03-03T09:45,,,,\n\
+F5,flight,ARN,OSL,2025-03-03T10:00,2025-03-03T11:00,,,A1,\n\
+F6,flight,OSL,ARN,2025-03-03T11:30,2025-03-03T12:30,,,A1,\n";
+
+/// At most three landings between two waits of an hour at Arlanda; a wait of an hour is dear.
+pub const THREE_LANDINGS: &str =
+    "[[counter]]\nname = \"ldg\"\nkind = \"landings\"\nlimit = 3\nbases = [\"ARN\"]\nstop = 60\n\
+[[band]]\nupto = 59\ncost = 0\n[[band]]\nupto = 10000000\ncost = 500\n";
+
 // The cheap way to F5 goes through G1, and keeps the counter full: F6 would be the fourth landing. The dear one is taken.
 #[test]
 fn a_dear_stop_empties_a_counter(rt: HostRuntime) -> Result<(), Fail> {
     let ends = ends_so(
         rt.alloc(),
-        "F1,flight,ARN,OSL,2025-03-03T06:00,2025-03-03T07:00,,,A1,\n\
-F2,flight,OSL,ARN,2025-03-03T07:30,2025-03-03T08:30,,,A1,\n\
-G1,ground,ARN,ARN,2025-03-03T09:00,2025-03-03T09:45,,,,\n\
-F5,flight,ARN,OSL,2025-03-03T10:00,2025-03-03T11:00,,,A1,\n\
-F6,flight,OSL,ARN,2025-03-03T11:30,2025-03-03T12:30,,,A1,\n",
+        WITH_A_STOP,
         TWO,
-        "[[counter]]\nname = \"ldg\"\nkind = \"landings\"\nlimit = 3\nbases = [\"ARN\"]\nstop = 60\n\
-[[band]]\nupto = 59\ncost = 0\n[[band]]\nupto = 10000000\ncost = 500\n",
+        THREE_LANDINGS,
         0,
         "optimal 740\nA1: F1 F2 F5 F6\nA2: G1\n",
     )?;

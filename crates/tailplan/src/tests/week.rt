@@ -1,8 +1,11 @@
 //! The week of the example tables: 97 activities on six aircraft, three counters and two curfews.
 
+use super::certificates::verdict_on;
 use super::{FLEET, Seen, TIMETABLE, run_on};
+use cert_checker::Verdict;
 use std::alloc::Global;
 use std::test::Fail;
+use tail_book::Claim;
 
 // A flight out of Arlanda and back, on each day: when it starts, where it goes, how long each way takes, how long after its
 // start the way back starts, and the types that may fly it. All times are in minutes.
@@ -141,5 +144,14 @@ fn the_week_costs_86400(rt: HostRuntime) -> Result<(), Fail> {
     assert_eq!(rt; seen.status, 0);
     assert!(rt; seen.printed.starts_with(b"optimal 86400\nA1:".as_slice()));
     assert_eq!(rt; lines_of(&seen), 7);
+    Ok(())
+}
+
+// So says its certificate.
+#[test]
+fn the_week_is_certified(rt: HostRuntime) -> Result<(), Fail> {
+    let records = records(rt.alloc())?;
+    let verdict = verdict_on(rt.alloc(), &records, &[FLEET, AIRCRAFT], &[RULES])?;
+    assert_eq!(rt; verdict, Some(Verdict::Yes(Claim::Optimal(86_400))));
     Ok(())
 }

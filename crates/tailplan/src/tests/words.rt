@@ -35,7 +35,8 @@ fn other_words_are_refused(rt: HostRuntime) -> Result<(), Fail> {
         &["tailplan", "t", "f", "r", "--nodes", "1000000000001"],
         &["tailplan", "t", "f", "r", "--nodes", "1", "--nodes", "1"],
         &["tailplan", "t", "f", "r", "--nodes", "1", "2"],
-        &["tailplan", "t", "f", "r", "--cert", "c"],
+        &["tailplan", "t", "f", "r", "--cert"],
+        &["tailplan", "t", "f", "r", "--cert", "c", "--cert", "c"],
         &["tailplan", "-t", "f", "r"],
         &["tailplan", "t", "f", "--"],
     ] {

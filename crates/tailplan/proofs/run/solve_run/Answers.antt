@@ -1,43 +1,15 @@
-use Rattle.tail_outside.specs.Outside.{ReadHasFailed}
-use Rattle.run_frame.specs.inside.Answer.{IsPrinted, status_of}
 use Rattle.run_frame.specs.Spelled.{spelled}
-use Rattle.tailplan.specs.Answers.{answer_text}
-use Rattle.tailplan.specs.inside.Outcomes.{outcome_status}
-use Rattle.tailplan.proofs.Promised.{judged, piece_failed, promise, read_failed, tables_refused, words_refused}
+use Rattle.tailplan.proofs.Reported.{only_reads_of, promise_of}
 use Rattle.tailplan.proofs.run.solve_run.Goals as goal
 
 pub returns-clause-promised : goal.returns-clause-promised
 returns-clause-promised g c =
-    let printed : IsPrinted (answer_text c.answer_of-answer.result) (status_of (λ solved. outcome_status solved.outcome) c.answer_of-answer.result) (g.S.Sink.shows c.args.out.now) (g.S.Sink.shows c.print-status.new.out) c.print-status.result.0 =
-    rw c.usage_line.ensures at c.print-status.ensures.printed in
-    promise (spelled c.args.words.now) (g.F.Files.shows c.args.files) (g.S.Sink.shows c.args.out.now) (g.S.Sink.shows c.print-status.new.out) c.print-status.result.0 c.answer_of-answer.result c.answer_of-answer.ensures.answer printed c.answer_of-answer.ensures.printable
+    let run = c.answer_of-answer in
+    promise_of (spelled c.args.words.now) (g.F.Files.shows c.args.files) (g.F.Files.shows run.result.files) (g.S.Sink.shows c.args.out.now) (g.S.Sink.shows c.report-status.new.out) c.report-status.result.0
+    run.result.answer run.ensures.answer run.ensures.printable run.ensures.write_cause c.report-status.ensures.reported
 
-pub returns-clause-read_failed : goal.returns-clause-read_failed
-returns-clause-read_failed g c =
-    let printed : IsPrinted (answer_text c.answer_of-answer.result) (status_of (λ solved. outcome_status solved.outcome) c.answer_of-answer.result) (g.S.Sink.shows c.args.out.now) (g.S.Sink.shows c.print-status.new.out) c.print-status.result.0 =
-    rw c.usage_line.ensures at c.print-status.ensures.printed in
-    read_failed (spelled c.args.words.now) (g.F.Files.shows c.args.files) (g.S.Sink.shows c.args.out.now) (g.S.Sink.shows c.print-status.new.out) c.print-status.result.0 c.answer_of-answer.result c.answer_of-answer.ensures.answer printed (ReadHasFailed (g.F.Files.shows c.args.files) (g.F.Files.shows c.answer_of-answer.new.files)) c.answer_of-answer.ensures.cause
-
-pub returns-clause-write_failed : goal.returns-clause-write_failed
-returns-clause-write_failed g c =
-    let printed : IsPrinted (answer_text c.answer_of-answer.result) (status_of (λ solved. outcome_status solved.outcome) c.answer_of-answer.result) (g.S.Sink.shows c.args.out.now) (g.S.Sink.shows c.print-status.new.out) c.print-status.result.0 =
-    rw c.usage_line.ensures at c.print-status.ensures.printed in
-    piece_failed (spelled c.args.words.now) (g.F.Files.shows c.args.files) (g.S.Sink.shows c.args.out.now) (g.S.Sink.shows c.print-status.new.out) c.print-status.result.0 c.answer_of-answer.result c.answer_of-answer.ensures.answer printed
-
-pub returns-clause-words_refused : goal.returns-clause-words_refused
-returns-clause-words_refused g c =
-    let printed : IsPrinted (answer_text c.answer_of-answer.result) (status_of (λ solved. outcome_status solved.outcome) c.answer_of-answer.result) (g.S.Sink.shows c.args.out.now) (g.S.Sink.shows c.print-status.new.out) c.print-status.result.0 =
-    rw c.usage_line.ensures at c.print-status.ensures.printed in
-    words_refused (spelled c.args.words.now) (g.F.Files.shows c.args.files) (g.S.Sink.shows c.args.out.now) (g.S.Sink.shows c.print-status.new.out) c.print-status.result.0 c.answer_of-answer.result c.answer_of-answer.ensures.answer printed
-
-pub returns-clause-tables_refused : goal.returns-clause-tables_refused
-returns-clause-tables_refused g c =
-    let printed : IsPrinted (answer_text c.answer_of-answer.result) (status_of (λ solved. outcome_status solved.outcome) c.answer_of-answer.result) (g.S.Sink.shows c.args.out.now) (g.S.Sink.shows c.print-status.new.out) c.print-status.result.0 =
-    rw c.usage_line.ensures at c.print-status.ensures.printed in
-    tables_refused (spelled c.args.words.now) (g.F.Files.shows c.args.files) (g.S.Sink.shows c.args.out.now) (g.S.Sink.shows c.print-status.new.out) c.print-status.result.0 c.answer_of-answer.result c.answer_of-answer.ensures.answer printed
-
-pub returns-clause-judged : goal.returns-clause-judged
-returns-clause-judged g c =
-    let printed : IsPrinted (answer_text c.answer_of-answer.result) (status_of (λ solved. outcome_status solved.outcome) c.answer_of-answer.result) (g.S.Sink.shows c.args.out.now) (g.S.Sink.shows c.print-status.new.out) c.print-status.result.0 =
-    rw c.usage_line.ensures at c.print-status.ensures.printed in
-    judged (spelled c.args.words.now) (g.F.Files.shows c.args.files) (g.S.Sink.shows c.args.out.now) (g.S.Sink.shows c.print-status.new.out) c.print-status.result.0 c.answer_of-answer.result c.answer_of-answer.ensures.answer printed c.answer_of-answer.ensures.printable
+pub returns-clause-same : goal.returns-clause-same
+returns-clause-same g c =
+    let run = c.answer_of-answer in
+    only_reads_of (spelled c.args.words.now) (g.F.Files.shows c.args.files) (g.F.Files.shows run.result.files) (g.S.Sink.shows c.args.out.now) (g.S.Sink.shows c.report-status.new.out) c.report-status.result.0
+    run.result.answer run.ensures.kept run.ensures.same c.report-status.ensures.reported

@@ -1,0 +1,246 @@
+//! Certificates that are accepted, and certificates that fail, each at its line.
+
+use super::fixtures::{
+    CERT_WORDS, FLEET, ONE_AT_ARLANDA, RULES, Seen, THERE_AND_BACK, TIMETABLE, Typed, files_of,
+    run_failing,
+};
+use std::alloc::Global;
+use std::process::Abort;
+use std::test::Fail;
+
+// A quick flight and a slow one at the same time, a cheap aircraft and a dear one.
+const SAME_TIME: Typed<'_> = Typed {
+    timetable: &[
+        TIMETABLE,
+        "F1,flight,ARN,OSL,2025-03-03T06:00,2025-03-03T07:00,,,,\n",
+        "F2,flight,ARN,OSL,2025-03-03T06:00,2025-03-03T08:00,,,,\n",
+    ],
+    fleet: &[
+        FLEET,
+        "A1,P,ARN,2025-03-03T05:00,0,,,\nA2,Q,ARN,2025-03-03T05:00,0,,,\n",
+    ],
+    rules: &[RULES, "[[type]]\nname = \"Q\"\nrate = 2\nturn = 30\n"],
+    judged: &[],
+};
+
+// A flight and one back, a minute too early for the aircraft's turn.
+const TOO_EARLY: Typed<'_> = Typed {
+    timetable: &[TIMETABLE, THERE_AND_BACK],
+    fleet: &[FLEET, ONE_AT_ARLANDA],
+    rules: &[
+        "[[type]]\nname = \"P\"\nrate = 1\nturn = 31\n\
+[[airport]]\nname = \"ARN\"\noffset = 60\nturn = 20\n\
+[[airport]]\nname = \"OSL\"\noffset = 60\nturn = 20\n",
+    ],
+    judged: &[],
+};
+
+// A flight and no aircraft.
+const NO_AIRCRAFT: Typed<'_> = Typed {
+    timetable: &[
+        TIMETABLE,
+        "F1,flight,ARN,OSL,2025-03-03T06:00,2025-03-03T07:00,,,,\n",
+    ],
+    fleet: &[FLEET],
+    rules: &[RULES],
+    judged: &[],
+};
+
+// A certificate of the two flights at the same time, made by hand.
+const LEAST: [&str; 14] = [
+    "tailcert 1 2 2 0\n",
+    "bound\n",
+    "dual 0 120000\n",
+    "dual 1 180000\n",
+    "cover 0 -60000\n",
+    "label 0 -60000\n",
+    "label 1 -60000\n",
+    "cover 1 0\n",
+    "label 0 0\n",
+    "label 1 60000\n",
+    "plan\n",
+    "fly 0 1\n",
+    "fly 1 0\n",
+    "claim optimal 240\n",
+];
+
+// A run over these tables and a certificate of these parts, where these reads fail.
+fn run_cert(
+    alloc: Global,
+    tables: Typed<'_>,
+    cert: &[&str],
+    reads: &[u64],
+    puts: &[u64],
+) -> Result<Seen, Fail> {
+    let typed = Typed {
+        judged: cert,
+        ..tables
+    };
+    run_failing(alloc, &CERT_WORDS, files_of(alloc, typed)?, reads, puts)
+}
+
+// Tables, the parts of a certificate, and what is printed of it.
+type Case<'a> = (Typed<'a>, &'a [&'a str], &'a str);
+
+fn each_is_judged_so(rt: &impl Abort, alloc: Global, cases: &[Case<'_>]) -> Result<(), Fail> {
+    for (tables, cert, printed) in cases {
+        let seen = run_cert(alloc, *tables, cert, &[], &[])?;
+        let status = if printed.starts_with("yes ") { 0 } else { 1 };
+        assert!(rt; seen.is(status, printed), "{printed}");
+    }
+    Ok(())
+}
+
+// The certificate with some of its lines replaced: from this line on so many by these.
+#[test]
+fn damage_is_found_at_its_line(rt: HostRuntime) -> Result<(), Fail> {
+    for (first, count, new, printed) in [
+        (1, 0, "", "yes optimal 240\n"),
+        (7, 1, "", "no 5 OpenCover\n"),
+        (5, 1, "cover 0 0\n", "no 5 OpenCover\n"),
+        (14, 1, "", "no 14 Unfinished\n"),
+        (14, 1, "claim optimal 239\n", "no 14 BadPlan\n"),
+        (14, 1, "claim infeasible\n", "no 14 BadPlan\n"),
+        (12, 2, "fly 0 0\nfly 1 1\n", "no 14 BadPlan\n"),
+        (4, 1, "dual 1 179999\n", "yes optimal 240\n"),
+        (4, 1, "dual 1 179000\n", "no 14 WeakBound\n"),
+        (4, 1, "dual 1 4000001001\n", "no 4 OutOfBox\n"),
+        (4, 1, "dual 1 0180000\n", "no 4 BadLine\n"),
+        (8, 1, "cover 0 0\n", "no 8 OutOfPlace\n"),
+        (15, 0, "claim optimal 240\n", "no 15 OutOfPlace\n"),
+        (15, 0, "x", "no 15 Unfinished\n"),
+        (14, 1, "claim limit 100 240\n", "yes limit 100 240\n"),
+        (14, 1, "claim optimal 240", "no 14 Unfinished\n"),
+        (
+            2,
+            9,
+            "split fly 0 0\nbound\ndual 1 240000\ncover 0 60000\nlabel 0 60000\ncover 1 0\nlabel 1 0\n",
+            "no 9 Unfinished\n",
+        ),
+    ] {
+        let cert = changed(rt.alloc(), first, count, new)?;
+        each_is_judged_so(&rt, rt.alloc(), &[(SAME_TIME, &cert, printed)])?;
+    }
+    Ok(())
+}
+
+// The lines with these in place of so many from this one on.
+fn changed<'a>(
+    alloc: Global,
+    first: usize,
+    count: usize,
+    new: &'a str,
+) -> Result<Vec<&'a str>, Fail> {
+    let (mut lines, mut number) = (Vec::new(alloc), 0usize);
+    let behind = first.saturating_add(count);
+    for line in &LEAST {
+        number = number.saturating_add(1);
+        if number == first {
+            lines.push(new)?;
+        }
+        if number < first || number >= behind {
+            lines.push(*line)?;
+        }
+    }
+    if first > LEAST.len() {
+        lines.push(new)?;
+    }
+    Ok(lines)
+}
+
+// Steps, holes, stuck leaves and bounds, on tables with no legal plan and on those of the limit.
+#[test]
+fn leaves_and_steps_are_judged(rt: HostRuntime) -> Result<(), Fail> {
+    each_is_judged_so(
+        &rt,
+        rt.alloc(),
+        &[
+            (
+                TOO_EARLY,
+                &["tailcert 1 2 1 0\nbar 0 1\nhole 1\nclaim infeasible\n"],
+                "yes infeasible\n",
+            ),
+            (
+                TOO_EARLY,
+                &["tailcert 1 2 1 0\nbar 0 1\nmust 0 0\nhole 1\nclaim infeasible\n"],
+                "yes infeasible\n",
+            ),
+            (
+                TOO_EARLY,
+                &["tailcert 1 2 1 0\nbar 0 0\nhole 1\nclaim infeasible\n"],
+                "no 2 NotFollowing\n",
+            ),
+            (
+                TOO_EARLY,
+                &["tailcert 1 2 1 0\nbar 0 1\nbar 0 1\nclaim infeasible\n"],
+                "no 3 KnownFact\n",
+            ),
+            (
+                TOO_EARLY,
+                &["tailcert 1 2 1 0\nbar 0 1\nhole 0\nclaim infeasible\n"],
+                "no 3 NotAlive\n",
+            ),
+            (
+                TOO_EARLY,
+                &[
+                    "tailcert 1 2 1 0\nsplit fly 0 1\nstuck 0\nlabel 0 60000\nhole 1\nclaim infeasible\n",
+                ],
+                "yes infeasible\n",
+            ),
+            (
+                TOO_EARLY,
+                &[
+                    "tailcert 1 2 1 0\nsplit fly 0 1\nstuck 0\nlabel 0 60001\nhole 1\nclaim infeasible\n",
+                ],
+                "no 3 OpenCover\n",
+            ),
+            (
+                NO_AIRCRAFT,
+                &["tailcert 1 1 0 0\nhole 0\nclaim infeasible\n"],
+                "yes infeasible\n",
+            ),
+            (
+                SAME_TIME,
+                &[
+                    "tailcert 1 2 2 0\nbound\ncover 0 0\nlabel 0 60000\nlabel 1 120000\n",
+                    "cover 1 0\nlabel 0 120000\nlabel 1 240000\nclaim limit 0 -\n",
+                ],
+                "yes limit 0 -\n",
+            ),
+            (SAME_TIME, &["claim infeasible\n"], "no 1 Unfinished\n"),
+            (SAME_TIME, &[], "no 1 Unfinished\n"),
+        ],
+    )
+}
+
+// Each file is read in two calls, the certificate's last. Where one fails nothing is printed, and where the put fails neither.
+#[test]
+fn faults_end_a_run(rt: HostRuntime) -> Result<(), Fail> {
+    for call in 1..9 {
+        let seen = run_cert(rt.alloc(), SAME_TIME, &LEAST, &[call], &[])?;
+        assert!(rt; seen.is(5, ""), "{call}");
+    }
+    let seen = run_cert(rt.alloc(), SAME_TIME, &LEAST, &[9], &[2])?;
+    assert!(rt; seen.is(0, "yes optimal 240\n"));
+    for cert in [LEAST.as_slice(), &["x\n"]] {
+        let seen = run_cert(rt.alloc(), SAME_TIME, cert, &[], &[1])?;
+        assert!(rt; seen.is(6, ""));
+    }
+    Ok(())
+}
+
+// A certificate is read only where the tables are a book: one that isn't there is not missed where the fleet is refused.
+#[test]
+fn a_certificate_is_read_last(rt: HostRuntime) -> Result<(), Fail> {
+    let words = ["tailcheck", "t", "f", "r", "--cert", "none"];
+    for (fleet, status, printed) in [
+        (SAME_TIME.fleet, 5, ""),
+        ([FLEET, "A1,P,ARN\n"].as_slice(), 3, "refused 4 fleet 2\n"),
+    ] {
+        let typed = Typed { fleet, ..SAME_TIME };
+        let files = files_of(rt.alloc(), typed)?;
+        let seen = run_failing(rt.alloc(), &words, files, &[], &[])?;
+        assert!(rt; seen.is(status, printed), "{printed}");
+    }
+    Ok(())
+}

@@ -1,0 +1,38 @@
+use Rattle.std.proofs.Common.{◌≡◌, ◌∙◌, ℕ, false, List, [], Result, Ok, IfOk, inr, refl, ap, subst}
+use Rattle.std.specs.Prelude.{unwrap_or}
+use Rattle.tail_book.specs.Truth.{IsTrueOutcome}
+use Rattle.tail_book.specs.declared.outcome.Outcome.{Outcome}
+use Rattle.tail_book.specs.inside.CostTable.{costs_of}
+use Rattle.tail_outside.specs.inside.OverFile.{shown_over}
+use Rattle.branch_tree.specs.SearchTree.{IsSearchTree, SearchTree}
+use Rattle.branch_tree.specs.declared.stop.Stop.{Stop}
+use Rattle.certified_search.specs.Written.{IsCertificateOf, LeavesText}
+use Rattle.tailplan.proofs.Holding.{certificate_front, certificate_held, held_by}
+use Rattle.tailplan.proofs.planning.certified.Goals as goal
+
+-- the file holds the certificate of the outcome
+pub returns-in-Ok-found-clause-answer : goal.returns-in-Ok-found-clause-answer
+returns-in-Ok-found-clause-answer g c =
+    let book = c.args.book in let outcome = c.in-Ok-found.outcome in let run = c.certified_search-found in
+    let truth = subst (λ (found : Result Outcome Stop). IfOk found (IsTrueOutcome book)) c.in-Ok-found.is run.ensures.truth in
+    let tree = subst (λ (found : Result Outcome Stop). IfOk found (λ o. (tree : SearchTree) × IsSearchTree (costs_of book) book c.args.limit o tree)) c.in-Ok-found.is run.ensures.tree in
+    let old = g.F.Files.shows c.new-sink.result.files in let new = g.F.Files.shows run.result.sink.files in
+    let leaves = subst (λ (found : Result Outcome Stop). IfOk found (λ o. LeavesText (shown_over old c.new-sink.result.name.now) (shown_over new run.result.sink.name.now) (IsCertificateOf book c.args.limit o)))
+    c.in-Ok-found.is run.ensures.written in
+    let held = held_by (IsCertificateOf book c.args.limit outcome) c.args.name.now c.new-sink.result.name.now run.result.sink.name.now
+    (g.F.Files.shows c.begin.new.self) old new (g.F.Files.shows c.into_files-files.result)
+    (ap (λ name. name.now) c.new-sink.ensures.name) (ap (λ name. name.now) run.ensures.beside.0) (ap (λ files. g.F.Files.shows files) c.new-sink.ensures.files)
+    (ap (λ files. g.F.Files.shows files) c.into_files-files.ensures) c.in-Ok.ensures.empty run.ensures.beside.1 leaves in
+    (refl, truth, tree, certificate_held book c.args.limit outcome c.args.name.now (g.F.Files.shows c.into_files-files.result) held)
+
+pub returns-in-Ok-found-clause-left : goal.returns-in-Ok-found-clause-left
+returns-in-Ok-found-clause-left g c = λ alive.
+    let book = c.args.book in let outcome = c.in-Ok-found.outcome in let run = c.certified_search-found in
+    let old = g.F.Files.shows c.new-sink.result.files in let new = g.F.Files.shows run.result.sink.files in
+    let leaves = subst (λ (found : Result Outcome Stop). IfOk found (λ o. LeavesText (shown_over old c.new-sink.result.name.now) (shown_over new run.result.sink.name.now) (IsCertificateOf book c.args.limit o)))
+    c.in-Ok-found.is run.ensures.written in
+    let held = held_by (IsCertificateOf book c.args.limit outcome) c.args.name.now c.new-sink.result.name.now run.result.sink.name.now
+    (g.F.Files.shows c.begin.new.self) old new (g.F.Files.shows c.into_files-files.result)
+    (ap (λ name. name.now) c.new-sink.ensures.name) (ap (λ name. name.now) run.ensures.beside.0) (ap (λ files. g.F.Files.shows files) c.new-sink.ensures.files)
+    (ap (λ files. g.F.Files.shows files) c.into_files-files.ensures) c.in-Ok.ensures.empty run.ensures.beside.1 leaves in
+    inr (certificate_front book c.args.limit outcome (unwrap_or ((g.F.Files.shows c.into_files-files.result).holds c.args.name.now) []) (held alive))

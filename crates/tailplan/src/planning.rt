@@ -1,0 +1,127 @@
+//! The planning of a book: the search, and its certificate where one is asked for.
+
+ghost use Rattle.std.specs.Prelude.{◌≡◌, IfOk, IfSome, IsErr, IsTrue, None, Some, option_map};
+ghost use Rattle.tail_book.specs.inside.CostTable.{costs_of};
+ghost use Rattle.tail_outside.specs.Outside.{OnlyRead, HasRisen};
+ghost use Rattle.tail_outside.specs.Shown.{FilesShown};
+ghost use Rattle.plan_report.specs.inside.Report.{HasPlanFor};
+ghost use Rattle.run_frame.specs.inside.Answer.{IsAnswerTo, IsPrintable as IsPrintableBy};
+ghost use Rattle.run_frame.specs.TableFiles.{AreGiven};
+ghost use Rattle.tailplan.specs.Kept.{OnlyCertificate};
+ghost use Rattle.tailplan.specs.inside.Ending.{IsPlanned, LeavesPlanned, NeverRefused};
+
+use crate::answer::Solved;
+use crate::answered::{Answered, Unwritten};
+use branch_marks::NoLog;
+use branch_tree::{Limit, Stop, search};
+use certified_search::{Certified, certified_search};
+use plan_report::laws::true_outcomes_can_be_written;
+use run_frame::Answer;
+use std::alloc::Global;
+use tail_book::laws::{every_book_is_sound, own_costs_are_for_book, own_costs_keep_outcomes};
+use tail_book::{Book, CostTable};
+use tail_outside::{Fault, FileSink, Files};
+
+/// Plans a book. The certificate goes to the file of this name, which is made empty first.
+pub fn planned<F: Files>(
+    alloc: Global,
+    book: Book,
+    limit: Limit,
+    cert: Option<&str>,
+    files: F,
+) -> Answered<F>
+    requires { IfSome (option_map (λ s. s.now) cert) (λ name. IsTrue ((F.shows files).lets_write name)) }
+    ensures answer { IfOk result.answer (IsAnswerTo NeverRefused (IsPlanned (F.shows result.files)) (record { book = book; limit = limit; cert = option_map (λ s. s.now) cert.entry })) }
+    ensures printable { IfOk result.answer (IsPrintableBy (λ solved. HasPlanFor solved.book solved.outcome)) }
+    ensures left { LeavesPlanned (record { book = book; limit = limit; cert = option_map (λ s. s.now) cert.entry }) (F.shows files) (F.shows result.files) }
+    ensures others { OnlyCertificate (option_map (λ s. s.now) cert.entry) (F.shows files) (F.shows result.files) }
+    ensures cause { IsErr result.answer → AreGiven (option_map (λ s. s.now) cert.entry) × HasRisen (F.shows files).write_faults (F.shows result.files).write_faults }
+    ensures same { option_map (λ s. s.now) cert.entry ≡ None → OnlyRead (F.shows files) (F.shows result.files) }
+{
+    let table = match CostTable::of(alloc, &book) {
+        Ok(table) => table,
+        Err(_) => {
+            return Answered {
+                answer: Ok(Answer::Memory),
+                files,
+            };
+        }
+    };
+    match cert {
+        None => Answered {
+            answer: Ok(searched(alloc, book, &table, limit)),
+            files,
+        },
+        Some(name) => certified(alloc, book, &table, limit, name, files),
+    }
+}
+
+// Searches without a certificate.
+fn searched(alloc: Global, book: Book, table: &CostTable, limit: Limit) -> Answer<Solved>
+    requires { table.now ≡ costs_of book }
+    ensures answer { (later : FilesShown) → IsAnswerTo NeverRefused (IsPlanned later) (record { book = book; limit = limit; cert = None }) result }
+    ensures printable { IsPrintableBy (λ solved. HasPlanFor solved.book solved.outcome) result }
+{
+    every_book_is_sound(&book);
+    true_outcomes_can_be_written();
+    own_costs_are_for_book();
+    own_costs_keep_outcomes();
+    match search(alloc, &book, table, limit, &mut NoLog) {
+        Ok(outcome) => Answer::Found(Solved { book, outcome }),
+        Err(_) => Answer::Memory,
+    }
+}
+
+// Searches, and writes the certificate to the file of this name.
+fn certified<F: Files>(
+    alloc: Global,
+    book: Book,
+    table: &CostTable,
+    limit: Limit,
+    name: &str,
+    files: F,
+) -> Answered<F>
+    requires lets { IsTrue ((F.shows files).lets_write name.now) }
+    requires own { table.now ≡ costs_of book }
+    ensures answer { IfOk result.answer (IsAnswerTo NeverRefused (IsPlanned (F.shows result.files)) (record { book = book; limit = limit; cert = Some name.now })) }
+    ensures printable { IfOk result.answer (IsPrintableBy (λ solved. HasPlanFor solved.book solved.outcome)) }
+    ensures left { LeavesPlanned (record { book = book; limit = limit; cert = Some name.now }) (F.shows files) (F.shows result.files) }
+    ensures others { OnlyCertificate (Some name.now) (F.shows files) (F.shows result.files) }
+    ensures cause { IsErr result.answer → HasRisen (F.shows files).write_faults (F.shows result.files).write_faults }
+{
+    every_book_is_sound(&book);
+    true_outcomes_can_be_written();
+    let mut files = files;
+    match files.begin(name) {
+        Ok(()) => {}
+        Err(Fault::Failed) => {
+            return Answered {
+                answer: Err(Unwritten),
+                files,
+            };
+        }
+        Err(Fault::Memory) => {
+            return Answered {
+                answer: Ok(Answer::Memory),
+                files,
+            };
+        }
+    }
+    let sink = FileSink::new(files, name);
+    let Certified { found, sink } = certified_search(alloc, &book, table, limit, sink);
+    let files = sink.into_files();
+    match found {
+        Ok(outcome) => Answered {
+            answer: Ok(Answer::Found(Solved { book, outcome })),
+            files,
+        },
+        Err(Stop::Log) => Answered {
+            answer: Err(Unwritten),
+            files,
+        },
+        Err(Stop::Memory) => Answered {
+            answer: Ok(Answer::Memory),
+            files,
+        },
+    }
+}
