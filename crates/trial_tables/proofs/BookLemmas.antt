@@ -1,8 +1,6 @@
 -- The names in a trial's tables are all found, and so the three texts are a book.
-use Rattle.std.proofs.Common.{◌≡◌, ◌∙◌, ◌+◌, ◌*◌, ◌%◌, ◌<◌, ◌≤◌, ◌==◌, ℕ, zero, suc, Bool, true, false, if◌then◌else◌, List, [], ◌∷◌, ◌++◌, Some, Result, Ok, map, length, All, arith, refl, sym, ap}
+use Rattle.std.proofs.Common.{◌≡◌, ◌+◌, ◌%◌, ◌<◌, ◌==◌, ℕ, zero, suc, Bool, true, false, if◌then◌else◌, List, [], ◌∷◌, ◌++◌, Some, Ok, map, All, arith, refl}
 use Rattle.std.specs.Prelude.{codes}
-use Rattle.std.specs.List.{list_any}
-use Rattle.std.specs.Str.{bytes_eq}
 use Rattle.std.proofs.lemmas.List.Elements.{All-head, All-tail}
 use Rattle.tail_text.specs.declared.refusal.Table.TheVariants.{Fleet, Timetable}
 use Rattle.book_maker.specs.ActivityFound.{activity_in}
@@ -17,7 +15,7 @@ use Rattle.trial_tables.specs.declared.flight.Flight.{Flight}
 use Rattle.trial_tables.specs.Flights.{airports_from, all_flights, first_airports}
 use Rattle.trial_tables.specs.Rows.{aircraft_name, airport_name, type_name}
 use Rattle.trial_tables.specs.Trial.{fleet_text, rules_text, timetable_text}
-use Rattle.trial_tables.specs.inside.Ids.{aircraft_names, all_ids_from, are_new, id_of}
+use Rattle.trial_tables.specs.inside.Ids.{aircraft_names, are_new, id_of}
 use Rattle.trial_tables.specs.inside.RawTrial.{raw_flight, raw_rules, raw_tail, raw_tails, type_names}
 use Rattle.trial_tables.specs.inside.TrialBook.{activity_made, book_made, kind_made, rules_made, tail_made, tails_made, types_made}
 use Rattle.trial_tables.proofs.MadeLemmas.{airports-below, airports-many, all-ids, all-made, all-many}

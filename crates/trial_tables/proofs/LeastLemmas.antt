@@ -2,7 +2,7 @@
 --
 -- Whoever flies a flight pays at least what it cost the aircraft for which it was made: a minute costs 1 at least, and
 -- 2 where type `Q` is needed. Each legal plan flies every flight once, so its cost is at least the sum of these.
-use Rattle.std.proofs.Common.{◌≡◌, ◌≢◌, ◌∙◌, ◌+◌, ◌*◌, ◌-◌, ◌%◌, ◌<◌, ◌≤◌, ◌==◌, ◌&&◌, ◌||◌, ℕ, zero, suc, ℤ, pos, ◌+ℤ◌, ◌-ℤ◌, Bool, true, false, if◌then◌else◌, List, [], ◌∷◌, ◌++◌, map, length, get_or, All, AllPairs, Contains, IsPermutation, slice_index_or, sum_by, unsigned_abs, arith, refl, sym, ap, subst}
+use Rattle.std.proofs.Common.{◌≡◌, ◌∙◌, ◌+◌, ◌*◌, ◌-◌, ◌%◌, ◌<◌, ◌≤◌, ◌==◌, ℕ, suc, ℤ, pos, ◌-ℤ◌, Bool, true, false, if◌then◌else◌, List, [], ◌∷◌, map, length, get_or, All, Contains, IsPermutation, slice_index_or, sum_by, arith, refl, sym, subst}
 use Rattle.std.proofs.lemmas.Int.{ints}
 use Rattle.std.proofs.lemmas.List.{get_or-map, length-map}
 use Rattle.std.proofs.lemmas.List.Elements.{All-head, All-tail}
@@ -20,7 +20,7 @@ use Rattle.tail_book.specs.Numbers.{is_empty}
 use Rattle.tail_book.specs.Plan.{IsLegalPlan, route_of}
 use Rattle.tail_book.specs.Route.{IsLegalFrom, IsLegalRoute}
 use Rattle.tail_book.specs.inside.Partition.{all_flown}
-use Rattle.tail_book.specs.inside.Sums.{sum_below, total}
+use Rattle.tail_book.specs.inside.Sums.{total}
 use Rattle.tail_book.proofs.Partition.{plan_parts}
 use Rattle.tail_book.proofs.Sums.{total_of_partition}
 use Rattle.trial_tables.specs.declared.flight.Flight.{Flight}

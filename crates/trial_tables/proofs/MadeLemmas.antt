@@ -2,11 +2,10 @@
 --
 -- A stop takes at most 134 minutes, or 734 before flights 5 and 10, and a flight at most 179: so the last one lands
 -- within the first five days.
-use Rattle.std.proofs.Common.{◌≡◌, ◌∙◌, ◌+◌, ◌*◌, ◌-◌, ◌<◌, ◌≤◌, ◌==◌, ◌||◌, ◌≢◌, ℕ, zero, suc, Bool, true, false, if◌then◌else◌, List, [], ◌∷◌, ◌++◌, map, length, All, arith, length-append, refl, sym, ap}
+use Rattle.std.proofs.Common.{◌≡◌, ◌∙◌, ◌+◌, ◌*◌, ◌<◌, ◌≤◌, ◌==◌, ◌≢◌, ℕ, zero, suc, Bool, List, ◌∷◌, map, length, All, arith, length-append, refl, ap}
 use Rattle.std.proofs.lemmas.Bool.Decides.{nat_tests}
 use Rattle.std.proofs.lemmas.List.{map-append}
 use Rattle.std.proofs.lemmas.List.Elements.{All-append, All-cons, All-nil}
-use Rattle.trial_tables.specs.declared.flight.Flight.{Flight}
 use Rattle.trial_tables.specs.Draws.{drawn, next}
 use Rattle.trial_tables.specs.Flights.{airports_from, all_flights_from, behind, first_airport, flight_of, flights_from, flights_of, stop_before, time_aloft}
 use Rattle.trial_tables.specs.inside.Ids.{all_ids_from, id_of, ids_from}

@@ -1,5 +1,5 @@
 -- What each aircraft was made to fly is a legal route, all of them a plan, and they cost what the making says.
-use Rattle.std.proofs.Common.{◌≡◌, ◌≢◌, ◌∙◌, ◌+◌, ◌*◌, ◌<◌, ◌≤◌, ℕ, zero, suc, ℤ, pos, List, [], ◌∷◌, ◌++◌, map, length, get_or, All, AllPairs, Contains, IsPermutation, slice_index_or, nat_eq, count_by, sum_by, arith, refl, sym, ap, subst}
+use Rattle.std.proofs.Common.{◌≡◌, ◌≢◌, ◌∙◌, ◌+◌, ◌<◌, ◌≤◌, ℕ, zero, suc, ℤ, pos, List, [], ◌∷◌, ◌++◌, map, length, get_or, All, AllPairs, Contains, IsPermutation, slice_index_or, sum_by, arith, refl, sym, ap, subst}
 use Rattle.std.specs.List.{flat_map}
 use Rattle.std.proofs.lemmas.List.{get_or-map, length-map, map-append}
 use Rattle.std.proofs.lemmas.List.Elements.{All-cons, All-head, All-nil, All-tail}
@@ -24,7 +24,7 @@ use Rattle.trial_tables.specs.inside.Least.{least_cost}
 use Rattle.trial_tables.proofs.LeastLemmas.{each-made, least-sum, plan-least, same-sum}
 use Rattle.trial_tables.proofs.MadeLemmas.{airport-below, all-made, airports-many, all-ids}
 use Rattle.trial_tables.proofs.NewNames.{ids-new, names-differ}
-use Rattle.trial_tables.proofs.PlaceLemmas.{IsFound, found, ids, place_of, places-once, places_in}
+use Rattle.trial_tables.proofs.PlaceLemmas.{found, ids, place_of, places-once, places_in}
 use Rattle.trial_tables.proofs.RouteLemmas.{IsAt, costs-from, legal-from}
 
 -- the state behind the draws of so many aircraft

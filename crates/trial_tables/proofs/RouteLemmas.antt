@@ -3,27 +3,27 @@
 -- Each flight starts where the one before it ends, and at least 45 minutes later, while a turn takes 30. No flight is
 -- longer than 179 minutes, and the stops before flights 5 and 10 clear the minutes flown, so that these are at most five
 -- times 179 of 900; and fifteen landings are fewer than twenty.
-use Rattle.std.proofs.Common.{◌≡◌, ◌∙◌, ◌+◌, ◌*◌, ◌-◌, ◌%◌, ◌<◌, ◌≤◌, ◌==◌, ◌&&◌, ◌||◌, ◌≢◌, ◌⊎◌, inl, inr, ℕ, zero, suc, ℤ, pos, ◌+ℤ◌, ◌-ℤ◌, ◌≤ℤ◌, Bool, true, false, not, if◌then◌else◌, cond, List, [], ◌∷◌, map, length, All, IsTrue, slice_index_or, nat_lt, int_lt, sum_by, unsigned_abs, arith, refl, sym, subst, ap}
+use Rattle.std.proofs.Common.{◌≡◌, ◌∙◌, ◌+◌, ◌*◌, ◌-◌, ◌%◌, ◌<◌, ◌≤◌, ◌==◌, ℕ, zero, suc, ℤ, pos, ◌+ℤ◌, ◌-ℤ◌, ◌≤ℤ◌, Bool, true, false, not, if◌then◌else◌, List, [], ◌∷◌, map, length, All, slice_index_or, nat_lt, sum_by, arith, refl, sym, subst, ap}
 use Rattle.std.proofs.lemmas.Bool.Decides.{nat_tests}
 use Rattle.std.proofs.lemmas.Int.{ints}
 use Rattle.std.proofs.lemmas.List.Sums.{sum_by-cons}
 use Rattle.std.proofs.lemmas.List.Elements.{All-head, All-tail}
-use Rattle.tail_book.specs.Seen.{ActivitySeen, BookSeen, TailSeen}
+use Rattle.tail_book.specs.Seen.{ActivitySeen, TailSeen}
 use Rattle.tail_book.specs.declared.place.Place.{Place}
 use Rattle.tail_book.specs.declared.place.Place.TheVariants.{After, Carry}
-use Rattle.tail_book.specs.Numbers.{contains, int_le}
-use Rattle.tail_book.specs.Lookup.{kind_of, no_activity, no_tail, port_turn, type_rate, type_turn}
+use Rattle.tail_book.specs.Numbers.{contains}
+use Rattle.tail_book.specs.Lookup.{no_activity, no_tail, port_turn, type_rate, type_turn}
 use Rattle.tail_book.specs.Allowed.{IsAllowed}
-use Rattle.tail_book.specs.Link.{IsAllowedAt, IsLink, free_from, gap, port, turn_time}
-use Rattle.tail_book.specs.Counters.{WithinLimits, flown, is_cleared, step}
+use Rattle.tail_book.specs.Link.{IsAllowedAt, IsLink, free_from, port, turn_time}
+use Rattle.tail_book.specs.Counters.{WithinLimits, step}
 use Rattle.tail_book.specs.Curfew.{covers_type}
 use Rattle.tail_book.specs.Route.{IsLegalFrom}
 use Rattle.tail_book.specs.Cost.{activity_cost, connection_cost, cost_from}
 use Rattle.trial_tables.specs.declared.flight.Flight.{Flight}
 use Rattle.trial_tables.specs.Draws.{drawn, next}
-use Rattle.trial_tables.specs.Flights.{flight_of, flights_from, next_airport, stop_before, time_aloft}
+use Rattle.trial_tables.specs.Flights.{flight_of, flights_from, stop_before, time_aloft}
 use Rattle.trial_tables.specs.Making.{flight_cost, rate_made}
-use Rattle.trial_tables.specs.inside.TrialBook.{activity_made, book_with, first_minute, hours_counter, kind_made, rules_made, tail_made, types_made}
+use Rattle.trial_tables.specs.inside.TrialBook.{activity_made, book_with, first_minute, kind_made, rules_made, tail_made, types_made}
 
 -- the flight is an activity of the book, with this number
 pub record IsAt (acts : List ActivitySeen) (n : ℕ) (f : Flight) : Type 0 where

@@ -1,16 +1,15 @@
 -- A table that is written line by line is read back, record by record.
-use Rattle.std.proofs.Common.{◌≡◌, ◌∙◌, ◌+◌, ◌*◌, ◌-◌, ◌<◌, ◌≤◌, ℕ, zero, suc, Bool, true, false, ◌&&◌, ◌==◌, List, [], ◌∷◌, ◌++◌, Result, Ok, map, length, All, IsAscii, length-append, arith, refl, sym, ap, nat_le, nat_lt}
+use Rattle.std.proofs.Common.{◌≡◌, ◌+◌, ◌*◌, ◌-◌, ◌<◌, ◌≤◌, ℕ, Bool, true, ◌==◌, List, [], ◌∷◌, ◌++◌, Result, Ok, map, length, All, length-append, arith, refl, nat_le, nat_lt}
 use Rattle.std.specs.List.{list_all}
 use Rattle.std.specs.Str.{is_utf8}
 use Rattle.std.proofs.lemmas.Bool.Decides.{nat_tests}
 use Rattle.std.proofs.lemmas.List.Elements.{All-append, All-cons, All-head, All-nil, All-tail}
 use Rattle.std.proofs.lemmas.Str.{IsUtf8-from_ascii, is_utf8-from_IsUtf8}
 use Rattle.std.proofs.lemmas.Str.Ascii.{IsAscii-from_all}
-use Rattle.csv.specs.Reading.{default_config, records_from, strip_bom}
-use Rattle.csv.specs.declared.parser.State.TheVariants as st
+use Rattle.csv.specs.Reading.{strip_bom}
 use Rattle.table_records.specs.Fields.{are_same}
 use Rattle.table_records.specs.Records.{records_of}
-use Rattle.table_records.specs.Table.{Layout, record_of, rows_from, rows_of, table_of}
+use Rattle.table_records.specs.Table.{Layout, rows_from, table_of}
 use Rattle.tail_text.specs.declared.refusal.Refusal.{Refusal}
 use Rattle.trial_tables.specs.Rows.{line_of, lines_of, rest_of_line}
 use Rattle.trial_tables.specs.inside.Plain.{are_plain, is_plain, is_plain_byte, is_plain_row}

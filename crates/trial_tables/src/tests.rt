@@ -1,11 +1,11 @@
 //! Trials as the readers and the audit see them.
 
-use crate::trial_tables;
+use crate::{SEED_LIMIT, Trial, trial_tables};
 use book_maker::read_book;
 use plan_audit::{Audit, audit};
 use std::alloc::Global;
 use std::test::Fail;
-use tail_book::{Memory, Name, RawLine, RawPlan};
+use tail_book::{Name, RawLine, RawPlan};
 use tail_text::name;
 
 // Seeds from 0 on, each with the minutes that its first types fly and twice those of the others. The sums come from
@@ -46,12 +46,16 @@ fn plan_made(alloc: Global) -> Result<RawPlan, Fail> {
     Ok(RawPlan { lines })
 }
 
+fn trial_of(alloc: Global, seed: u64) -> Result<Trial, Fail> {
+    if seed > SEED_LIMIT {
+        return Err(Fail::new("no such seed"));
+    }
+    Ok(trial_tables(alloc, seed)?)
+}
+
 // What the plan of the making costs in the book of a seed, where it is legal.
 fn audited(alloc: Global, seed: u64) -> Result<Option<u64>, Fail> {
-    if seed > 1_000_000 {
-        return Ok(None);
-    }
-    let trial = trial_tables(alloc, seed)?;
+    let trial = trial_of(alloc, seed)?;
     let Ok(book) = read_book(alloc, &trial.timetable, &trial.fleet, &trial.rules) else {
         return Err(Fail::new("no book"));
     };
@@ -73,7 +77,7 @@ fn plans_of_the_making_are_legal(rt: HostRuntime) -> Result<(), Fail> {
     Ok(())
 }
 
-// The first aircraft of the first seeds, and the first seed's first flight.
+// The first aircraft of the first two seeds.
 #[test]
 fn first_lines(rt: HostRuntime) -> Result<(), Fail> {
     let header = b"tail,type,at,ready,fixed,tags,avoid,carry\n".as_slice();
@@ -81,7 +85,7 @@ fn first_lines(rt: HostRuntime) -> Result<(), Fail> {
         (0, b"A0,P,T2,2025-03-03T00:00,0,,,\n".as_slice()),
         (1, b"A0,P,T4,2025-03-03T00:00,0,,,\n".as_slice()),
     ] {
-        let trial = trial_tables(rt.alloc(), seed)?;
+        let trial = trial_of(rt.alloc(), seed)?;
         assert!(rt; trial.fleet.starts_with(header), "{seed}");
         assert_eq!(rt; trial.fleet.get(42..72), Some(line), "{seed}");
     }

@@ -1,5 +1,5 @@
 -- What the records of a trial's tables say, with names in place of numbers.
-use Rattle.std.specs.Prelude.{ℕ, ◌+◌, ◌%◌, ◌==◌, ℤ, pos, if◌then◌else◌, true, List, [], ◌∷◌, None, codes}
+use Rattle.std.specs.Prelude.{ℕ, ◌+◌, ◌%◌, ◌==◌, pos, if◌then◌else◌, true, List, [], ◌∷◌, None, codes}
 use Rattle.tail_book.specs.declared.rules.CounterKind.TheVariants.{Landings, Minutes}
 use Rattle.timetable_reader.specs.Activity.{RawActivitySeen}
 use Rattle.fleet_rules.specs.RawRules.{RawRulesSeen}

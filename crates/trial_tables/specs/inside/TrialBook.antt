@@ -1,5 +1,5 @@
 -- The book of a trial: what its three tables stand for.
-use Rattle.std.specs.Prelude.{ℕ, ◌+◌, ◌%◌, ◌==◌, ℤ, pos, if◌then◌else◌, true, List, [], ◌∷◌, None, codes, map}
+use Rattle.std.specs.Prelude.{ℕ, ◌+◌, ◌%◌, ◌==◌, pos, if◌then◌else◌, true, List, [], ◌∷◌, None, codes, map}
 use Rattle.tail_book.specs.Seen.{ActivitySeen, AirportSeen, BookSeen, CounterSeen, RulesSeen, TailSeen}
 use Rattle.tail_book.specs.declared.rules.AircraftType.{AircraftType}
 use Rattle.tail_book.specs.declared.rules.CounterKind.TheVariants.{Landings, Minutes}
