@@ -17,4 +17,4 @@ pub use cost_table::costs;
 pub use duals::{are_duals, duals_of};
 pub use marking::marks;
 pub use rules::{bands, counters};
-pub use small_book::{book, plain_book, two_flights};
+pub use small_book::{book, plain_book, there_and_back};

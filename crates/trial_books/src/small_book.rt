@@ -28,7 +28,7 @@ pub fn plain_book(alloc: Global, rows: &[Row], kinds: &[u32], turn: i64) -> Resu
 }
 
 /// To airport 1 and back, an hour each and half an hour between, for aircraft of these types with this turn.
-pub fn two_flights(alloc: Global, kinds: &[u32], turn: i64) -> Result<Book, Fail> {
+pub fn there_and_back(alloc: Global, kinds: &[u32], turn: i64) -> Result<Book, Fail> {
     let rows = [flight((0, 1), (360, 420)), flight((1, 0), (450, 510))];
     plain_book(alloc, &rows, kinds, turn)
 }

@@ -11,7 +11,7 @@ use std::test::Fail;
 use tail_book::laws::every_book_is_sound;
 use tail_book::*;
 use trial_books::{
-    Row, are_duals, book, counters, duals_of, flight, marks, plain_book, two_flights,
+    Row, are_duals, book, counters, duals_of, flight, marks, plain_book, there_and_back,
 };
 
 mod chance;
@@ -72,7 +72,7 @@ fn side_by_side() -> [Row; 2] {
 // more, and the way back is dead on arrival, before the only carrier is given the way out.
 #[test]
 fn forced_steps_alone(rt: HostRuntime) -> Result<(), Fail> {
-    let soon = two_flights(rt.alloc(), &[0], 30)?;
+    let soon = there_and_back(rt.alloc(), &[0], 30)?;
     let table = CostTable::of(rt.alloc(), &soon)?;
     let answer = dived(rt.alloc(), &soon, &table, &[], &[0, 0])?;
     match &answer {
@@ -83,7 +83,7 @@ fn forced_steps_alone(rt: HostRuntime) -> Result<(), Fail> {
         }
         _ => assert!(rt; false, "{answer:?}"),
     }
-    let late = two_flights(rt.alloc(), &[0], 31)?;
+    let late = there_and_back(rt.alloc(), &[0], 31)?;
     let table = CostTable::of(rt.alloc(), &late)?;
     let answer = dived(rt.alloc(), &late, &table, &[], &[0, 0])?;
     let steps = [

@@ -17,7 +17,7 @@ use std::alloc::Global;
 use std::test::Fail;
 use tail_book::laws::every_book_is_sound;
 use tail_book::*;
-use trial_books::{are_duals, costs, duals_of, flight, marks, plain_book, two_flights};
+use trial_books::{are_duals, costs, duals_of, flight, marks, plain_book, there_and_back};
 
 mod chance;
 
@@ -218,7 +218,7 @@ fn is_flown(
 // other aircraft changes nothing for this one.
 #[test]
 fn two_flights(rt: HostRuntime) -> Result<(), Fail> {
-    let book = two_flights(rt.alloc(), &[0, 1], 30)?;
+    let book = there_and_back(rt.alloc(), &[0, 1], 30)?;
     for (fact, duals, weight, count) in [
         (Fact::Bar(1, 0), [0i64, 0], 0i64, 0usize),
         (Fact::Must(0, 1), [0, 0], 120_000, 2),
@@ -243,7 +243,7 @@ fn two_flights(rt: HostRuntime) -> Result<(), Fail> {
 // Two facts hold the aircraft to more than it would fly, or to what it cannot.
 #[test]
 fn two_facts(rt: HostRuntime) -> Result<(), Fail> {
-    let book = two_flights(rt.alloc(), &[0, 1], 30)?;
+    let book = there_and_back(rt.alloc(), &[0, 1], 30)?;
     for (must, other, want) in [
         (Fact::Must(0, 1), Fact::Bar(0, 0), None),
         (Fact::Must(0, 1), Fact::Cut(0, 1), None),

@@ -15,7 +15,7 @@ use route_search::{Found, RouteSearch};
 use std::alloc::Global;
 use std::test::Fail;
 use tail_book::*;
-use trial_books::{are_duals, costs, duals_of, marks, two_flights};
+use trial_books::{are_duals, costs, duals_of, marks, there_and_back};
 
 mod chance;
 
@@ -149,7 +149,7 @@ fn is_least(
 // more than it would fly.
 #[test]
 fn cuts_beside_the_least(rt: HostRuntime) -> Result<(), Fail> {
-    let book = two_flights(rt.alloc(), &[0, 1], 30)?;
+    let book = there_and_back(rt.alloc(), &[0, 1], 30)?;
     for (fact, duals, least, flown) in [
         (Fact::Bar(1, 0), [0i64, 0], 0i64, 0b00u32),
         (Fact::Must(0, 1), [0, 0], 120_000, 0b11),
@@ -174,7 +174,7 @@ fn is_stuck(alloc: Global, book: &Book, fact: Fact) -> Result<bool, Fail> {
 // An aircraft that has to fly what it may not, or that has nothing to come there, has no route within any cut.
 #[test]
 fn stuck_within_any_cut(rt: HostRuntime) -> Result<(), Fail> {
-    let book = two_flights(rt.alloc(), &[0, 1], 30)?;
+    let book = there_and_back(rt.alloc(), &[0, 1], 30)?;
     for fact in [Fact::Bar(0, 0), Fact::Cut(0, 1)] {
         let stuck = is_stuck(rt.alloc(), &book, fact)?;
         assert!(rt; stuck, "{fact:?}");
