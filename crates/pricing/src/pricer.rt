@@ -66,8 +66,7 @@ impl Pricer {
         })
     }
 
-    /// A pricer that goes link by link.
-    #[cfg(test)]
+    /// A pricer that goes link by link: what a waiting line would join is looked at one by one. It answers the same.
     pub fn without_lines(alloc: Global, book: &Book, table: &CostTable) -> Result<Pricer, Memory>
         requires { IsTableFor book.now table.now }
         ensures { IfOk result (IsPricerOf book.now table.now) }
