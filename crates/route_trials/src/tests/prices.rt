@@ -12,7 +12,7 @@ use super::twice;
 use branch_marks::{Fact, Marks};
 use connection_net::Net;
 use label_store::Store;
-use pricing::{Priced, price};
+use pricing::{Priced, Pricer, price};
 use std::alloc::Global;
 use std::test::Fail;
 use tail_book::laws::every_book_is_sound;
@@ -31,8 +31,8 @@ fn store(alloc: Global, book: &Book) -> Result<Store, Memory>
     Store::new(alloc, book.activities.len(), width)
 }
 
-// Prices an aircraft.
-fn priced_in(
+// Prices an aircraft with lines.
+fn priced_in_lines(
     alloc: Global,
     book: &Book,
     table: &CostTable,
@@ -52,6 +52,53 @@ fn priced_in(
     price(alloc, book, table, net, marks, duals, k, &mut store)
 }
 
+// Prices an aircraft link by link.
+fn priced_by_links(
+    alloc: Global,
+    book: &Book,
+    table: &CostTable,
+    net: &Net,
+    marks: &Marks,
+    duals: &Duals,
+    k: u32,
+) -> Result<Priced, Memory>
+    requires table { IsTableFor book.now table.now }
+    requires net { net.now ≡ net_of book.now }
+    requires marks { AreMarksOf book.now marks.now }
+    requires duals { AreDuals table.now book.now duals.now.values }
+    requires aircraft { k < aircraft book.now }
+    ensures { IfOk result (IsPriceOf table.now book.now marks.now.facts k duals.now.values) }
+{
+    let mut store = store(alloc, book)?;
+    let mut pricer = Pricer::without_lines(alloc, book, table)?;
+    pricer.price(book, table, net, marks, duals, k, &mut store)
+}
+
+// Prices an aircraft with lines or link by link.
+fn priced_in(
+    alloc: Global,
+    book: &Book,
+    table: &CostTable,
+    net: &Net,
+    marks: &Marks,
+    duals: &Duals,
+    k: u32,
+    lines: bool,
+) -> Result<Priced, Memory>
+    requires table { IsTableFor book.now table.now }
+    requires net { net.now ≡ net_of book.now }
+    requires marks { AreMarksOf book.now marks.now }
+    requires duals { AreDuals table.now book.now duals.now.values }
+    requires aircraft { k < aircraft book.now }
+    ensures { IfOk result (IsPriceOf table.now book.now marks.now.facts k duals.now.values) }
+{
+    if lines {
+        priced_in_lines(alloc, book, table, net, marks, duals, k)
+    } else {
+        priced_by_links(alloc, book, table, net, marks, duals, k)
+    }
+}
+
 // Prices an aircraft, if the book has it and the duals are in the box.
 fn priced_if(
     alloc: Global,
@@ -61,6 +108,7 @@ fn priced_if(
     marks: &Marks,
     duals: &Duals,
     k: u32,
+    lines: bool,
 ) -> Result<Option<Priced>, Memory>
     requires table { IsTableFor book.now table.now }
     requires net { net.now ≡ net_of book.now }
@@ -70,7 +118,7 @@ fn priced_if(
     if k as usize >= book.tails.len() || !are_duals(book, table, duals) {
         return Ok(None);
     }
-    match priced_in(alloc, book, table, net, marks, duals, k) {
+    match priced_in(alloc, book, table, net, marks, duals, k, lines) {
         Ok(answer) => Ok(Some(answer)),
         Err(error) => Err(error),
     }
@@ -85,6 +133,7 @@ fn priced_under(
     facts: &[Fact],
     duals: &[i64],
     k: u32,
+    lines: bool,
 ) -> Result<Option<Priced>, Fail>
     requires table { IsTableFor book.now table.now }
     requires net { net.now ≡ net_of book.now }
@@ -92,11 +141,27 @@ fn priced_under(
 {
     let marks = marks(alloc, book, facts)?;
     let duals = duals_of(alloc, duals)?;
-    let answer = priced_if(alloc, book, table, net, &marks, &duals, k)?;
+    let answer = priced_if(alloc, book, table, net, &marks, &duals, k, lines)?;
     Ok(answer)
 }
 
-// Prices an aircraft by the book's own costs; nothing where the book does not have it, or the duals are not in the box.
+// Prices an aircraft by the book's own costs, with lines or link by link; nothing where the book does not have it, or the
+// duals are not in the box.
+fn priced_by(
+    alloc: Global,
+    book: &Book,
+    facts: &[Fact],
+    duals: &[i64],
+    k: u32,
+    lines: bool,
+) -> Result<Option<Priced>, Fail>
+    ensures { IfOk result (λ answer. IsSome answer → k < aircraft book.now) }
+{
+    let table = costs(alloc, book)?;
+    let net = Net::new(alloc, book)?;
+    priced_under(alloc, book, &table, &net, facts, duals, k, lines)
+}
+
 fn priced(
     alloc: Global,
     book: &Book,
@@ -106,9 +171,15 @@ fn priced(
 ) -> Result<Option<Priced>, Fail>
     ensures { IfOk result (λ answer. IsSome answer → k < aircraft book.now) }
 {
-    let table = costs(alloc, book)?;
-    let net = Net::new(alloc, book)?;
-    priced_under(alloc, book, &table, &net, facts, duals, k)
+    priced_by(alloc, book, facts, duals, k, true)
+}
+
+// The weight of an answer; none where the aircraft is stuck.
+fn weight(answer: &Option<Priced>) -> Option<i64> {
+    match answer {
+        Some(Priced::Best { value, .. }) => Some(*value),
+        _ => None,
+    }
 }
 
 // Whether the answer is so many of the first two activities, in order.

@@ -1,6 +1,6 @@
 //! Pricing by chance: the answer is the least weight of all routes, and the route has it.
 
-use super::priced;
+use super::{priced, priced_by, weight};
 use crate::tests::questions::{Question, make_question};
 use crate::tests::weights::{Weights, weights_of};
 use pricing::Priced;
@@ -8,6 +8,31 @@ use std::alloc::Global;
 use std::process::Abort;
 use std::test::Fail;
 use tail_book::*;
+
+// What an aircraft weighs with lines or link by link.
+fn weight_by(alloc: Global, asked: &Question, k: u32, lines: bool) -> Result<Option<i64>, Fail> {
+    let answer = priced_by(alloc, &asked.book, &asked.facts, &asked.duals, k, lines)?;
+    Ok(weight(&answer))
+}
+
+// Whether lines and single links give an aircraft the same weight.
+fn are_alike(alloc: Global, asked: &Question, k: u32) -> Result<bool, Fail> {
+    let by_lines = weight_by(alloc, asked, k, true)?;
+    let by_links = weight_by(alloc, asked, k, false)?;
+    Ok(by_lines == by_links)
+}
+
+#[test]
+fn lines_weigh_as_single_links(rt: HostRuntime) -> Result<(), Fail> {
+    for seed in 300..400u64 {
+        let asked = make_question(rt.alloc(), seed)?;
+        for k in 0..2 {
+            let alike = are_alike(rt.alloc(), &asked, k)?;
+            assert!(rt; alike, "seed {seed}, aircraft {k}");
+        }
+    }
+    Ok(())
+}
 
 // How an aircraft's answer compares with all routes: it is not what they say, or it is and the aircraft is stuck, flies one
 // activity at most, or flies more.
