@@ -1,6 +1,6 @@
-//! Searches of small books: beside the enumeration, at each number of nodes, and told to logs that fail.
+//! Searches of small books: beside the enumeration, at each number of nodes, and told to logs that fail; and what the nodes
+//! of a search come to.
 
-ghost use Rattle.std.specs.Prelude.{IfOk};
 ghost use Rattle.tail_book.specs.inside.CostTable.{IsTableFor};
 
 mod beside;
@@ -8,15 +8,58 @@ mod branching;
 mod certificates;
 mod limits;
 mod logs;
+mod nodes;
 mod worked;
 
 use book_maker::read_book;
-use branch_marks::Event;
+use branch_marks::{Event, LogFail, Row, TreeLog};
 use plan_audit::audit_plan;
 use std::alloc::Global;
 use std::test::Fail;
-use tail_book::laws::own_costs_are_for_book;
 use tail_book::*;
+
+// A log that keeps so many events, and whose writes fail then.
+#[derive(Debug, Drop)]
+struct Failing {
+    room: usize,
+    events: Vec<Event>,
+    faults: u64,
+}
+
+impl TreeLog for Failing {
+    ghost use Rattle.std.specs.Prelude.{◌≡◌, ⊤, false};
+
+    ghost shows = { λ log. record { tells = λ told. log.events.items ≡ told; torn = λ _ _. ⊥; ceased = false; faults = log.faults } };
+
+    ghost beside = { λ _ _. ⊤ };
+
+    fn note(&mut self, event: &Event) -> Result<(), LogFail> {
+        if self.room == 0 {
+            self.faults = self.faults.saturating_add(1);
+            return Err(LogFail::Write);
+        }
+        match self.events.push(*event) {
+            Ok(()) => {
+                self.room -= 1;
+                Ok(())
+            }
+            Err(_) => Err(LogFail::Memory),
+        }
+    }
+
+    ghost beside_same = { λ _. tt };
+
+    ghost beside_chains = { λ _ _ _ _ _. tt };
+}
+
+// A label of a book without counters.
+fn label(at: u32, weight: i64) -> Event {
+    Event::Label {
+        at,
+        weight,
+        counters: Row::new(&[]),
+    }
+}
 
 // The book of the texts of a timetable, a fleet and rules.
 fn book_of(alloc: Global, texts: &[&str; 3]) -> Result<Book, Fail> {
@@ -30,14 +73,6 @@ fn book_of(alloc: Global, texts: &[&str; 3]) -> Result<Book, Fail> {
         Ok(book) => Ok(book),
         Err(_) => Err(Fail::new("no book")),
     }
-}
-
-// The book's own costs.
-fn costs(alloc: Global, book: &Book) -> Result<CostTable, Memory>
-    ensures { IfOk result (IsTableFor book.now) }
-{
-    own_costs_are_for_book();
-    CostTable::of(alloc, book)
 }
 
 // How many nodes these events tell.

@@ -4,7 +4,7 @@
 ghost use Rattle.tail_book.specs.inside.CostTable.{IsTableFor};
 
 use super::branching::BRANCHING;
-use super::{book_of, costs, costs_so, nodes_in};
+use super::{book_of, costs_so, nodes_in};
 use crate::tables_by_chance;
 use branch_marks::MemTree;
 use branch_tree::{Limit, search};
@@ -12,6 +12,7 @@ use dice::Dice;
 use std::alloc::Global;
 use std::test::Fail;
 use tail_book::*;
+use trial_books::costs;
 
 // What is known of the least cost at a limit: a number that it reaches, and what a plan costs if there is one. No plan reaches
 // the greatest number.

@@ -3,46 +3,13 @@
 ghost use Rattle.tail_book.specs.inside.CostTable.{IsTableFor};
 
 use super::branching::BRANCHING;
-use super::{book_of, costs};
-use branch_marks::{Event, LogFail, MemTree, TreeLog};
+use super::{Failing, book_of};
+use branch_marks::{Event, MemTree};
 use branch_tree::{Limit, Stop, search};
 use std::alloc::Global;
 use std::test::Fail;
 use tail_book::*;
-
-// A log that keeps so many events, and whose writes fail then.
-#[derive(Debug, Drop)]
-struct Failing {
-    room: usize,
-    events: Vec<Event>,
-    faults: u64,
-}
-
-impl TreeLog for Failing {
-    ghost use Rattle.std.specs.Prelude.{◌≡◌, ⊤, false};
-
-    ghost shows = { λ log. record { tells = λ told. log.events.items ≡ told; torn = λ _ _. ⊥; ceased = false; faults = log.faults } };
-
-    ghost beside = { λ _ _. ⊤ };
-
-    fn note(&mut self, event: &Event) -> Result<(), LogFail> {
-        if self.room == 0 {
-            self.faults = self.faults.saturating_add(1);
-            return Err(LogFail::Write);
-        }
-        match self.events.push(*event) {
-            Ok(()) => {
-                self.room -= 1;
-                Ok(())
-            }
-            Err(_) => Err(LogFail::Memory),
-        }
-    }
-
-    ghost beside_same = { λ _. tt };
-
-    ghost beside_chains = { λ _ _ _ _ _. tt };
-}
+use trial_books::costs;
 
 // Whether a search whose log fails behind so many events stops there, and told exactly those before.
 fn stops_behind(

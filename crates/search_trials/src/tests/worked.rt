@@ -1,11 +1,12 @@
 //! Searches of books that are known by hand, with all that they tell.
 
-use super::{book_of, costs};
-use branch_marks::{Event, MemTree, Row};
+use super::{book_of, label};
+use branch_marks::{Event, MemTree};
 use branch_tree::{Limit, search};
 use std::alloc::Global;
 use std::test::Fail;
 use tail_book::*;
+use trial_books::costs;
 
 const ONE_FLIGHT: &str = "id,kind,from,to,start,end,types,tags,tail,resets\n\
 F1,flight,ARN,OSL,2025-03-03T06:00,2025-03-03T07:00,,,,\n";
@@ -24,14 +25,6 @@ const RULES: &str = "[[type]]\nname = \"P\"\nrate = 1\nturn = 30\n\
 [[type]]\nname = \"Q\"\nrate = 2\nturn = 30\n\
 [[airport]]\nname = \"ARN\"\noffset = 60\nturn = 20\n\
 [[airport]]\nname = \"OSL\"\noffset = 60\nturn = 20\n";
-
-fn label(at: u32, weight: i64) -> Event {
-    Event::Label {
-        at,
-        weight,
-        counters: Row::new(&[]),
-    }
-}
 
 // Searches the flights under a limit, and tells the log.
 fn searched(

@@ -1,0 +1,193 @@
+//! The slow judge: all legal routes of an aircraft that fit its marks, each with its weight by the book's own costs.
+
+ghost use Rattle.std.specs.Prelude.{◌≡◌, ◌<◌, IfOk};
+ghost use Rattle.tail_book.specs.Lookup.{aircraft};
+ghost use Rattle.branch_marks.specs.inside.MarkTables.{AreMarksOf};
+ghost use Rattle.maint_counters.specs.inside.StepTable.{IsStepTableOf};
+
+use super::questions::Question;
+use branch_marks::{Fact, Marks};
+use maint_counters::{StepTable, is_legal_route};
+use std::alloc::Global;
+use std::process::Abort;
+use std::test::Fail;
+use tail_book::*;
+use trial_books::marks;
+
+/// The activities of a route as bits; none where their numbers do not rise.
+pub fn bits(route: &[u32]) -> Option<u32> {
+    let mut bits = 0u32;
+    for a in route {
+        if *a > 31 || bits >> *a > 0 {
+            return None;
+        }
+        bits |= 1 << *a;
+    }
+    Some(bits)
+}
+
+// What the first band that reaches so many minutes costs.
+fn waiting(book: &Book, minutes: i64) -> i64 {
+    for band in &book.rules.bands {
+        if minutes <= band.upto {
+            return i64::try_from(band.cost).unwrap_or(0);
+        }
+    }
+    0
+}
+
+// The rate of an aircraft's type: 1 for the first, and 2 for the second.
+fn rate(book: &Book, k: u32) -> i64 {
+    match book.tails.get(k as usize) {
+        Some(tail) => (tail.kind as i64).saturating_add(1),
+        None => 0,
+    }
+}
+
+// The minutes that are flown, by the aircraft's rate.
+fn flown(book: &Book, activity: &Activity, k: u32) -> i64 {
+    if activity.flight {
+        activity
+            .end
+            .saturating_sub(activity.start)
+            .saturating_mul(rate(book, k))
+    } else {
+        0
+    }
+}
+
+// What the minutes between an activity and the one before it cost.
+fn stop(book: &Book, activity: &Activity, free: Option<i64>) -> i64 {
+    match free {
+        Some(end) => waiting(book, activity.start.saturating_sub(end)),
+        None => 0,
+    }
+}
+
+// What a route of the book costs, less its duals, in thousandths: minutes flown by the aircraft's rate, and the stops.
+fn weight(book: &Book, duals: &[i64], k: u32, route: &[u32]) -> i64 {
+    let (mut weight, mut free) = (0i64, None);
+    for a in route {
+        let (Some(activity), Some(dual)) = (
+            book.activities.get(*a as usize),
+            duals.get(*a as usize),
+        ) else {
+            return i64::MAX;
+        };
+        let cost = flown(book, activity, k).saturating_add(stop(book, activity, free));
+        weight = weight
+            .saturating_add(cost.saturating_mul(1000))
+            .saturating_sub(*dual);
+        free = Some(activity.end);
+    }
+    weight
+}
+
+// Those of six activities whose bits a number has.
+fn route_of(alloc: Global, number: u32) -> Result<Vec<u32>, Memory> {
+    let mut route = Vec::new(alloc);
+    for a in 0..6u32 {
+        if number >> a & 1 == 1 {
+            route.push(a)?;
+        }
+    }
+    Ok(route)
+}
+
+/// The weight of each legal route that fits. A legal route's numbers rise, so that it is the set of them.
+#[derive(Drop)]
+pub struct Weights {
+    routes: Vec<(u32, i64)>,
+}
+
+/// All routes of at most six activities.
+pub fn weigh_all(
+    alloc: Global,
+    book: &Book,
+    marks: &Marks,
+    steps: &StepTable,
+    duals: &[i64],
+    k: u32,
+) -> Result<Weights, Fail>
+    requires marks { AreMarksOf book.now marks.now }
+    requires steps { IsStepTableOf book.now steps.now }
+    requires aircraft { k < aircraft book.now }
+    ensures { IfOk result (λ _. k < aircraft book.now) }
+{
+    let mut values = vec![in alloc; 0i64; book.rules.counters.len()]?;
+    let mut routes = Vec::new(alloc);
+    for number in 0..64u32 {
+        let route = route_of(alloc, number)?;
+        if is_legal_route(book, steps, k, &route, &mut values) && marks.fits(book, k, &route) {
+            routes.push((number, weight(book, duals, k, &route)))?;
+        }
+    }
+    Ok(Weights { routes })
+}
+
+fn lesser(least: Option<i64>, weight: i64) -> Option<i64> {
+    match least {
+        Some(known) => Some(weight.min(known)),
+        None => Some(weight),
+    }
+}
+
+impl Weights {
+    /// The least weight of those that have the activities of these bits, or of all for no bit.
+    pub fn least(&self, bits: u32) -> Option<i64> {
+        let mut least = None;
+        for (number, weight) in self.routes.as_slice() {
+            if *number & bits == bits {
+                least = lesser(least, *weight);
+            }
+        }
+        least
+    }
+
+    /// The weight of a route.
+    pub fn of(&self, route: &[u32]) -> Option<i64> {
+        let flown = bits(route)?;
+        for (number, weight) in self.routes.as_slice() {
+            if *number == flown {
+                return Some(*weight);
+            }
+        }
+        None
+    }
+
+    /// The routes of least weight, as the bits of their activities.
+    pub fn ties(&self, alloc: Global) -> Result<Vec<u32>, Memory> {
+        let (mut ties, least) = (Vec::new(alloc), self.least(0));
+        for (number, weight) in self.routes.as_slice() {
+            if least == Some(*weight) {
+                ties.push(*number)?;
+            }
+        }
+        Ok(ties)
+    }
+}
+
+// All weights of an aircraft of the book.
+fn weights_in(
+    rt: &impl Abort,
+    alloc: Global,
+    book: &Book,
+    facts: &[Fact],
+    duals: &[i64],
+    k: u32,
+) -> Result<Weights, Fail> {
+    assert!(rt; (k as usize) < book.tails.len());
+    let marks = marks(alloc, book, facts)?;
+    let steps = StepTable::of(alloc, book)?;
+    weigh_all(alloc, book, &marks, &steps, duals, k)
+}
+
+/// All weights of an aircraft of the question's book.
+pub fn weights_of(
+    rt: &impl Abort,
+    alloc: Global,
+    asked: &Question,
+    k: u32,
+) -> Result<Weights, Fail> {
+    weights_in(rt, alloc, &asked.book, &asked.facts, &asked.duals, k)
+}
