@@ -28,4 +28,4 @@ any_four program one two three four rest = refl
 plain_names : (program timetable fleet rules_file : List ℕ) (t f r : ℕ) → (t == 45) ≡ false → (f == 45) ≡ false → (r == 45) ≡ false
     → run_of (program ∷ (t ∷ timetable) ∷ (f ∷ fleet) ∷ (r ∷ rules_file) ∷ []) ≡ named (t ∷ timetable) (f ∷ fleet) (r ∷ rules_file)
 unfolding clap_on_literals run_of
-plain_names program timetable fleet rules_file t f r et ef er = simp (et, ef, er) refl
+plain_names program timetable fleet rules_file t f r et ef er = rw (et, et, ef, ef, er, er) refl
