@@ -1,25 +1,26 @@
 //! Certificates that are accepted, and certificates that fail, each at its line.
 
-use super::fixtures::{
-    CERT_WORDS, FLEET, ONE_AT_ARLANDA, RULES, Seen, THERE_AND_BACK, TIMETABLE, Typed, files_of,
-    run_failing,
-};
+use super::fixtures::{CERT_WORDS, run_failing};
 use std::alloc::Global;
 use std::process::Abort;
 use std::test::Fail;
+use trial_texts::{
+    DEAR_TYPE, FLEET, ONE_AT_ARLANDA, RULES, Seen, THERE, THERE_AND_BACK, TIMETABLE, Typed,
+    files_of,
+};
 
 // A quick flight and a slow one at the same time, a cheap aircraft and a dear one.
 const SAME_TIME: Typed<'_> = Typed {
     timetable: &[
         TIMETABLE,
-        "F1,flight,ARN,OSL,2025-03-03T06:00,2025-03-03T07:00,,,,\n",
+        THERE,
         "F2,flight,ARN,OSL,2025-03-03T06:00,2025-03-03T08:00,,,,\n",
     ],
     fleet: &[
         FLEET,
         "A1,P,ARN,2025-03-03T05:00,0,,,\nA2,Q,ARN,2025-03-03T05:00,0,,,\n",
     ],
-    rules: &[RULES, "[[type]]\nname = \"Q\"\nrate = 2\nturn = 30\n"],
+    rules: &[RULES, DEAR_TYPE],
     judged: &[],
 };
 
@@ -37,10 +38,7 @@ const TOO_EARLY: Typed<'_> = Typed {
 
 // A flight and no aircraft.
 const NO_AIRCRAFT: Typed<'_> = Typed {
-    timetable: &[
-        TIMETABLE,
-        "F1,flight,ARN,OSL,2025-03-03T06:00,2025-03-03T07:00,,,,\n",
-    ],
+    timetable: &[TIMETABLE, THERE],
     fleet: &[FLEET],
     rules: &[RULES],
     judged: &[],

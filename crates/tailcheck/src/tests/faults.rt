@@ -1,34 +1,15 @@
 //! Reads and writes that fail.
 
-use super::fixtures::{
-    FLEET, ONE_AT_ARLANDA, RULES, THERE_AND_BACK, TIMETABLE, Typed, WORDS, files_of, run_failing,
-};
+use super::fixtures::{WORDS, run_failing};
 use std::test::Fail;
-
-const GOOD: Typed<'_> = Typed {
-    timetable: &[TIMETABLE, THERE_AND_BACK],
-    fleet: &[FLEET, ONE_AT_ARLANDA],
-    rules: &[RULES],
-    judged: &["optimal 120\nA1: F1 F2\n"],
-};
-
-// A plan that breaks three rules: four lines are printed.
-const BROKEN: Typed<'_> = Typed {
-    judged: &["optimal 120\nA1: F1 F9 F1\n"],
-    ..GOOD
-};
-
-const REFUSED: Typed<'_> = Typed {
-    judged: &["infeasible\n"],
-    ..GOOD
-};
+use trial_texts::{BROKEN, LEGAL, NO_PLAN, files_of};
 
 // A write that fails ends the run with what was printed before it.
 #[test]
 fn a_failed_write_ends_a_run(rt: HostRuntime) -> Result<(), Fail> {
     for (typed, put, status, printed) in [
-        (GOOD, 1, 6, ""),
-        (GOOD, 2, 0, "legal 120\n"),
+        (LEGAL, 1, 6, ""),
+        (LEGAL, 2, 0, "legal 120\n"),
         (BROKEN, 1, 6, ""),
         (BROKEN, 2, 6, "broken 3\n"),
         (BROKEN, 3, 6, "broken 3\nunknown F9\n"),
@@ -39,14 +20,14 @@ fn a_failed_write_ends_a_run(rt: HostRuntime) -> Result<(), Fail> {
             1,
             "broken 3\nunknown F9\ntwice F1\nuncovered F2\n",
         ),
-        (REFUSED, 1, 6, ""),
-        (REFUSED, 2, 3, "refused 3 plan 1\n"),
+        (NO_PLAN, 1, 6, ""),
+        (NO_PLAN, 2, 3, "refused 3 plan 1\n"),
     ] {
         let files = files_of(rt.alloc(), typed)?;
         let seen = run_failing(rt.alloc(), &WORDS, files, &[], &[put])?;
         assert!(rt; seen.is(status, printed), "{put} {printed}");
     }
-    let files = files_of(rt.alloc(), GOOD)?;
+    let files = files_of(rt.alloc(), LEGAL)?;
     let seen = run_failing(rt.alloc(), &["tailcheck"], files, &[], &[1])?;
     assert!(rt; seen.is(6, ""));
     Ok(())
@@ -57,13 +38,13 @@ fn a_failed_write_ends_a_run(rt: HostRuntime) -> Result<(), Fail> {
 #[test]
 fn a_failed_read_ends_a_run(rt: HostRuntime) -> Result<(), Fail> {
     for call in 1..9 {
-        for typed in [GOOD, REFUSED] {
+        for typed in [LEGAL, NO_PLAN] {
             let files = files_of(rt.alloc(), typed)?;
             let seen = run_failing(rt.alloc(), &WORDS, files, &[call], &[])?;
             assert!(rt; seen.is(5, ""), "{call}");
         }
     }
-    let files = files_of(rt.alloc(), GOOD)?;
+    let files = files_of(rt.alloc(), LEGAL)?;
     let seen = run_failing(rt.alloc(), &WORDS, files, &[9], &[])?;
     assert!(rt; seen.is(0, "legal 120\n"));
     Ok(())
@@ -82,7 +63,7 @@ fn a_missing_file_ends_a_run(rt: HostRuntime) -> Result<(), Fail> {
         ("t", "f", "p", "none"),
     ] {
         let words = ["tailcheck", timetable, fleet, rules, "--plan", plan];
-        let files = files_of(rt.alloc(), GOOD)?;
+        let files = files_of(rt.alloc(), LEGAL)?;
         let seen = run_failing(rt.alloc(), &words, files, &[], &[])?;
         assert!(rt; seen.is(5, ""), "{timetable} {fleet} {rules} {plan}");
     }

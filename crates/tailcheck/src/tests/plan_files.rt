@@ -1,12 +1,13 @@
 //! Plan files that are refused.
 
-use super::fixtures::{
-    FLEET, ONE_AT_ARLANDA, RULES, THERE_AND_BACK, TIMETABLE, Typed, file_of, files_of, run_on,
-    run_over, run_there_and_back, text_of,
-};
+use super::fixtures::{run_on, run_over, run_there_and_back};
 use std::alloc::Global;
 use std::test::Fail;
 use tail_outside::MemFile;
+use trial_texts::{
+    FLEET, NO_PLAN, ONE_AT_ARLANDA, RULES, THERE_AND_BACK, TIMETABLE, Typed, file_of, table_files,
+    text_of,
+};
 
 // Each refusal at its line.
 #[test]
@@ -64,14 +65,7 @@ fn repeated(alloc: Global, head: &str, part: &str, times: usize) -> Result<Vec<u
 
 // The tables of two flights and one aircraft with the fleet or the plan's file replaced.
 fn with_plan(alloc: Global, fleet: &[&str], plan: Vec<u8>) -> Result<Vec<MemFile>, Fail> {
-    let typed = Typed {
-        timetable: &[TIMETABLE, THERE_AND_BACK],
-        fleet,
-        rules: &[RULES],
-        judged: &[],
-    };
-    let mut files = files_of(alloc, typed)?;
-    files.pop();
+    let mut files = table_files(alloc, &[TIMETABLE, THERE_AND_BACK], fleet, &[RULES])?;
     files.push(file_of(alloc, "p", plan)?)?;
     Ok(files)
 }
@@ -112,44 +106,38 @@ fn a_plan_file_may_be_too_big(rt: HostRuntime) -> Result<(), Fail> {
 // The refusal of a table comes before that of the plan's file, also where names alone are at fault.
 #[test]
 fn tables_are_refused_before_the_plan(rt: HostRuntime) -> Result<(), Fail> {
-    let good = Typed {
-        timetable: &[TIMETABLE, THERE_AND_BACK],
-        fleet: &[FLEET, ONE_AT_ARLANDA],
-        rules: &[RULES],
-        judged: &["infeasible\n"],
-    };
     let late = "F1,flight,ARN,OSL,2025-03-03T07:00,2025-03-03T07:00,,,,\n";
     let unknown = "F1,flight,ARN,LHR,2025-03-03T06:00,2025-03-03T07:00,,,,\n";
     for (typed, printed) in [
         (
             Typed {
                 timetable: &[TIMETABLE, late],
-                ..good
+                ..NO_PLAN
             },
             "refused 7 timetable 2\n",
         ),
         (
             Typed {
                 timetable: &[TIMETABLE, unknown],
-                ..good
+                ..NO_PLAN
             },
             "refused 12 timetable 2\n",
         ),
         (
             Typed {
                 fleet: &[FLEET, ONE_AT_ARLANDA, ONE_AT_ARLANDA],
-                ..good
+                ..NO_PLAN
             },
             "refused 11 fleet 3\n",
         ),
         (
             Typed {
                 rules: &["[[type"],
-                ..good
+                ..NO_PLAN
             },
             "refused 13 rules 0\n",
         ),
-        (good, "refused 3 plan 1\n"),
+        (NO_PLAN, "refused 3 plan 1\n"),
     ] {
         let seen = run_on(rt.alloc(), typed)?;
         assert!(rt; seen.is(3, printed), "{printed}");

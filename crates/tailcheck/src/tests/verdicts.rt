@@ -1,9 +1,8 @@
 //! Plans that are legal, and plans that break rules.
 
-use super::fixtures::{
-    ONE_AT_ARLANDA, THERE_AND_BACK, TWO_AT_ARLANDA, run_there_and_back, run_with,
-};
+use super::fixtures::{run_there_and_back, run_with};
 use std::test::Fail;
+use trial_texts::{DEAR_TYPE, ONE_AT_ARLANDA, THERE_AND_BACK, TWO_AT_ARLANDA};
 
 // The plans of two flights and one aircraft.
 #[test]
@@ -133,8 +132,6 @@ const QUICK_AND_SLOW: &str = "F1,flight,ARN,OSL,2025-03-03T06:00,2025-03-03T07:0
 F2,flight,ARN,OSL,2025-03-03T06:00,2025-03-03T08:00,,,,\n";
 
 const CHEAP_AND_DEAR: &str = "A1,P,ARN,2025-03-03T05:00,0,,,\nA2,Q,ARN,2025-03-03T05:00,0,,,\n";
-
-const DEAR_TYPE: &str = "[[type]]\nname = \"Q\"\nrate = 2\nturn = 30\n";
 
 const ONE_EACH: &str = "FB,flight,ARN,OSL,2025-03-03T06:00,2025-03-03T07:00,,,A1,\n\
 FA,flight,ARN,OSL,2025-03-03T06:00,2025-03-03T07:00,,,A2,\n";

@@ -1,35 +1,16 @@
 //! Reads and writes that fail.
 
-use super::fixtures::{
-    FLEET, ONE_AT_ARLANDA, RULES, THERE_AND_BACK, TIMETABLE, Typed, WORDS, files_of, run_failing,
-};
+use super::fixtures::{WORDS, run_failing};
 use std::test::Fail;
-
-const GOOD: Typed<'_> = Typed {
-    timetable: &[TIMETABLE, THERE_AND_BACK],
-    fleet: &[FLEET, ONE_AT_ARLANDA],
-    rules: &[RULES],
-    plan: &["optimal 120\nA1: F1 F2\n"],
-};
-
-// A plan that breaks three rules.
-const BROKEN: Typed<'_> = Typed {
-    plan: &["optimal 120\nA1: F1 F9 F1\n"],
-    ..GOOD
-};
-
-const REFUSED: Typed<'_> = Typed {
-    plan: &["infeasible\n"],
-    ..GOOD
-};
+use trial_texts::{BROKEN, LEGAL, NO_PLAN, files_of};
 
 // A write that fails ends a run, whichever line it is that of.
 #[test]
 fn a_failed_write_ends_a_run(rt: HostRuntime) -> Result<(), Fail> {
     for (typed, put, status, printed) in [
-        (GOOD, 1, 6, ""),
-        (REFUSED, 1, 6, ""),
-        (REFUSED, 2, 3, "refused 3 plan 1\n"),
+        (LEGAL, 1, 6, ""),
+        (NO_PLAN, 1, 6, ""),
+        (NO_PLAN, 2, 3, "refused 3 plan 1\n"),
     ] {
         let files = files_of(rt.alloc(), typed)?;
         let seen = run_failing(rt.alloc(), &WORDS, files, &[], &[put])?;
@@ -48,13 +29,13 @@ fn a_failed_write_ends_a_run(rt: HostRuntime) -> Result<(), Fail> {
 #[test]
 fn a_failed_read_ends_a_run(rt: HostRuntime) -> Result<(), Fail> {
     for call in 1..9 {
-        for typed in [GOOD, REFUSED] {
+        for typed in [LEGAL, NO_PLAN] {
             let files = files_of(rt.alloc(), typed)?;
             let seen = run_failing(rt.alloc(), &WORDS, files, &[call], &[])?;
             assert!(rt; seen.is(5, ""), "{call}");
         }
     }
-    let files = files_of(rt.alloc(), GOOD)?;
+    let files = files_of(rt.alloc(), LEGAL)?;
     let seen = run_failing(rt.alloc(), &WORDS, files, &[9], &[])?;
     assert!(rt; seen.has(0, ">cost 120<"));
     Ok(())
@@ -73,7 +54,7 @@ fn a_missing_file_ends_a_run(rt: HostRuntime) -> Result<(), Fail> {
         ("t", "f", "p", "none"),
     ] {
         let words = ["tailview", timetable, fleet, rules, "--plan", plan];
-        let files = files_of(rt.alloc(), GOOD)?;
+        let files = files_of(rt.alloc(), LEGAL)?;
         let seen = run_failing(rt.alloc(), &words, files, &[], &[])?;
         assert!(rt; seen.is(5, ""), "{timetable} {fleet} {rules} {plan}");
     }

@@ -1,20 +1,12 @@
 //! Words that are refused, and names that are taken in their places.
 
-use super::fixtures::{
-    FLEET, ONE_AT_ARLANDA, RULES, Seen, THERE_AND_BACK, TIMETABLE, Typed, files_of, run_failing,
-};
+use super::fixtures::run_failing;
 use std::alloc::Global;
 use std::test::Fail;
-
-const GOOD: Typed<'_> = Typed {
-    timetable: &[TIMETABLE, THERE_AND_BACK],
-    fleet: &[FLEET, ONE_AT_ARLANDA],
-    rules: &[RULES],
-    plan: &["optimal 120\nA1: F1 F2\n"],
-};
+use trial_texts::{LEGAL, Seen, files_of};
 
 fn run_as(alloc: Global, words: &[&str]) -> Result<Seen, Fail> {
-    run_failing(alloc, words, files_of(alloc, GOOD)?, &[], &[])
+    run_failing(alloc, words, files_of(alloc, LEGAL)?, &[], &[])
 }
 
 // Words that do not name three tables and one plan's file.
