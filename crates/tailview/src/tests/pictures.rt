@@ -4,7 +4,7 @@ use super::fixtures::{run_failing, run_there_and_back, run_with};
 use std::alloc::Global;
 use std::test::Fail;
 use trial_texts::{
-    FLEET, ONE_AT_ARLANDA, RULES, Seen, THERE_AND_BACK, TIMETABLE, TWO_AT_ARLANDA, Typed, files_of,
+    LEGAL, ONE_AT_ARLANDA, RULES, Seen, THERE_AND_BACK, TWO_AT_ARLANDA, Typed, files_of,
 };
 
 // The picture of two flights: the cost, the aircraft, both bars at their minutes, and the turn between them.
@@ -123,13 +123,11 @@ fn names_and_uncovered_activities_are_told(rt: HostRuntime) -> Result<(), Fail> 
 
 fn run_as(alloc: Global, words: &[&str]) -> Result<Seen, Fail> {
     let typed = Typed {
-        timetable: &[TIMETABLE, THERE_AND_BACK],
-        fleet: &[FLEET, ONE_AT_ARLANDA],
         rules: &[
             RULES,
             "[[curfew]]\nairport = \"OSL\"\nfrom = \"23:00\"\nto = \"05:30\"\ntypes = []\nstart = true\nlanding = true\n",
         ],
-        plan: &["optimal 120\nA1: F1 F2\n"],
+        ..LEGAL
     };
     run_failing(alloc, words, files_of(alloc, typed)?, &[], &[])
 }
