@@ -1,5 +1,5 @@
 -- Words that ask for a trial name no tables, and leave the files alone.
-use Rattle.std.proofs.Common.{◌≡◌, ◌∙◌, ◌⊎◌, inl, ℕ, Bool, true, false, List, Option, Some, None, if◌then◌else◌, refl, sym}
+use Rattle.std.proofs.Common.{◌≡◌, ◌∙◌, inl, ℕ, Bool, true, false, List, Option, Some, None, if◌then◌else◌, refl, sym}
 use Rattle.std.specs.Prelude.{option_and_then}
 use Rattle.tail_outside.specs.Shown.{FilesShown}
 use Rattle.run_frame.specs.TableFiles.{IsHeld}

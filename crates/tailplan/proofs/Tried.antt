@@ -1,14 +1,13 @@
 -- From what a trial finds to what its status promises.
-use Rattle.std.proofs.Common.{◌≡◌, ◌∙◌, ◌≤◌, ℕ, Bool, true, false, ◌⊎◌, inl, inr, arith, List, [], Option, Some, None, Result, Ok, IfOk, refl, sym, ap, subst}
+use Rattle.std.proofs.Common.{◌≡◌, ◌∙◌, ◌≤◌, ℕ, Bool, true, false, inl, inr, arith, List, [], Some, Result, Ok, IfOk, refl, sym, subst}
 use Rattle.tail_book.specs.Seen.{BookSeen}
 use Rattle.tail_book.specs.Truth.{IsTrueOutcome, claim_of}
 use Rattle.tail_book.specs.declared.claim.Claim.{Claim}
 use Rattle.tail_book.specs.declared.outcome.Outcome.{Outcome}
 use Rattle.tail_book.specs.declared.outcome.Outcome.TheVariants.{Optimal, Infeasible, Between, Above}
 use Rattle.tail_outside.proofs.OutsideLemmas.{TakesFront-whole}
-use Rattle.tail_outside.specs.Outside.{PieceHasFailed, Takes}
+use Rattle.tail_outside.specs.Outside.{Takes}
 use Rattle.tail_outside.specs.Shown.{SinkShown}
-use Rattle.book_maker.specs.Made.{book_of}
 use Rattle.branch_tree.specs.declared.limit.Limit.TheVariants.{Nodes}
 use Rattle.branch_tree.specs.declared.stop.Stop.{Stop}
 use Rattle.cert_checker.specs.Certificate.{Accepts}
@@ -19,8 +18,8 @@ use Rattle.plan_report.specs.Lines.{text_of}
 use Rattle.run_frame.specs.inside.Answer.{IsPrinted, status_of}
 use Rattle.run_frame.specs.declared.answer.Answer.{Answer}
 use Rattle.run_frame.specs.declared.answer.Answer.TheVariants.{Usage, Refused, Found, ReadFailed, Memory}
-use Rattle.trial_tables.specs.Making.{HasBook, IsBookOfTrial, making_cost, making_plan}
-use Rattle.trial_tables.specs.Trial.{TrialSeen, trial_of}
+use Rattle.trial_tables.specs.Making.{IsBookOfTrial, making_cost, making_plan}
+use Rattle.trial_tables.specs.Trial.{trial_of}
 use Rattle.tailplan.specs.Answers.{HasTree}
 use Rattle.tailplan.specs.Trials.{AgreesWith, IsTrial, IsTrialAnswer, IsTriedOf, TrialPromise, tried_lines, trial_text}
 use Rattle.tailplan.specs.declared.trial.TheConstants.{TRIAL_NODES}

@@ -1,5 +1,5 @@
 -- What the words mean, whatever the names are.
-use Rattle.std.proofs.Common.{Bool, true, false, ◌==◌, ◌≡◌, ◌∙◌, ℕ, List, [], ◌∷◌, ◌++◌, bytes_eq, Option, Some, None, codes, if◌then◌else◌, refl}
+use Rattle.std.proofs.Common.{Bool, true, false, ◌==◌, ◌≡◌, ◌∙◌, ℕ, List, [], ◌∷◌, bytes_eq, Option, Some, None, codes, if◌then◌else◌, refl}
 use Rattle.std.specs.Prelude.{option_and_then}
 use Rattle.clap.proofs.OnLiterals.{clap_on_literals}
 use Rattle.branch_tree.specs.declared.limit.Limit.TheVariants.{Free}

@@ -6,7 +6,6 @@ use Rattle.tail_book.specs.declared.outcome.Outcome.{Outcome}
 use Rattle.tail_book.specs.declared.outcome.Outcome.TheVariants.{Optimal, Infeasible, Between, Above}
 use Rattle.tail_outside.specs.Outside.{PieceHasFailed, Takes}
 use Rattle.tail_outside.specs.Shown.{FilesShown, SinkShown}
-use Rattle.tail_text.specs.declared.refusal.Refusal.{Refusal}
 use Rattle.branch_tree.specs.declared.limit.Limit.TheVariants.{Nodes}
 use Rattle.certified_search.specs.Written.{IsCertificateOf}
 use Rattle.plan_report.specs.Lines.{text_of}

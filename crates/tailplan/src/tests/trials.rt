@@ -55,7 +55,10 @@ fn trials_cost_what_was_made(rt: HostRuntime) -> Result<(), Fail> {
         let size = " activities 120 aircraft 8\noptimal ";
         let due = text_of(alloc, &["trial ", seed, size, cost, "\ncheck yes\n"])?;
         let seen = trial_of(alloc, seed)?;
-        assert!(rt; seen.status == 0 && seen.printed.as_slice() == due.as_slice(), "{seed}");
+        assert!(rt;
+            seen.status == 0 && seen.printed.as_slice() == due.as_slice(),
+            "{seed}"
+        );
     }
     Ok(())
 }

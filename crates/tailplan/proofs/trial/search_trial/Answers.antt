@@ -1,4 +1,4 @@
-use Rattle.std.proofs.Common.{◌≡◌, ℕ, List, Some, false, refl, sym, ap}
+use Rattle.std.proofs.Common.{Some, false, refl, sym, ap}
 use Rattle.tail_outside.specs.Shown.{SinkShown}
 use Rattle.tail_outside.specs.inside.Seen.{MemSinkSeen}
 use Rattle.tailplan.proofs.Tried.{tried_of}
