@@ -4,7 +4,7 @@ use Rattle.clap.proofs.OnLiterals.{clap_on_literals}
 use Rattle.branch_tree.specs.declared.limit.Limit.TheVariants.{Free, Nodes}
 use Rattle.run_frame.specs.Tables.{NamesSeen}
 use Rattle.tailplan.specs.Tasks.{TaskNamesSeen}
-use Rattle.tailplan.specs.Words.{run_of}
+use Rattle.tailplan.specs.Words.{run_of, seed_of}
 
 -- the words after the program's name
 abbrev after_name : List (List ℕ) → Option TaskNamesSeen
@@ -114,3 +114,16 @@ no_options : (after_name (codes "t" ∷ codes "f" ∷ codes "r" ∷ codes "--cer
     × (after_name (codes "t" ∷ codes "f" ∷ codes "r" ∷ codes "--rules=x" ∷ []) ≡ None)
 unfolding clap_on_literals run_of
 no_options = (refl, refl, refl)
+
+-- behind the word for a trial stands a seed alone, and no tables; a timetable of that name is written as a path
+trials : (seed_of (codes "tailplan" ∷ codes "trial" ∷ codes "0" ∷ []) ≡ Some 0)
+    × (seed_of (codes "tailplan" ∷ codes "trial" ∷ codes "1000000" ∷ []) ≡ Some 1000000)
+    × (seed_of (codes "tailplan" ∷ codes "trial" ∷ codes "1000001" ∷ []) ≡ None)
+    × (seed_of (codes "tailplan" ∷ codes "trial" ∷ codes "01" ∷ []) ≡ None)
+    × (seed_of (codes "tailplan" ∷ codes "trial" ∷ []) ≡ None)
+    × (seed_of (codes "tailplan" ∷ codes "trial" ∷ codes "1" ∷ codes "1" ∷ []) ≡ None)
+    × (seed_of (codes "tailplan" ∷ codes "./trial" ∷ codes "1" ∷ []) ≡ None)
+    × (after_name (codes "trial" ∷ codes "f" ∷ codes "r" ∷ []) ≡ None)
+    × (after_name (codes "./trial" ∷ codes "f" ∷ codes "r" ∷ []) ≡ named (codes "./trial") (codes "f") (codes "r"))
+unfolding clap_on_literals run_of seed_of
+trials = (refl, refl, refl, refl, refl, refl, refl, refl, refl)

@@ -1,6 +1,6 @@
 -- What files hold once a certificate was written to one of them, or a front of it.
-use Rattle.std.proofs.Common.{◌≡◌, ◌≢◌, ◌∙◌, ◌⊎◌, inl, inr, ◌≤◌, ℕ, Bool, false, List, [], Option, Some, None, IfSome, arith, refl, sym, ap, subst}
-use Rattle.std.proofs.Math.Nat.{le_refl, le_trans}
+use Rattle.std.proofs.Common.{◌≡◌, ◌∙◌, inl, ℕ, Bool, false, List, [], Option, Some, None, arith, refl, sym, ap, subst}
+use Rattle.std.proofs.Math.Nat.{le_trans}
 use Rattle.std.proofs.lemmas.List.{append-nil}
 use Rattle.std.specs.Prelude.{unwrap_or}
 use Rattle.tail_book.specs.Seen.{BookSeen}

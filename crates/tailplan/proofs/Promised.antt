@@ -1,6 +1,6 @@
 -- From an answer that is true and printed to what a run promises.
 use Rattle.std.specs.Prelude.{option_map}
-use Rattle.std.proofs.Common.{◌≡◌, ◌≢◌, ◌∙◌, ℕ, ◌⊎◌, inl, inr, arith, List, Option, Ok, Err, None, Some, IfSome, refl, subst, sym}
+use Rattle.std.proofs.Common.{◌≡◌, ◌≢◌, ◌∙◌, ℕ, inl, inr, arith, List, Option, None, Some, IfSome, refl, subst, sym}
 use Rattle.tail_book.specs.Seen.{BookSeen}
 use Rattle.tail_book.specs.Truth.{IsTrueOutcome}
 use Rattle.tail_book.specs.declared.outcome.Outcome.{Outcome}
@@ -8,7 +8,6 @@ use Rattle.tail_book.specs.declared.outcome.Outcome.TheVariants.{Optimal, Infeas
 use Rattle.tail_outside.specs.Outside.{PieceHasFailed, Takes}
 use Rattle.tail_outside.specs.Shown.{FilesShown, SinkShown}
 use Rattle.tail_text.specs.declared.refusal.Refusal.{Refusal}
-use Rattle.book_maker.specs.Made.{book_of}
 use Rattle.branch_tree.specs.SearchTree.{HasReached}
 use Rattle.branch_tree.specs.declared.limit.Limit.{Limit}
 use Rattle.branch_tree.specs.declared.limit.Limit.TheVariants.{Free, Nodes}
@@ -26,11 +25,10 @@ use Rattle.run_frame.specs.declared.answer.Answer.TheVariants.{ReadFailed}
 use Rattle.tailplan.specs.Answers.{Answer, AreRefused, AreSolved, HasTree, IsBookOf, IsCertified, IsTrueAnswer, OfTask, answer_text}
 use Rattle.tailplan.specs.inside.Outcomes.{outcome_status}
 use Rattle.tailplan.specs.inside.Tasks.{task_fronts}
-use Rattle.tailplan.specs.Promises.{Case, IsCaseOf, IsNumber, IsVerdict, JudgesBook, Promise, RefusesTables}
+use Rattle.tailplan.specs.Promises.{IsCaseOf, IsNumber, IsVerdict, JudgesBook, Promise, RefusesTables}
 use Rattle.tailplan.specs.Tasks.{TaskNamesSeen, TaskSeen, task_held}
 use Rattle.tailplan.specs.Usage.{usage_line}
 use Rattle.tailplan.specs.Words.{run_of}
-use Rattle.tailplan.specs.declared.answer.Solved.{Solved}
 
 abbrev Same : TaskSeen → TaskSeen → Type 0
 Same a b = a ≡ b

@@ -1,5 +1,5 @@
 -- From what a run answered and printed, or did not, to what it promises.
-use Rattle.std.proofs.Common.{◌≡◌, ◌≤◌, ◌⊎◌, inl, inr, ℕ, List, [], Option, Some, None, Result, Ok, Err, arith, refl, sym, ap, subst}
+use Rattle.std.proofs.Common.{◌≡◌, ◌≤◌, inl, inr, ℕ, List, [], Option, Some, None, Result, Ok, Err, arith, refl, sym, ap, subst}
 use Rattle.std.proofs.lemmas.List.{append-nil}
 use Rattle.std.specs.Prelude.{IfOk, IsErr}
 use Rattle.tail_outside.proofs.OutsideLemmas.{TakesFront-whole}

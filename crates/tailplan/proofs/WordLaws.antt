@@ -1,9 +1,11 @@
 -- What the words mean, whatever the names are.
-use Rattle.std.proofs.Common.{false, ◌==◌, ◌≡◌, ℕ, List, [], ◌∷◌, ◌++◌, Option, Some, None, codes, refl}
+use Rattle.std.proofs.Common.{Bool, true, false, ◌==◌, ◌≡◌, ◌∙◌, ℕ, List, [], ◌∷◌, bytes_eq, Option, Some, None, codes, if◌then◌else◌, refl}
+use Rattle.std.specs.Prelude.{option_and_then}
 use Rattle.clap.proofs.OnLiterals.{clap_on_literals}
 use Rattle.branch_tree.specs.declared.limit.Limit.TheVariants.{Free}
+use Rattle.run_frame.specs.Words.{matched}
 use Rattle.tailplan.specs.Tasks.{TaskNamesSeen}
-use Rattle.tailplan.specs.Words.{run_of}
+use Rattle.tailplan.specs.Words.{command, is_trial, names_in, run_of}
 
 -- the words name these files, no limit, and no certificate's file
 abbrev named : List ℕ → List ℕ → List ℕ → Option TaskNamesSeen
@@ -12,7 +14,8 @@ named timetable fleet rules = Some (record { tables = record { timetable = timet
 -- the program's name does not matter
 whatever_it_is_called : (one other : List ℕ) (words : List (List ℕ)) → run_of (one ∷ words) ≡ run_of (other ∷ words)
 unfolding run_of
-whatever_it_is_called one other words = refl
+whatever_it_is_called one other [] = refl
+whatever_it_is_called one other (word ∷ words) = refl
 
 -- behind two dashes any three words are the names
 any_names : (program timetable fleet rules : List ℕ) → run_of (program ∷ codes "--" ∷ timetable ∷ fleet ∷ rules ∷ []) ≡ named timetable fleet rules
@@ -24,8 +27,20 @@ any_four : (program one two three four : List ℕ) (rest : List (List ℕ)) → 
 unfolding clap_on_literals run_of
 any_four program one two three four rest = refl
 
--- without them, three words are the names where each begins with another sign than a dash
+-- without them, three words are matched as the names where each begins with another sign than a dash
+plain_matched : (program timetable fleet rules_file : List ℕ) (t f r : ℕ) → (t == 45) ≡ false → (f == 45) ≡ false → (r == 45) ≡ false
+    → option_and_then names_in (matched command (program ∷ (t ∷ timetable) ∷ (f ∷ fleet) ∷ (r ∷ rules_file) ∷ [])) ≡ named (t ∷ timetable) (f ∷ fleet) (r ∷ rules_file)
+unfolding clap_on_literals
+plain_matched program timetable fleet rules_file t f r et ef er = rw (et, et, ef, ef, er, er) refl
+
+not_asked : (asks : Bool) (names : Option TaskNamesSeen) → asks ≡ false → (if asks then None else names) ≡ names
+not_asked true names is = absurd (cc is)
+not_asked false names is = refl
+
+-- and they are the names where the first asks for no trial
 plain_names : (program timetable fleet rules_file : List ℕ) (t f r : ℕ) → (t == 45) ≡ false → (f == 45) ≡ false → (r == 45) ≡ false
-    → run_of (program ∷ (t ∷ timetable) ∷ (f ∷ fleet) ∷ (r ∷ rules_file) ∷ []) ≡ named (t ∷ timetable) (f ∷ fleet) (r ∷ rules_file)
-unfolding clap_on_literals run_of
-plain_names program timetable fleet rules_file t f r et ef er = rw (et, et, ef, ef, er, er) refl
+    → bytes_eq (t ∷ timetable) (codes "trial") ≡ false → run_of (program ∷ (t ∷ timetable) ∷ (f ∷ fleet) ∷ (r ∷ rules_file) ∷ []) ≡ named (t ∷ timetable) (f ∷ fleet) (r ∷ rules_file)
+unfolding run_of
+plain_names program timetable fleet rules_file t f r et ef er other =
+    let words = program ∷ (t ∷ timetable) ∷ (f ∷ fleet) ∷ (r ∷ rules_file) ∷ [] in
+    not_asked (is_trial words) (option_and_then names_in (matched command words)) other ∙ plain_matched program timetable fleet rules_file t f r et ef er

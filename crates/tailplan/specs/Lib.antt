@@ -4,4 +4,5 @@ pub mod Words
 pub mod Answers
 pub mod Kept
 pub mod Promises
+pub mod Trials
 pub mod inside

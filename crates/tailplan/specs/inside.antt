@@ -2,3 +2,4 @@
 pub mod Outcomes
 pub mod Tasks
 pub mod Ending
+pub mod Trials

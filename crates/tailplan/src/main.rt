@@ -5,6 +5,7 @@ mod answer;
 mod answered;
 mod planning;
 mod run;
+mod trial;
 mod usage;
 mod words;
 

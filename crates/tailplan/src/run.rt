@@ -1,6 +1,6 @@
-//! A whole run: the words, the three tables, the search for a least plan with its certificate, and what is printed.
+//! A whole run: the words, the three tables, the search for a least plan with its certificate, and what is printed; or a trial.
 
-ghost use Rattle.std.specs.Prelude.{◌≡◌, ◌≤◌, IfOk, IfSome, IsErr, IsTrue, None, Ok, false, option_map};
+ghost use Rattle.std.specs.Prelude.{◌≡◌, ◌≤◌, IfOk, IfSome, IsErr, IsSome, IsTrue, None, Ok, false, option_map};
 ghost use Rattle.tail_outside.specs.Outside.{HasRisen, OnlyRead, ReadHasFailed};
 ghost use Rattle.plan_report.specs.inside.Report.{HasPlanFor};
 ghost use Rattle.run_frame.specs.inside.Answer.{IsAnswerTo, IsPrintable as IsPrintableBy};
@@ -11,13 +11,15 @@ ghost use Rattle.run_frame.specs.declared.answer.Answer.TheVariants.{ReadFailed}
 ghost use Rattle.tailplan.specs.Answers.{AreRefused, AreSolved, IsTrueAnswer, MayUse, cert_of};
 ghost use Rattle.tailplan.specs.Kept.{LeavesCertificate, OnlyCertificate, OnlyReads, WriteHasFailed};
 ghost use Rattle.tailplan.specs.Promises.{JudgesBook, Promise, RefusesTables};
-ghost use Rattle.tailplan.specs.Words.{run_of};
+ghost use Rattle.tailplan.specs.Trials.{RunPromise};
+ghost use Rattle.tailplan.specs.Words.{run_of, seed_of};
 ghost use Rattle.tailplan.specs.inside.Ending.{KeepsFiles, LeavesFile};
 
 use crate::answer::Solved;
 use crate::answered::{Answered, report};
 use crate::planning::planned;
-use crate::words::run_of;
+use crate::trial::{Checker, run_trial};
+use crate::words::{run_of, seed_of};
 use book_maker::read_book;
 use branch_tree::Limit;
 use run_frame::{Answer, Ran, Tables, read_tables};
@@ -27,7 +29,8 @@ use tail_text::Stopped;
 
 /// Plans the timetable, the fleet and the rules that the words name: prints a legal plan of least cost, or that no
 /// plan is legal, or, at a limit of nodes, a bound with the best plan found, or why the words or a table are refused. A
-/// certificate is written where the words name a file for it. The files are handed back as they stand.
+/// certificate is written where the words name a file for it. The files are handed back as they stand. Where the words ask
+/// for a trial it is run, and no file is touched.
 pub fn solve_run<F: Files, S: Sink>(
     alloc: Global,
     words: &[String],
@@ -37,16 +40,42 @@ pub fn solve_run<F: Files, S: Sink>(
     requires { MayUse (spelled words.now) (F.shows files) }
 
     // What the status says, and the causes of faults.
-    ensures promised { Promise (spelled words.now) (F.shows files) (F.shows result.files) (S.shows out.old) (S.shows out.new) result.status.0 }
+    ensures promised { RunPromise (spelled words.now) (F.shows files) (F.shows result.files) (S.shows out.old) (S.shows out.new) result.status.0 }
     ensures read_failed { result.status.0 ≡ 5 → ReadHasFailed (F.shows files) (F.shows result.files) }
     ensures write_failed { result.status.0 ≡ 6 → WriteHasFailed (spelled words.now) (F.shows files) (F.shows result.files) (S.shows out.old) (S.shows out.new) }
 
     // When each status comes.
-    ensures words_refused { run_of (spelled words.now) ≡ None → IsUnlessStopped 2 result.status.0 }
+    ensures words_refused { run_of (spelled words.now) ≡ None → seed_of (spelled words.now) ≡ None → IsUnlessStopped 2 result.status.0 }
     ensures tables_refused { RefusesTables (spelled words.now) (F.shows files) result.status.0 }
     ensures judged { JudgesBook (spelled words.now) (F.shows files) result.status.0 }
 
     // What stays, and what the certificate's file is left with.
+    ensures others { OnlyCertificate (cert_of (spelled words.now)) (F.shows files) (F.shows result.files) }
+    ensures same { OnlyReads (spelled words.now) result.status.0 (F.shows files) (F.shows result.files) }
+    ensures untouched { IsSome (seed_of (spelled words.now)) → F.shows result.files ≡ F.shows files }
+    ensures left { LeavesCertificate (spelled words.now) (F.shows files) (F.shows result.files) }
+    ensures beside { S.beside out.old out.new }
+    ensures ceases { (S.shows out.new).ceased ≡ false → (S.shows out.old).ceased ≡ false }
+    ensures counts { (S.shows out.old).faults ≤ (S.shows out.new).faults }
+{
+    match seed_of(words) {
+        None => run_tables(alloc, words, files, out),
+        Some(seed) => Ran {
+            status: run_trial(alloc, seed, &mut Checker, out),
+            files,
+        },
+    }
+}
+
+// A run over the tables that the words name.
+fn run_tables<F: Files, S: Sink>(alloc: Global, words: &[String], files: F, out: &mut S) -> Ran<F>
+    requires { MayUse (spelled words.now) (F.shows files) }
+    ensures promised { Promise (spelled words.now) (F.shows files) (F.shows result.files) (S.shows out.old) (S.shows out.new) result.status.0 }
+    ensures read_failed { result.status.0 ≡ 5 → ReadHasFailed (F.shows files) (F.shows result.files) }
+    ensures write_failed { result.status.0 ≡ 6 → WriteHasFailed (spelled words.now) (F.shows files) (F.shows result.files) (S.shows out.old) (S.shows out.new) }
+    ensures words_refused { run_of (spelled words.now) ≡ None → IsUnlessStopped 2 result.status.0 }
+    ensures tables_refused { RefusesTables (spelled words.now) (F.shows files) result.status.0 }
+    ensures judged { JudgesBook (spelled words.now) (F.shows files) result.status.0 }
     ensures others { OnlyCertificate (cert_of (spelled words.now)) (F.shows files) (F.shows result.files) }
     ensures same { OnlyReads (spelled words.now) result.status.0 (F.shows files) (F.shows result.files) }
     ensures left { LeavesCertificate (spelled words.now) (F.shows files) (F.shows result.files) }

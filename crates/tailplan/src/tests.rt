@@ -13,6 +13,7 @@ mod permissions;
 mod plans;
 mod refusals;
 mod rooms;
+mod trials;
 mod week;
 mod words;
 

@@ -1,9 +1,10 @@
-//! The reading of the words: which tables a run is over, how many nodes it may count, and where its certificate goes.
+//! The reading of the words: which tables a run is over, how many nodes it may count, and where its certificate goes; or the
+//! seed of a trial.
 
-ghost use Rattle.std.specs.Prelude.{◌≡◌, IfOk, option_map};
+ghost use Rattle.std.specs.Prelude.{◌≡◌, ◌≤◌, IfOk, IfSome, option_map};
 ghost use Rattle.clap.specs.Words.{app_of, found_of, rows_of};
 ghost use Rattle.run_frame.specs.Spelled.{spelled};
-ghost use Rattle.tailplan.specs.Words.{command, limit_of, names_in, run_of};
+ghost use Rattle.tailplan.specs.Words.{command, is_trial, limit_of, names_in, run_of, seed_of};
 ghost use Rattle.tailplan.specs.inside.Tasks.{task_names_seen};
 
 use branch_tree::Limit;
@@ -13,6 +14,7 @@ use run_frame::{TableNames, tables_command, tables_in, value_of};
 use std::alloc::{AllocError, Global};
 use tail_book::Memory;
 use tail_text::number;
+use trial_tables::SEED_LIMIT;
 
 /// The most nodes that a limit may name.
 pub const NODE_LIMIT: u64 = 1_000_000_000_000;
@@ -60,12 +62,41 @@ fn names_in<'a>(matches: &ArgMatches<'a>) -> Option<TaskNames<'a>>
     })
 }
 
-/// The names of the tables and the limit, or nothing where the words are refused. The words begin with the program's
-/// name.
+// Whether the word behind the program's name asks for a trial.
+fn is_trial(words: &[String]) -> bool
+    ensures { result ≡ is_trial (spelled words.now) }
+{
+    match words {
+        [_, word, ..] => word.as_bytes() == b"trial".as_slice(),
+        _ => false,
+    }
+}
+
+/// The seed of the trial that the words ask for, or nothing where they ask for none, or not rightly. The words begin with
+/// the program's name.
+#[tactic(auto, unfolding(crate::specs::Words::seed_of))]
+pub fn seed_of(words: &[String]) -> Option<u64>
+    ensures seed { result ≡ seed_of (spelled words.now) }
+    ensures range { IfSome result (λ seed. seed ≤ SEED_LIMIT) }
+{
+    if !is_trial(words) {
+        return None;
+    }
+    match words {
+        [_, _, seed] => number(seed.as_bytes(), SEED_LIMIT).ok(),
+        _ => None,
+    }
+}
+
+/// The names of the tables and the limit, or nothing where the words are refused or ask for a trial. The words begin with
+/// the program's name.
 #[tactic(auto, unfolding(crate::specs::Words::run_of))]
 pub fn run_of<'a>(alloc: Global, words: &'a [String]) -> Result<Option<TaskNames<'a>>, Memory>
     ensures { IfOk result (λ names. option_map task_names_seen names ≡ run_of (spelled words.now)) }
 {
+    if is_trial(words) {
+        return Ok(None);
+    }
     let command = command(alloc)?;
     match command.try_get_matches_from(words) {
         Ok(matches) => Ok(names_in(&matches)),
@@ -128,6 +159,15 @@ mod tests {
                 &["tailplan", "./t.csv", "a b", "r=1"],
                 named("./t.csv", "a b", "r=1"),
             ),
+            (
+                &["tailplan", "./trial", "trial", "trial"],
+                named("./trial", "trial", "trial"),
+            ),
+            (
+                &["tailplan", "--", "trial", "f", "r"],
+                named("trial", "f", "r"),
+            ),
+            (&["trial", "t", "f", "r"], named("t", "f", "r")),
             (
                 &["tailplan", "tåg", "flyg", "regler"],
                 named("tåg", "flyg", "regler"),
@@ -235,9 +275,38 @@ mod tests {
             &["tailplan", "t", "f", "r", "--cert", "-c"],
             &["tailplan", "t", "f", "r", "--cert", "c", "--cert", "c"],
             &["tailplan", "--cert", "t", "f", "r"],
+            &["tailplan", "trial", "f", "r"],
+            &["tailplan", "trial", "1"],
+            &["tailplan", "trial"],
         ] {
             let are_refused = are_read_as(rt.alloc(), words, None)?;
             assert!(rt; are_refused, "{words:?}");
+        }
+        Ok(())
+    }
+
+    // A seed stands alone behind the word, as a number with no zero in front.
+    #[test]
+    fn seeds_are_numbers(rt: HostRuntime) -> Result<(), Fail> {
+        for (words, seed) in [
+            (["tailplan", "trial", "0"].as_slice(), Some(0)),
+            (&["", "trial", "1"], Some(1)),
+            (&["tailplan", "trial", "1000000"], Some(1_000_000)),
+            (&["tailplan", "trial", "1000001"], None),
+            (&["tailplan", "trial", "01"], None),
+            (&["tailplan", "trial", "-1"], None),
+            (&["tailplan", "trial", ""], None),
+            (&["tailplan", "trial"], None),
+            (&["tailplan", "trial", "1", "1"], None),
+            (&["tailplan", "trial", "1", "--nodes", "5"], None),
+            (&["tailplan", "--", "trial", "1"], None),
+            (&["tailplan", "./trial", "1"], None),
+            (&["tailplan", "Trial", "1"], None),
+            (&["trial", "1"], None),
+            (&[], None),
+        ] {
+            let read = seed_of(&strings_of(rt.alloc(), words)?);
+            assert!(rt; read == seed, "{words:?}");
         }
         Ok(())
     }

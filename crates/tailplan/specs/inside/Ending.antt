@@ -1,6 +1,6 @@
 -- How a run ends: what was printed of its answer, and what becomes of the files by it.
-use Rattle.std.specs.Prelude.{ℕ, ◌≡◌, ⊤, Result, Ok, Err, List, [], Option, Some, IfSome, unwrap_or, false, ◌⊎◌}
-use Rattle.tail_outside.specs.Outside.{OnlyRead, Takes}
+use Rattle.std.specs.Prelude.{ℕ, ◌≡◌, ⊤, Result, Ok, Err, List, [], Option, IfSome, unwrap_or, false, ◌⊎◌}
+use Rattle.tail_outside.specs.Outside.{OnlyRead}
 use Rattle.tail_outside.specs.Shown.{FilesShown, SinkShown}
 use Rattle.tail_text.specs.declared.refusal.Refusal.{Refusal}
 use Rattle.run_frame.specs.inside.Answer.{IsPrinted, status_of}

@@ -1,4 +1,4 @@
-use Rattle.std.proofs.Common.{◌≡◌, ◌∙◌, ℕ, false, List, [], Result, Ok, IfOk, inr, refl, ap, subst}
+use Rattle.std.proofs.Common.{[], Result, IfOk, inr, refl, ap, subst}
 use Rattle.std.specs.Prelude.{unwrap_or}
 use Rattle.tail_book.specs.Truth.{IsTrueOutcome}
 use Rattle.tail_book.specs.declared.outcome.Outcome.{Outcome}

@@ -1,15 +1,18 @@
+use Rattle.std.proofs.Common.{◌≡◌, Some, rules}
 use Rattle.run_frame.specs.Spelled.{spelled}
-use Rattle.tailplan.proofs.Reported.{only_reads_of, promise_of}
+use Rattle.tailplan.specs.Words.{seed_of}
+use Rattle.tailplan.proofs.TrialWords.{left_alone, no_refusal, no_verdict}
 use Rattle.tailplan.proofs.run.solve_run.Goals as goal
 
-pub returns-clause-promised : goal.returns-clause-promised
-returns-clause-promised g c =
-    let run = c.answer_of-answer in
-    promise_of (spelled c.args.words.now) (g.F.Files.shows c.args.files) (g.F.Files.shows run.result.files) (g.S.Sink.shows c.args.out.now) (g.S.Sink.shows c.report-status.new.out) c.report-status.result.0
-    run.result.answer run.ensures.answer run.ensures.printable run.ensures.write_cause c.report-status.ensures.reported
+pub returns-in-Some-clause-tables_refused : goal.returns-in-Some-clause-tables_refused
+returns-in-Some-clause-tables_refused g c =
+    let is : seed_of (spelled c.args.words.now) ≡ Some c.in-Some.seed = search rules in
+    no_refusal (spelled c.args.words.now) c.in-Some.seed (g.F.Files.shows c.args.files) c.run_trial.result.0 is
 
-pub returns-clause-same : goal.returns-clause-same
-returns-clause-same g c =
-    let run = c.answer_of-answer in
-    only_reads_of (spelled c.args.words.now) (g.F.Files.shows c.args.files) (g.F.Files.shows run.result.files) (g.S.Sink.shows c.args.out.now) (g.S.Sink.shows c.report-status.new.out) c.report-status.result.0
-    run.result.answer run.ensures.kept run.ensures.same c.report-status.ensures.reported
+pub returns-in-Some-clause-judged : goal.returns-in-Some-clause-judged
+returns-in-Some-clause-judged g c =
+    let is : seed_of (spelled c.args.words.now) ≡ Some c.in-Some.seed = search rules in
+    no_verdict (spelled c.args.words.now) c.in-Some.seed (g.F.Files.shows c.args.files) c.run_trial.result.0 is
+
+pub returns-in-Some-clause-left : goal.returns-in-Some-clause-left
+returns-in-Some-clause-left g c = left_alone (spelled c.args.words.now) (g.F.Files.shows c.args.files)
