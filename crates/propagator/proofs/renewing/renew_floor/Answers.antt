@@ -4,6 +4,7 @@ use Rattle.connection_net.specs.Net.{successors_in}
 use Rattle.propagator.proofs.SetFlags.{set_by}
 use Rattle.propagator.proofs.RenewedFloors.{renew_not, renew_same, renew_other}
 use Rattle.propagator.proofs.MovedFloors.{moves_none, moves_same, moves_one}
+use Rattle.propagator.proofs.LowRows.{set_low}
 use Rattle.propagator.proofs.renewing.renew_floor.Goals as goal
 
 pub returns-then-not-due-b-clause-renewing : goal.returns-then-not-due-b-clause-renewing
@@ -33,3 +34,11 @@ returns-then-not-rewrite-clause-moves c =
 
 pub returns-clause-moves : goal.returns-clause-moves
 returns-clause-moves c = moves_one c.args.moved.now c.set-2.new.flags c.args.b _ c.args.row.now c.rewrite.new.row c.if-not-rewrite.ensures.set c.set-2.ensures
+
+pub returns-then-not-rewrite-clause-low : goal.returns-then-not-rewrite-clause-low
+returns-then-not-rewrite-clause-low c =
+    set_low c.args.book.now c.args.marks.now.facts c.args.k c.each_at_most_itself.ensures c.args.b c.args.row.now c.rewrite.new.row c.if-not-rewrite.ensures.set c.requires.low
+
+pub returns-clause-low : goal.returns-clause-low
+returns-clause-low c =
+    set_low c.args.book.now c.args.marks.now.facts c.args.k c.each_at_most_itself.ensures c.args.b c.args.row.now c.rewrite.new.row c.if-not-rewrite.ensures.set c.requires.low
