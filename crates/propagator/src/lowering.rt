@@ -188,6 +188,9 @@ fn lower_from_all(
     predecessors_come_before();
     predecessors_bring_all();
     rows_for_each();
+    if had && row.is(b as usize, before) {
+        return;
+    }
     let places = net.predecessors(b);
     for i in (0..places.len()).rev() {
         let lowered = lower_from(book, steps, marks, k, places[i], b, row, values, least);
