@@ -19,3 +19,4 @@ pub mod StillGoing
 pub mod RisingFloors
 pub mod LoweredFloors
 pub mod LowRows
+pub mod CutOffs

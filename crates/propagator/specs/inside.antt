@@ -10,3 +10,4 @@ pub mod Work
 pub mod Unnamed
 pub mod Cutting
 pub mod Rising
+pub mod CutOff

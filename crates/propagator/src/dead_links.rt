@@ -33,7 +33,7 @@ use tail_book::laws::limits_decide;
 use tail_book::{Book, Memory, Place};
 
 // Whether an aircraft may use a link and goes on over it.
-// The step comes first: it is a few reads, and most links are asked until somebody goes on.
+// The step comes before the other marks: it is a few reads, and decides more often.
 fn goes_over(
     book: &Book,
     steps: &StepTable,
@@ -55,8 +55,12 @@ fn goes_over(
     ensures goes { result ≡ true → ¬ IsDeadConnection book.now marks.now.facts a b }
     ensures cannot { result ≡ false → IsUsable book.now marks.now.facts k (PlaceAfter a) b → CannotGoBy book.now k a b (floor_of book.now marks.now.facts k a) }
 {
+    alive_decides();
     usable_decides();
     limits_decide();
+    if !marks.alive(book, k, b) {
+        return false;
+    }
     if !goes_on_over(book, steps, k, a, b, &rows[k as usize], values) {
         return false;
     }
@@ -109,10 +113,10 @@ fn is_dead_link(
     alive_decides();
     usable_decides();
     marks.facts_are_of_book(book);
-    if marks.has(Fact::Cut(a, b)) {
+    if last_goes_over(book, steps, marks, *last, a, b, rows, values) {
         return false;
     }
-    if last_goes_over(book, steps, marks, *last, a, b, rows, values) {
+    if marks.has(Fact::Cut(a, b)) {
         return false;
     }
     let mut used = false;

@@ -2,10 +2,13 @@
 
 ghost use Rattle.propagator.specs.inside.SameFor.{SameFloors, SameDead, BarsLeaveOthers, MustsLeaveOthers};
 ghost use Rattle.propagator.specs.inside.OneMore.{BarsTakeOneFloor, BarsKillNothingLater, BarsKillPredecessors, CutsTakeNoFloor, CutsMakeNothingFollow};
+ghost use Rattle.propagator.specs.inside.CutOff.{MustsCutOff};
 ghost use Rattle.propagator.specs.inside.Rising.{FloorsRise};
 ghost use Rattle.propagator.specs.Keeping.{KeptForMore};
 
-use branch_marks::laws::{alive_decides, floors_are_low, may_end_decides, usable_decides};
+use branch_marks::laws::{
+    alive_decides, floors_are_low, has_fact_decides, may_end_decides, usable_decides,
+};
 use connection_net::laws::predecessors_are_links;
 use floor_rows::laws::{brought_tells, floors_are_least, least_are_floors};
 use tail_book::laws::{
@@ -103,6 +106,14 @@ pub fn floors_rise()
     lower_stays_within();
     usable_decides();
     limits_decide();
+}
+
+/// A Must of an aircraft cuts off what lies before its activity.
+pub fn musts_cut_off()
+    ensures { MustsCutOff }
+{
+    usable_decides();
+    has_fact_decides();
 }
 
 /// A propagator that is kept for marks is kept for them with more facts behind theirs.

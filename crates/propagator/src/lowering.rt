@@ -2,7 +2,7 @@
 //!
 //! Of all that is brought little lowers the floor: less than two in a hundred on made tables of 4,000 activities. So the
 //! step is taken first, which is a few reads and sums, and only where it lowers the floor is it asked whether the aircraft
-//! may use the link. The latest predecessors come first. A floor never falls while marks grow: once it is again what it
+//! may use the link. What lies before the aircraft's last Must is passed over. The latest predecessors come first. A floor never falls while marks grow: once it is again what it
 //! was, nothing that is left can lower it, and most floors that are made anew are so after a tenth of their predecessors.
 
 ghost use Rattle.std.specs.Prelude.{◌≡◌, ◌<◌, ℕ, ℤ, List, true, false, IsTrue, None, Some, if◌then◌else◌, length};
@@ -19,6 +19,7 @@ ghost use Rattle.floor_rows.specs.inside.FloorRow.{floor_in, IsRowOf, IsSetAt};
 ghost use Rattle.floor_rows.specs.inside.LeastOver.{brought, brought_first, floor_of};
 ghost use Rattle.maint_counters.specs.inside.Counts.{AreCounts};
 ghost use Rattle.maint_counters.specs.inside.StepTable.{IsStepTableOf};
+ghost use Rattle.propagator.specs.inside.CutOff.{IsCutOff};
 ghost use Rattle.propagator.specs.inside.Rising.{IsCopied};
 
 use branch_marks::Marks;
@@ -121,6 +122,7 @@ fn lower_from(
     k: u32,
     x: u32,
     b: u32,
+    after: u32,
     row: &mut FloorRow,
     values: &mut [i64],
     least: &mut [i64],
@@ -134,6 +136,7 @@ fn lower_from(
     requires width { length values.old ≡ length book.now.rules.counters }
     requires least { length least.old ≡ length book.now.rules.counters }
     requires copied { IsCopied row.old b least.old }
+    requires after { x < after → is_usable book.now marks.now.facts k (PlaceAfter x) b ≡ false }
     ensures set { IsSetAt b (lesser_floor (floor_in row.old b) (brought book.now marks.now.facts k b (floor_in row.old) x)) row.old row.new }
     ensures copied { IsCopied row.new b least.new }
 {
@@ -141,6 +144,9 @@ fn lower_from(
     brought_tells();
     usable_decides();
     links_leave_time();
+    if x < after {
+        return false;
+    }
     if !steps_to(book, steps, k, x, b, row, values) {
         return false;
     }
@@ -162,6 +168,7 @@ fn lower_from_all(
     marks: &Marks,
     k: u32,
     b: u32,
+    after: u32,
     row: &mut FloorRow,
     values: &mut [i64],
     least: &mut [i64],
@@ -180,6 +187,7 @@ fn lower_from_all(
     requires copied { IsCopied row.old b least.old }
     requires below { (a : ℕ) → a < b → floor_in row.old a ≡ floor_of book.now marks.now.facts k a }
     requires first { floor_in row.old b ≡ brought_first book.now marks.now.facts k b }
+    requires after { IsCutOff book.now marks.now.facts k b after }
     requires low { had ≡ true → (high : List ℤ) → floor_of book.now marks.now.facts k b ≡ Some high → EachAtMost before.now high }
     ensures { IsSetAt b (floor_of book.now marks.now.facts k b) row.old row.new }
 {
@@ -193,7 +201,9 @@ fn lower_from_all(
     }
     let places = net.predecessors(b);
     for i in (0..places.len()).rev() {
-        let lowered = lower_from(book, steps, marks, k, places[i], b, row, values, least);
+        let lowered = lower_from(
+            book, steps, marks, k, places[i], b, after, row, values, least,
+        );
         if lowered && had && row.is(b as usize, before) {
             return;
         }
@@ -208,6 +218,7 @@ pub fn put_floor_again(
     marks: &Marks,
     k: u32,
     b: u32,
+    after: u32,
     row: &mut FloorRow,
     values: &mut [i64],
     least: &mut [i64],
@@ -224,6 +235,7 @@ pub fn put_floor_again(
     requires least { length least.old ≡ length book.now.rules.counters }
     requires before { length before.now ≡ length book.now.rules.counters }
     requires below { (a : ℕ) → a < b → floor_in row.old a ≡ floor_of book.now marks.now.facts k a }
+    requires after { IsCutOff book.now marks.now.facts k b after }
     requires low { had ≡ true → (high : List ℤ) → floor_of book.now marks.now.facts k b ≡ Some high → EachAtMost before.now high }
     ensures { IsSetAt b (floor_of book.now marks.now.facts k b) row.old row.new }
 {
@@ -232,7 +244,7 @@ pub fn put_floor_again(
     if marks.alive(book, k, b) {
         lower_first(book, steps, marks, k, b, row, values, least);
         lower_from_all(
-            book, net, steps, marks, k, b, row, values, least, had, before,
+            book, net, steps, marks, k, b, after, row, values, least, had, before,
         );
     }
 }

@@ -12,10 +12,12 @@ ghost use Rattle.branch_marks.specs.Floors.{floors};
 ghost use Rattle.floor_rows.specs.inside.FloorRow.{floor_in, IsSetAt, IsRowOf};
 ghost use Rattle.floor_rows.specs.inside.LeastOver.{floor_of};
 ghost use Rattle.propagator.specs.inside.Moves.{MovesFloors};
+ghost use Rattle.propagator.specs.inside.CutOff.{IsCutOff};
 ghost use Rattle.propagator.specs.inside.Rising.{IsLowRow};
 ghost use Rattle.propagator.specs.inside.Touching.{IsAskedBelow, IsRenewing, IsTouched};
 
 use crate::flags::{set, set_all};
+use crate::laws::musts_cut_off;
 use crate::lowering::put_floor_again;
 use branch_marks::Marks;
 use branch_marks::laws::{alive_decides, floors_count, may_end_decides, usable_decides};
@@ -27,6 +29,24 @@ use maint_counters::StepTable;
 use tail_book::Book;
 use tail_book::laws::each_at_most_itself;
 
+// The last Must of an aircraft before an activity, looked for from one on; that one where there is none.
+fn last_must(book: &Book, marks: &Marks, k: u32, b: u32, from: u32) -> u32
+    requires marks { AreMarksOf book.now marks.now }
+    requires aircraft { k < aircraft book.now }
+    requires activity { b < activities book.now }
+    requires from { IsCutOff book.now marks.now.facts k b from }
+    ensures { IsCutOff book.now marks.now.facts k b result }
+{
+    musts_cut_off();
+    let mut last = from;
+    let mut c = marks.next_must(k, from);
+    while c < b {
+        last = c;
+        c = marks.next_must(k, c + 1);
+    }
+    last
+}
+
 // Writes the floor at an activity, and answers whether it may be another than before.
 fn rewrite(
     book: &Book,
@@ -35,6 +55,7 @@ fn rewrite(
     marks: &Marks,
     k: u32,
     b: u32,
+    after: u32,
     row: &mut FloorRow,
     values: &mut [i64],
     least: &mut [i64],
@@ -47,6 +68,7 @@ fn rewrite(
     requires activity { b < activities book.now }
     requires row { IsRowOf book.now row.old }
     requires below { (a : ℕ) → a < b → floor_in row.old a ≡ floor_of book.now marks.now.facts k a }
+    requires after { IsCutOff book.now marks.now.facts k b after }
     requires low { IsLowRow book.now marks.now.facts k row.old }
     requires width { length values.old ≡ length book.now.rules.counters }
     requires least { length least.old ≡ length book.now.rules.counters }
@@ -56,7 +78,7 @@ fn rewrite(
 {
     let had = row.read(b as usize, before);
     put_floor_again(
-        book, net, steps, marks, k, b, row, values, least, had, before,
+        book, net, steps, marks, k, b, after, row, values, least, had, before,
     );
     if had {
         !row.is(b as usize, before)
@@ -73,6 +95,7 @@ fn renew_floor(
     marks: &Marks,
     k: u32,
     b: u32,
+    after: &mut u32,
     row: &mut FloorRow,
     due: &mut [bool],
     ask: &mut [bool],
@@ -90,11 +113,13 @@ fn renew_floor(
     requires ask { length ask.old ≡ activities book.now }
     requires moved { length moved.old ≡ activities book.now }
     requires renewing { IsRenewing book.now marks.now.facts k b row.old due.old ask.old }
+    requires after { IsCutOff book.now marks.now.facts k b after.old }
     requires low { IsLowRow book.now marks.now.facts k row.old }
     requires width { length values.old ≡ length book.now.rules.counters }
     requires least { length least.old ≡ length book.now.rules.counters }
     requires before { length before.old ≡ length book.now.rules.counters }
     ensures renewing { IsRenewing book.now marks.now.facts k (b + 1) row.new due.new ask.new }
+    ensures after { IsCutOff book.now marks.now.facts k (b + 1) after.new }
     ensures low { IsLowRow book.now marks.now.facts k row.new }
     ensures moves { MovesFloors moved.old moved.new row.old row.new }
 {
@@ -110,7 +135,10 @@ fn renew_floor(
     if !due[b as usize] {
         return;
     }
-    if !rewrite(book, net, steps, marks, k, b, row, values, least, before) {
+    *after = last_must(book, marks, k, b, *after);
+    if !rewrite(
+        book, net, steps, marks, k, b, *after, row, values, least, before,
+    ) {
         return;
     }
     set_all(net.successors(b), due);
@@ -153,9 +181,10 @@ pub fn renew_floors(
 {
     floors_count();
     alive_decides();
+    let mut after = 0;
     for b in 0..book.activities.len() as u32 {
         renew_floor(
-            book, net, steps, marks, k, b, row, due, ask, moved, values, least, before,
+            book, net, steps, marks, k, b, &mut after, row, due, ask, moved, values, least, before,
         );
     }
 }

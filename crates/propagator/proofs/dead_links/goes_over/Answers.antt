@@ -6,6 +6,10 @@ use Rattle.floor_rows.specs.inside.FloorRow.{floor_in}
 use Rattle.propagator.proofs.DeadLinks.{goes_on_over, cannot_by_step, by_step, row_floor}
 use Rattle.propagator.proofs.dead_links.goes_over.Goals as goal
 
+-- it may not fly there
+pub returns-then-not-alive-clause-cannot : goal.returns-then-not-alive-clause-cannot
+returns-then-not-alive-clause-cannot c off link = absurd (both_ways c.alive.result c.if-not-alive.true (c.alive.ensures.means.1 link.after))
+
 -- the step passes a limit, or there is no floor to take it from
 pub returns-then-not-goes_on_over-clause-cannot : goal.returns-then-not-goes_on_over-clause-cannot
 returns-then-not-goes_on_over-clause-cannot c off link =
