@@ -44,24 +44,11 @@ module _ (usable : UsableDecides) (limits : LimitsDecide) (book : BookSeen) (mar
       let (link, within) = and_parts (is_usable book marks k (After a) b) (within_limits book.rules.counters (step book k (After a) b low)) (sym (some low refl) ∙ on) in
       ((usable book marks k (After a) b).0 link, (λ cannot. cannot ((limits book.rules.counters (step book k (After a) b low)).0 within)))
 
-  -- and one that may use it and does not go on cannot
-  cannot_by : (floor : Option (List ℤ)) (g : Bool) → ((low : List ℤ) → floor ≡ Some low → g ≡ goes_on_to book marks k a low b)
-      → g ≡ false → IsUsable book marks k (After a) b → CannotGoBy book k a b floor
-  cannot_by None g some off link = tt
-  cannot_by (Some low) g some off link = λ within. both_ways g off
-      (some low refl ∙ and_from (is_usable book marks k (After a) b) (within_limits book.rules.counters (step book k (After a) b low))
-      ((usable book marks k (After a) b).1 link) ((limits book.rules.counters (step book k (After a) b low)).1 within))
-
   pub goes_on_over : (floor : Option (List ℤ)) → floor ≡ floor_of book marks k a → k < aircraft book → (g : Bool)
       → ((low : List ℤ) → floor ≡ Some low → g ≡ goes_on_to book marks k a low b) → (floor ≡ None → g ≡ false) → g ≡ true → ¬ IsDeadConnection book marks a b
   goes_on_over floor e lt g some none on dead =
       let (link, goes) = goes_by floor g some none on in
       goes (subst (λ (f : Option (List ℤ)). CannotGoBy book k a b f) (sym e) (dead.dead k lt link))
-
-  pub cannot_over : (floor : Option (List ℤ)) → floor ≡ floor_of book marks k a → (g : Bool)
-      → ((low : List ℤ) → floor ≡ Some low → g ≡ goes_on_to book marks k a low b) → g ≡ false → IsUsable book marks k (After a) b
-      → CannotGoBy book k a b (floor_of book marks k a)
-  cannot_over floor e g some off link = subst (λ (f : Option (List ℤ)). CannotGoBy book k a b f) e (cannot_by floor g some off link)
 
 -- over a link that the aircraft may use, the step alone decides
 pub by_step : (book : BookSeen) (marks : List Fact) (k a b : ℕ) (low : List ℤ) (g : Bool) → is_usable book marks k (After a) b ≡ true
@@ -75,21 +62,33 @@ row_floor book marks rows k a row are lt within is =
     ap (λ (r : FloorRowSeen). floor_in r a) (is ∙ get_or_default rows k row no_row within)
     ∙ ap (λ (listed : List (Option (List ℤ))). get_or listed a None) (are k lt)
 
--- one more aircraft is asked
-pub asked_used : (book : BookSeen) (marks : List Fact) (a b n : ℕ) (used now : Bool) → AreAsked book marks a b n used → n < aircraft book
-    → IsUsable book marks n (After a) b → CannotGoBy book n a b (floor_of book marks n a) → now ≡ true → AreAsked book marks a b (n + 1) now
-asked_used book marks a b n used now asked lt link cannot e = record {
-  some = λ _. (n, lt, link);
+-- an aircraft whose step from its floor passes a limit cannot go on
+pub cannot_by_step : LimitsDecide → (book : BookSeen) (marks : List Fact) (k a b : ℕ) (floor : Option (List ℤ)) → floor ≡ floor_of book marks k a → (g : Bool)
+    → ((low : List ℤ) → floor ≡ Some low → g ≡ within_limits book.rules.counters (step book k (After a) b low)) → g ≡ false
+    → CannotGoBy book k a b (floor_of book marks k a)
+cannot_by_step limits book marks k a b floor e g some off = subst (λ (f : Option (List ℤ)). CannotGoBy book k a b f) e (by_floor floor some)
+  where
+    by_floor : (f : Option (List ℤ)) → ((low : List ℤ) → f ≡ Some low → g ≡ within_limits book.rules.counters (step book k (After a) b low)) → CannotGoBy book k a b f
+    by_floor None step_is = tt
+    by_floor (Some low) step_is = λ within. both_ways g off (step_is low refl ∙ (limits book.rules.counters (step book k (After a) b low)).1 within)
+
+-- one more aircraft is asked: where one may use the link already, only whether it goes on
+pub asked_still : (book : BookSeen) (marks : List Fact) (a b n : ℕ) (used now : Bool) → AreAsked book marks a b n used
+    → (IsUsable book marks n (After a) b → CannotGoBy book n a b (floor_of book marks n a)) → used ≡ true → now ≡ true → AreAsked book marks a b (n + 1) now
+asked_still book marks a b n used now asked cannot was e = record {
+  some = λ _. asked.some was;
   none = λ off. absurd (both_ways now off e);
-  dead = below_more (λ (k : ℕ). IsUsable book marks k (After a) b → CannotGoBy book k a b (floor_of book marks k a)) n asked.dead (λ _. cannot);
+  dead = below_more (λ (k : ℕ). IsUsable book marks k (After a) b → CannotGoBy book k a b (floor_of book marks k a)) n asked.dead cannot;
 }
 
-pub asked_unused : (book : BookSeen) (marks : List Fact) (a b n : ℕ) (used now : Bool) → AreAsked book marks a b n used
-    → ¬ IsUsable book marks n (After a) b → now ≡ used → AreAsked book marks a b (n + 1) now
-asked_unused book marks a b n used now asked not e = record {
-  some = λ on. asked.some (sym e ∙ on);
-  none = λ off. below_more (λ (k : ℕ). ¬ IsUsable book marks k (After a) b) n (asked.none (sym e ∙ off)) not;
-  dead = below_more (λ (k : ℕ). IsUsable book marks k (After a) b → CannotGoBy book k a b (floor_of book marks k a)) n asked.dead (λ link. absurd (not link));
+-- and else whether it may use the link too
+pub asked_now : (book : BookSeen) (marks : List Fact) (a b n : ℕ) (used now may : Bool) → AreAsked book marks a b n used → n < aircraft book
+    → (IsUsable book marks n (After a) b → CannotGoBy book n a b (floor_of book marks n a)) → used ≡ false
+    → (may ≡ true → IsUsable book marks n (After a) b) → (IsUsable book marks n (After a) b → may ≡ true) → now ≡ may → AreAsked book marks a b (n + 1) now
+asked_now book marks a b n used now may asked lt cannot not link test e = record {
+  some = λ on. (n, lt, link (sym e ∙ on));
+  none = λ off. below_more (λ (k : ℕ). ¬ IsUsable book marks k (After a) b) n (asked.none not) (λ usable. both_ways may (sym e ∙ off) (test usable));
+  dead = below_more (λ (k : ℕ). IsUsable book marks k (After a) b → CannotGoBy book k a b (floor_of book marks k a)) n asked.dead cannot;
 }
 
 -- those from n to m are not alive at a, so none of them may use the link

@@ -16,3 +16,7 @@ pub mod SetFlags
 pub mod RenewedFloors
 pub mod MovedFloors
 pub mod StillGoing
+pub mod RisingFloors
+pub mod LoweredFloors
+pub mod LowRows
+pub mod CutOffs

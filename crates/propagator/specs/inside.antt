@@ -9,3 +9,5 @@ pub mod Suspects
 pub mod Work
 pub mod Unnamed
 pub mod Cutting
+pub mod Rising
+pub mod CutOff

@@ -1,15 +1,19 @@
 //! Dead connections: links that some aircraft may use, and over which none can go on.
 //!
 //! A Cut of such a link leaves all floors, and nothing follows from it that did not follow before. So one pass over the
-//! links of the network finds them all. Each that is suspect is judged, once. Only aircraft that are alive at both ends are asked, and place and
-//! time before a step is taken. For most links the first of them goes on, and the question is answered by one step.
+//! links of the network finds them all. Each that is suspect is judged, once. Only aircraft that are alive at its first
+//! activity are asked, and the one first that went on over the link before. For most links that one goes on too, and the
+//! question is answered by one step.
 
-ghost use Rattle.std.specs.Prelude.{◌≡◌, ◌<◌, ◌↔◌, ℕ, false, IsTrue, OnOk, length};
+ghost use Rattle.std.specs.Prelude.{◌≡◌, ◌<◌, ◌↔◌, ℕ, true, false, IsTrue, OnOk, length};
 ghost use Rattle.tail_book.specs.Lookup.{activities, aircraft};
 ghost use Rattle.maint_counters.specs.inside.StepTable.{IsStepTableOf};
 ghost use Rattle.connection_net.specs.Net.{net_of};
 ghost use Rattle.branch_marks.specs.inside.MarkTables.{AreMarksOf};
-ghost use Rattle.branch_marks.specs.Following.{IsDeadConnection, IsShutForFloors};
+ghost use Rattle.tail_book.specs.declared.place.Place.TheVariants.{After as PlaceAfter};
+ghost use Rattle.branch_marks.specs.Following.{CannotGoBy, IsDeadConnection, IsShutForFloors};
+ghost use Rattle.branch_marks.specs.Marks.{IsUsable};
+ghost use Rattle.floor_rows.specs.inside.LeastOver.{floor_of};
 ghost use Rattle.propagator.specs.inside.Rows.{AreRowsOf};
 ghost use Rattle.propagator.specs.InTurn.{GrowInTurn};
 ghost use Rattle.propagator.specs.inside.Suspects.{is_suspect};
@@ -28,11 +32,47 @@ use maint_counters::StepTable;
 use tail_book::laws::limits_decide;
 use tail_book::{Book, Memory, Place};
 
-// Whether a link is a dead connection.
-fn is_dead_link(
+// Whether an aircraft may use a link and goes on over it.
+// The step comes before the other marks: it is a few reads, and decides more often.
+fn goes_over(
     book: &Book,
     steps: &StepTable,
     marks: &Marks,
+    k: u32,
+    a: u32,
+    b: u32,
+    rows: &[FloorRow],
+    values: &mut [i64],
+) -> bool
+    requires steps { IsStepTableOf book.now steps.now }
+    requires marks { AreMarksOf book.now marks.now }
+    requires aircraft { k < aircraft book.now }
+    requires from { a < activities book.now }
+    requires to { b < activities book.now }
+    requires rows { AreRowsOf book.now rows.now }
+    requires floors { AreFloorsOf book.now marks.now.facts rows.now }
+    requires width { length values.old ≡ length book.now.rules.counters }
+    ensures goes { result ≡ true → ¬ IsDeadConnection book.now marks.now.facts a b }
+    ensures cannot { result ≡ false → IsUsable book.now marks.now.facts k (PlaceAfter a) b → CannotGoBy book.now k a b (floor_of book.now marks.now.facts k a) }
+{
+    alive_decides();
+    usable_decides();
+    limits_decide();
+    if !marks.alive(book, k, b) {
+        return false;
+    }
+    if !goes_on_over(book, steps, k, a, b, &rows[k as usize], values) {
+        return false;
+    }
+    marks.usable(book, k, Place::After(a), b)
+}
+
+// Whether the aircraft that went on last, if there is one, goes on over a link too.
+fn last_goes_over(
+    book: &Book,
+    steps: &StepTable,
+    marks: &Marks,
+    last: u32,
     a: u32,
     b: u32,
     rows: &[FloorRow],
@@ -45,24 +85,48 @@ fn is_dead_link(
     requires rows { AreRowsOf book.now rows.now }
     requires floors { AreFloorsOf book.now marks.now.facts rows.now }
     requires width { length values.old ≡ length book.now.rules.counters }
+    ensures { result ≡ true → ¬ IsDeadConnection book.now marks.now.facts a b }
+{
+    (last as usize) < book.tails.len() && goes_over(book, steps, marks, last, a, b, rows, values)
+}
+
+// Whether a link is a dead connection. Who goes on over it is noted, and asked first at the next link.
+fn is_dead_link(
+    book: &Book,
+    steps: &StepTable,
+    marks: &Marks,
+    a: u32,
+    b: u32,
+    rows: &[FloorRow],
+    values: &mut [i64],
+    last: &mut u32,
+) -> bool
+    requires steps { IsStepTableOf book.now steps.now }
+    requires marks { AreMarksOf book.now marks.now }
+    requires from { a < activities book.now }
+    requires to { b < activities book.now }
+    requires rows { AreRowsOf book.now rows.now }
+    requires floors { AreFloorsOf book.now marks.now.facts rows.now }
+    requires width { length values.old ≡ length book.now.rules.counters }
     ensures { IsTrue result ↔ IsDeadConnection book.now marks.now.facts a b }
 {
     alive_decides();
     usable_decides();
-    limits_decide();
     marks.facts_are_of_book(book);
+    if last_goes_over(book, steps, marks, *last, a, b, rows, values) {
+        return false;
+    }
     if marks.has(Fact::Cut(a, b)) {
         return false;
     }
     let mut used = false;
     let mut k = marks.next_alive(book, a, 0);
     while (k as usize) < book.tails.len() {
-        if marks.usable(book, k, Place::After(a), b) {
-            if goes_on_over(book, steps, k, a, b, &rows[k as usize], values) {
-                return false;
-            }
-            used = true;
+        if goes_over(book, steps, marks, k, a, b, rows, values) {
+            *last = k;
+            return false;
         }
+        used = used || marks.usable(book, k, Place::After(a), b);
         k = marks.next_alive(book, a, k + 1);
     }
     used
@@ -78,6 +142,7 @@ fn cut_link(
     b: u32,
     rows: &[FloorRow],
     values: &mut [i64],
+    last: &mut u32,
 ) -> Result<(), Memory>
     requires steps { IsStepTableOf book.now steps.now }
     requires marks { AreMarksOf book.now marks.old }
@@ -96,7 +161,7 @@ fn cut_link(
     floors_count();
     cuts_take_no_floor();
     cuts_make_nothing_follow();
-    if !is_dead_link(book, steps, marks, a, b, rows, values) {
+    if !is_dead_link(book, steps, marks, a, b, rows, values, last) {
         return Ok(());
     }
     add_next(book, marks, facts, Fact::Cut(a, b))
@@ -115,6 +180,7 @@ fn cut_suspect(
     pass: &[u32],
     rows: &[FloorRow],
     values: &mut [i64],
+    last: &mut u32,
 ) -> Result<(), Memory>
     requires steps { IsStepTableOf book.now steps.now }
     requires marks { AreMarksOf book.now marks.old }
@@ -137,7 +203,7 @@ fn cut_suspect(
     if !is_suspect(a, b, leave, arrive, pass) {
         return Ok(());
     }
-    cut_link(book, steps, marks, facts, a, b, rows, values)
+    cut_link(book, steps, marks, facts, a, b, rows, values, last)
 }
 
 // Cuts each dead connection from an activity.
@@ -175,9 +241,10 @@ fn cut_links_of(
     rows_for_each();
     successors_are_of_book();
     successors_are_links();
+    let mut last = u32::MAX;
     for b in net.successors(a) {
         cut_suspect(
-            book, steps, marks, facts, a, *b, leave, arrive, pass, rows, values,
+            book, steps, marks, facts, a, *b, leave, arrive, pass, rows, values, &mut last,
         )?;
     }
     Ok(())

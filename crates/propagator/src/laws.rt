@@ -2,12 +2,19 @@
 
 ghost use Rattle.propagator.specs.inside.SameFor.{SameFloors, SameDead, BarsLeaveOthers, MustsLeaveOthers};
 ghost use Rattle.propagator.specs.inside.OneMore.{BarsTakeOneFloor, BarsKillNothingLater, BarsKillPredecessors, CutsTakeNoFloor, CutsMakeNothingFollow};
+ghost use Rattle.propagator.specs.inside.CutOff.{MustsCutOff};
+ghost use Rattle.propagator.specs.inside.Rising.{FloorsRise};
 ghost use Rattle.propagator.specs.Keeping.{KeptForMore};
 
-use branch_marks::laws::{alive_decides, may_end_decides, usable_decides};
+use branch_marks::laws::{
+    alive_decides, floors_are_low, has_fact_decides, may_end_decides, usable_decides,
+};
 use connection_net::laws::predecessors_are_links;
 use floor_rows::laws::{brought_tells, floors_are_least, least_are_floors};
-use tail_book::laws::{limits_decide, links_rise};
+use tail_book::laws::{
+    each_at_most_chains, each_at_most_itself, limits_decide, links_rise, lower_stays_within,
+    steps_keep_order,
+};
 
 /// Marks that leave an aircraft the same leave it the same floors.
 pub fn same_floors()
@@ -85,6 +92,28 @@ pub fn cuts_make_nothing_follow()
     alive_decides();
     usable_decides();
     may_end_decides();
+}
+
+/// Floors never fall while marks grow.
+pub fn floors_rise()
+    ensures { FloorsRise }
+{
+    floors_are_low();
+    floors_are_least();
+    each_at_most_itself();
+    each_at_most_chains();
+    steps_keep_order();
+    lower_stays_within();
+    usable_decides();
+    limits_decide();
+}
+
+/// A Must of an aircraft cuts off what lies before its activity.
+pub fn musts_cut_off()
+    ensures { MustsCutOff }
+{
+    usable_decides();
+    has_fact_decides();
 }
 
 /// A propagator that is kept for marks is kept for them with more facts behind theirs.

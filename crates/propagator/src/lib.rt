@@ -10,6 +10,7 @@ mod flags;
 mod hole;
 mod keeping;
 pub mod laws;
+mod lowering;
 mod renewing;
 mod settling;
 mod suspects;

@@ -45,6 +45,7 @@ fn settle(
     ask: &mut [bool],
     moved: &mut [bool],
     values: &mut [i64],
+    least: &mut [i64],
     before: &mut [i64],
 ) -> Result<(), Memory>
     requires net { net.now ≡ net_of book.now }
@@ -57,6 +58,7 @@ fn settle(
     requires ask { length ask.old ≡ activities book.now }
     requires moved { length moved.old ≡ activities book.now }
     requires width { length values.old ≡ length book.now.rules.counters }
+    requires least { length least.old ≡ length book.now.rules.counters }
     requires before { length before.old ≡ length book.now.rules.counters }
     ensures marks { AreMarksOf book.now marks.new }
     ensures grows { GrowInTurn book.now marks.old.facts marks.new.facts facts.old.items facts.new.items }
@@ -69,7 +71,7 @@ fn settle(
     floors_count();
     touch_since(book, net, marks, seen, k, row, due, ask);
     renew_floors(
-        book, net, steps, marks, k, row, due, ask, moved, values, before,
+        book, net, steps, marks, k, row, due, ask, moved, values, least, before,
     );
     bar_dead(book, net, steps, marks, facts, k, row, ask, values)
 }
@@ -116,6 +118,7 @@ pub fn settle_at(
         &mut work.ask,
         &mut work.leave,
         &mut work.values,
+        &mut work.least,
         &mut work.before,
     )
 }

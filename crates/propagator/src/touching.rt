@@ -4,19 +4,20 @@
 //! predecessors. A Must of its own takes all links over it, and the ends before it. A Cut and a Tie take the links that
 //! they part. Nothing else changes for it.
 
-ghost use Rattle.std.specs.Prelude.{◌≡◌, ◌≢◌, ◌<◌, ◌≤◌, ◌++◌, ◌∷◌, [], List, Option, All, length, take};
+ghost use Rattle.std.specs.Prelude.{◌≡◌, ◌≢◌, ◌<◌, ◌≤◌, ◌++◌, ◌∷◌, [], ℕ, List, Option, None, All, length, take};
 ghost use Rattle.tail_book.specs.Lookup.{activities, aircraft};
 ghost use Rattle.connection_net.specs.Net.{net_of};
 ghost use Rattle.branch_marks.specs.declared.fact.Fact.{Fact as MarkFact};
 ghost use Rattle.branch_marks.specs.declared.fact.Fact.TheVariants.{Bar as FactBar, Must as FactMust, Cut as FactCut, Tie as FactTie};
 ghost use Rattle.branch_marks.specs.Facts.{IsFactOf};
 ghost use Rattle.branch_marks.specs.inside.MarkTables.{AreMarksOf};
-ghost use Rattle.floor_rows.specs.inside.FloorRow.{IsRowOf};
+ghost use Rattle.floor_rows.specs.inside.FloorRow.{floor_in, IsRowOf};
 ghost use Rattle.propagator.specs.inside.Moves.{LosesFloors};
+ghost use Rattle.propagator.specs.inside.Rising.{IsLowRow};
 ghost use Rattle.propagator.specs.inside.Touching.{IsTouched, IsReadyFor, LosesOnly, Touches};
 
 use crate::flags::{clear, set, set_all, set_each, set_from};
-use crate::laws::bars_leave_others;
+use crate::laws::{bars_leave_others, floors_rise};
 use branch_marks::laws::{alive_decides, may_end_decides, usable_decides};
 use branch_marks::{Fact, Marks};
 use connection_net::Net;
@@ -26,6 +27,7 @@ use floor_rows::laws::{
     brought_tells, floors_are_least, predecessors_are_of_book, successors_are_of_book,
 };
 use tail_book::Book;
+use tail_book::laws::every_book_is_sound;
 
 // An aircraft loses an activity. Where it could not come there, and nothing was to be asked, it did not have it.
 fn lose(
@@ -236,6 +238,18 @@ fn touch_each(
     }
 }
 
+// Takes all floors away: they are of other marks.
+fn lose_floors(book: &Book, row: &mut FloorRow)
+    requires row { IsRowOf book.now row.old }
+    ensures row { IsRowOf book.now row.new }
+    ensures loses { LosesFloors row.old row.new }
+    ensures none { (a : ℕ) → a < activities book.now → floor_in row.new a ≡ None }
+{
+    for a in 0..book.activities.len() {
+        row.clear(a);
+    }
+}
+
 /// Flags what the facts that were not seen yet touch of an aircraft: all, where none was seen.
 pub fn touch_since(
     book: &Book,
@@ -257,13 +271,17 @@ pub fn touch_since(
     ensures row { IsRowOf book.now row.new }
     ensures loses { LosesFloors row.old row.new }
     ensures touched { IsTouched book.now marks.now.facts k row.new due.new ask.new }
+    ensures low { IsLowRow book.now marks.now.facts k row.new }
 {
+    every_book_is_sound(book);
     alive_decides();
     floors_are_least();
+    floors_rise();
     brought_tells();
     marks.facts_are_of_book(book);
     match seen {
         None => {
+            lose_floors(book, row);
             set_each(due);
             set_each(ask);
         }

@@ -1,5 +1,5 @@
 //! Room for the work on one aircraft: which floors are due, which activities are to be asked whether they are dead, and the
-//! values of two floors; and for all aircraft, which links are to be asked whether they are dead. It is made once.
+//! values of three floors; and for all aircraft, which links are to be asked whether they are dead. It is made once.
 
 ghost use Rattle.std.specs.Prelude.{IfOk};
 ghost use Rattle.propagator.specs.inside.Work.{IsWorkOf};
@@ -18,8 +18,9 @@ pub struct Work {
     pub arrive: Vec<bool>,
     /// For each activity the least Must behind it over which links from it may be dead.
     pub pass: Vec<u32>,
-    /// The values of a floor, and those of the one before it.
+    /// The values that a place brings, the least of those so far, and what the floor was before.
     pub values: Vec<i64>,
+    pub least: Vec<i64>,
     pub before: Vec<i64>,
 }
 
@@ -36,6 +37,7 @@ impl Work {
             arrive: vec![in alloc; false; n]?,
             pass: vec![in alloc; 0; n]?,
             values: vec![in alloc; 0; width]?,
+            least: vec![in alloc; 0; width]?,
             before: vec![in alloc; 0; width]?,
         })
     }

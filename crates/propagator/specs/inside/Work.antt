@@ -4,7 +4,7 @@ use Rattle.tail_book.specs.Seen.{BookSeen}
 use Rattle.tail_book.specs.Lookup.{activities}
 use Rattle.propagator.specs.declared.work.Work.{Work}
 
--- there are four flags and a number for each activity, and room twice for the values of a floor
+-- there are four flags and a number for each activity, and room three times for the values of a floor
 pub record IsWorkOf (book : BookSeen) (work : Work) : Type 0 where
   pub due : length work.due.items ≡ activities book
   pub ask : length work.ask.items ≡ activities book
@@ -12,4 +12,5 @@ pub record IsWorkOf (book : BookSeen) (work : Work) : Type 0 where
   pub arrive : length work.arrive.items ≡ activities book
   pub pass : length work.pass.items ≡ activities book
   pub values : length work.values.items ≡ length book.rules.counters
+  pub least : length work.least.items ≡ length book.rules.counters
   pub before : length work.before.items ≡ length book.rules.counters

@@ -1,9 +1,11 @@
-use Rattle.std.proofs.Common.{◌∙◌, ap, refl}
+use Rattle.std.proofs.Common.{◌∙◌, ◌+◌, ap, arith, refl}
 use Rattle.connection_net.specs.Seen.{NetSeen}
 use Rattle.connection_net.specs.Net.{successors_in}
 use Rattle.propagator.proofs.SetFlags.{set_by}
 use Rattle.propagator.proofs.RenewedFloors.{renew_not, renew_same, renew_other}
 use Rattle.propagator.proofs.MovedFloors.{moves_none, moves_same, moves_one}
+use Rattle.propagator.proofs.CutOffs.{cut_off_later}
+use Rattle.propagator.proofs.LowRows.{set_low}
 use Rattle.propagator.proofs.renewing.renew_floor.Goals as goal
 
 pub returns-then-not-due-b-clause-renewing : goal.returns-then-not-due-b-clause-renewing
@@ -33,3 +35,21 @@ returns-then-not-rewrite-clause-moves c =
 
 pub returns-clause-moves : goal.returns-clause-moves
 returns-clause-moves c = moves_one c.args.moved.now c.set-2.new.flags c.args.b _ c.args.row.now c.rewrite.new.row c.if-not-rewrite.ensures.set c.set-2.ensures
+
+pub returns-then-not-rewrite-clause-low : goal.returns-then-not-rewrite-clause-low
+returns-then-not-rewrite-clause-low c =
+    set_low c.args.book.now c.args.marks.now.facts c.args.k c.each_at_most_itself.ensures c.args.b c.args.row.now c.rewrite.new.row c.if-not-rewrite.ensures.set c.requires.low
+
+pub returns-clause-low : goal.returns-clause-low
+returns-clause-low c =
+    set_low c.args.book.now c.args.marks.now.facts c.args.k c.each_at_most_itself.ensures c.args.b c.args.row.now c.rewrite.new.row c.if-not-rewrite.ensures.set c.requires.low
+
+pub returns-then-not-due-b-clause-after : goal.returns-then-not-due-b-clause-after
+returns-then-not-due-b-clause-after c = cut_off_later c.args.book.now c.args.marks.now.facts c.args.k c.args.b (c.args.b + 1) c.args.after.now (omega arith) c.requires.after
+
+pub returns-then-not-rewrite-clause-after : goal.returns-then-not-rewrite-clause-after
+returns-then-not-rewrite-clause-after c =
+    cut_off_later c.args.book.now c.args.marks.now.facts c.args.k c.args.b (c.args.b + 1) c.last_must.result (omega arith) c.last_must.ensures
+
+pub returns-clause-after : goal.returns-clause-after
+returns-clause-after c = cut_off_later c.args.book.now c.args.marks.now.facts c.args.k c.args.b (c.args.b + 1) c.last_must.result (omega arith) c.last_must.ensures

@@ -1,0 +1,142 @@
+-- Taking in the predecessors of an activity one by one, the last of them first.
+use Rattle.std.specs.Prelude.{◌≢◌, All, if◌then◌else◌}
+use Rattle.std.proofs.Common.{◌≡◌, ◌∙◌, ℕ, ℤ, ◌<◌, ◌+◌, Bool, true, false, List, [], ◌∷◌, ◌++◌, length, take, get_or, ap, arith, refl, sym, subst, Option, None, Some}
+use Rattle.std.specs.Int.{int_min}
+use Rattle.std.proofs.lemmas.Int.{ints, clamps}
+use Rattle.std.proofs.lemmas.List.{take_more}
+use Rattle.std.specs.List.{range_with_len}
+use Rattle.tail_book.specs.Seen.{BookSeen}
+use Rattle.tail_book.specs.declared.place.Place.TheVariants.{After}
+use Rattle.tail_book.specs.Lookup.{activities}
+use Rattle.tail_book.specs.inside.Order.{EachAtMost}
+use Rattle.branch_marks.specs.declared.fact.Fact.{Fact}
+use Rattle.branch_marks.specs.Floors.{lesser, lesser_floor, stepped_floor}
+use Rattle.floor_rows.specs.inside.FloorRow.{FloorRowSeen, floor_in, IsSetAt, IsRowOf}
+use Rattle.floor_rows.specs.inside.LeastOver.{floor_of, least_over, brought, brought_first, FloorsAreLeast}
+
+-- what is there at b, lowered to what is left to take in, is the floor; the rest is as it was
+pub record IsLowering (book : BookSeen) (marks : List Fact) (k b : ℕ) (first row : FloorRowSeen) (left : List ℕ) : Type 0 where
+  pub width : row.width ≡ first.width
+  pub count : length row.floors ≡ length first.floors
+  pub whole : lesser_floor (floor_in row b) (least_over (brought book marks k b (floor_of book marks k)) left) ≡ floor_of book marks k b
+  pub others : (a : ℕ) → a ≢ b → floor_in row a ≡ floor_in first a
+
+-- the lesser of three does not depend on their order
+lesser_in_turn : (us vs ws : List ℤ) → lesser (lesser us vs) ws ≡ lesser us (lesser vs ws)
+lesser_in_turn [] vs ws = refl
+lesser_in_turn (u ∷ us) [] ws = refl
+lesser_in_turn (u ∷ us) (v ∷ vs) [] = refl
+lesser_in_turn (u ∷ us) (v ∷ vs) (w ∷ ws) =
+    let here : int_min (int_min u v) w ≡ int_min u (int_min v w) = omega (arith, ints, clamps) in
+    ap (λ (z : ℤ). z ∷ lesser (lesser us vs) ws) here ∙ ap (λ (rest : List ℤ). int_min u (int_min v w) ∷ rest) (lesser_in_turn us vs ws)
+
+lesser_either : (us vs : List ℤ) → lesser us vs ≡ lesser vs us
+lesser_either [] [] = refl
+lesser_either [] (v ∷ vs) = refl
+lesser_either (u ∷ us) [] = refl
+lesser_either (u ∷ us) (v ∷ vs) =
+    let here : int_min u v ≡ int_min v u = omega (arith, ints, clamps) in
+    ap (λ (z : ℤ). z ∷ lesser us vs) here ∙ ap (λ (rest : List ℤ). int_min v u ∷ rest) (lesser_either us vs)
+
+floor_in_turn : (f g h : Option (List ℤ)) → lesser_floor (lesser_floor f g) h ≡ lesser_floor f (lesser_floor g h)
+floor_in_turn None g h = refl
+floor_in_turn (Some us) None h = refl
+floor_in_turn (Some us) (Some vs) None = refl
+floor_in_turn (Some us) (Some vs) (Some ws) = ap (λ (l : List ℤ). Some l) (lesser_in_turn us vs ws)
+
+floor_either : (f g : Option (List ℤ)) → lesser_floor f g ≡ lesser_floor g f
+floor_either None None = refl
+floor_either None (Some vs) = refl
+floor_either (Some us) None = refl
+floor_either (Some us) (Some vs) = ap (λ (l : List ℤ). Some l) (lesser_either us vs)
+
+-- nothing more is the same
+pub lesser_none : (f : Option (List ℤ)) → lesser_floor f None ≡ f
+lesser_none None = refl
+lesser_none (Some us) = refl
+
+least_last : (h : ℕ → Option (List ℤ)) (xs : List ℕ) (x : ℕ) → least_over h (xs ++ x ∷ []) ≡ lesser_floor (least_over h xs) (h x)
+least_last h [] x = lesser_none (h x)
+least_last h (y ∷ ys) x = ap (λ (rest : Option (List ℤ)). lesser_floor (h y) rest) (least_last h ys x) ∙ sym (floor_in_turn (h y) (least_over h ys) (h x))
+
+-- one more of those that are left is taken in
+one_taken : (f g rest : Option (List ℤ)) → lesser_floor (lesser_floor f g) rest ≡ lesser_floor f (lesser_floor rest g)
+one_taken f g rest = floor_in_turn f g rest ∙ ap (λ (h : Option (List ℤ)). lesser_floor f h) (floor_either g rest)
+
+-- what is lowered to others and is no lower than they are is what it was
+lesser_back : (us vs : List ℤ) → EachAtMost us (lesser us vs) → lesser us vs ≡ us
+lesser_back [] vs low = refl
+lesser_back (u ∷ us) [] low = absurd low
+lesser_back (u ∷ us) (v ∷ vs) low =
+    let le = low.0 in
+    let here : int_min u v ≡ u = omega (arith, ints, clamps, le) in
+    ap (λ (z : ℤ). z ∷ lesser us vs) here ∙ ap (λ (rest : List ℤ). u ∷ rest) (lesser_back us vs low.1)
+
+floor_back : (us : List ℤ) (rest floor : Option (List ℤ)) → lesser_floor (Some us) rest ≡ floor → ((high : List ℤ) → floor ≡ Some high → EachAtMost us high) → Some us ≡ floor
+floor_back us None floor e low = e
+floor_back us (Some vs) floor e low = ap (λ (l : List ℤ). Some l) (sym (lesser_back us vs (low (lesser us vs) (sym e)))) ∙ e
+
+module _ (book : BookSeen) (marks : List Fact) (k b : ℕ) (first : FloorRowSeen) (below : (a : ℕ) → a < b → floor_in first a ≡ floor_of book marks k a) where
+  next_lowered : (row new : FloorRowSeen) (left : List ℕ) (x : ℕ) → x < b → IsLowering book marks k b first row (left ++ x ∷ [])
+      → IsSetAt b (lesser_floor (floor_in row b) (brought book marks k b (floor_in row) x)) row new → IsLowering book marks k b first new left
+  next_lowered row new left x lt way set = record {
+    width = set.width ∙ way.width;
+    count = set.count ∙ way.count;
+    whole =
+        ap (λ (f : Option (List ℤ)). lesser_floor f (least_over brings left)) set.here
+        ∙ ap (λ (f : Option (List ℤ)). lesser_floor (lesser_floor (floor_in row b) (stepped_floor book marks k (After x) b f)) (least_over brings left)) known
+        ∙ one_taken (floor_in row b) (brings x) (least_over brings left)
+        ∙ ap (λ (rest : Option (List ℤ)). lesser_floor (floor_in row b) rest) (sym (least_last brings left x))
+        ∙ way.whole;
+    others = λ a ne. set.others a ne ∙ way.others a ne;
+  }
+    where
+      brings : ℕ → Option (List ℤ)
+      brings = brought book marks k b (floor_of book marks k)
+
+      known : floor_in row x ≡ floor_of book marks k x
+      known = let apart : x ≢ b = omega (arith, lt) in way.others x apart ∙ below x lt
+
+  pub next_of : (row new : FloorRowSeen) (items : List ℕ) (i : ℕ) → i < length items → All (λ x. x < b) items → IsLowering book marks k b first row (take (i + 1) items)
+      → IsSetAt b (lesser_floor (floor_in row b) (brought book marks k b (floor_in row) (get_or items i 0))) row new → IsLowering book marks k b first new (take i items)
+  next_of row new items i within all way set =
+      next_lowered row new (take i items) (get_or items i 0) (all i 0 within)
+      (subst (λ (left : List ℕ). IsLowering book marks k b first row left) (take_more items i 0 within) way) set
+
+  -- at the end the floor is there
+  pub all_lowered : (row : FloorRowSeen) → IsLowering book marks k b first row [] → IsSetAt b (floor_of book marks k b) first row
+  all_lowered row way = record { width = way.width; count = way.count; here = sym (lesser_none (floor_in row b)) ∙ way.whole; others = way.others }
+
+  -- and so it is once it is what it was
+  pub back_lowered : (row : FloorRowSeen) (before : List ℤ) (left : List ℕ) → IsLowering book marks k b first row left → floor_in row b ≡ Some before
+      → ((high : List ℤ) → floor_of book marks k b ≡ Some high → EachAtMost before high) → IsSetAt b (floor_of book marks k b) first row
+  back_lowered row before left way is low = record {
+    width = way.width;
+    count = way.count;
+    here = is ∙ floor_back before (least_over (brought book marks k b (floor_of book marks k)) left) (floor_of book marks k b)
+        (ap (λ (f : Option (List ℤ)). lesser_floor f (least_over (brought book marks k b (floor_of book marks k)) left)) (sym is) ∙ way.whole) low;
+    others = way.others;
+  }
+
+  -- at first all are left
+  pub none_lowered : FloorsAreLeast → b < activities book → floor_in first b ≡ brought_first book marks k b → (items : List ℕ)
+      → least_over (brought book marks k b (floor_of book marks k)) items ≡ least_over (brought book marks k b (floor_of book marks k)) (range_with_len 0 b)
+      → IsLowering book marks k b first first items
+  none_lowered least lt carried items all = record {
+    width = refl;
+    count = refl;
+    whole = ap (λ (f : Option (List ℤ)). lesser_floor f (least_over (brought book marks k b (floor_of book marks k)) items)) carried
+        ∙ ap (λ (rest : Option (List ℤ)). lesser_floor (brought_first book marks k b) rest) all
+        ∙ sym (least book marks k b lt);
+    others = λ a ne. refl;
+  }
+
+-- where what is brought lowers nothing, the row is as it is to be
+pub set_to_same : (b : ℕ) (row : FloorRowSeen) (more : Option (List ℤ)) → lesser_floor (floor_in row b) more ≡ floor_in row b
+    → IsSetAt b (lesser_floor (floor_in row b) more) row row
+set_to_same b row more e = record { width = refl; count = refl; here = sym e; others = λ a ne. refl }
+
+-- values that are no lower lower nothing, whether the link may be used or not
+pub no_lower : (least values : List ℤ) (t : Bool) → lesser least values ≡ least → lesser_floor (Some least) (if t then Some values else None) ≡ Some least
+no_lower least values true e = ap (λ (l : List ℤ). Some l) e
+no_lower least values false e = refl
