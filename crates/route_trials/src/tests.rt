@@ -6,6 +6,7 @@ mod questions;
 mod routes;
 mod weights;
 
+use branch_marks::Fact;
 use std::alloc::Global;
 use std::test::Fail;
 use tail_book::*;
@@ -29,4 +30,14 @@ fn twice(alloc: Global, limit: i64, resets: bool) -> Result<Book, Fail> {
     let landings = counters(alloc, 0, &[(CounterKind::Landings, limit, 60)])?;
     let bands = bands(alloc, &[(59, 0), (10_000_000, 500)])?;
     book(alloc, &rows, &[0, 1], 30, landings, bands)
+}
+
+// The facts that have the first aircraft fly all four flights.
+fn musts() -> [Fact; 4] {
+    [
+        Fact::Must(0, 0),
+        Fact::Must(0, 1),
+        Fact::Must(0, 3),
+        Fact::Must(0, 4),
+    ]
 }

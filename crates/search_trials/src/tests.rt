@@ -8,6 +8,7 @@ mod branching;
 mod certificates;
 mod limits;
 mod logs;
+mod memory;
 mod nodes;
 mod worked;
 

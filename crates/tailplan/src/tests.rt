@@ -8,6 +8,7 @@ mod families;
 mod faults;
 mod limits;
 mod links;
+mod memory;
 mod name_faults;
 mod permissions;
 mod plans;
@@ -46,7 +47,7 @@ const TWO: &str = "A1,P,ARN,2025-03-03T05:00,0,,,\nA2,P,ARN,2025-03-03T05:00,0,,
 
 /// How a run ended, and what it printed.
 #[derive(Debug, Drop)]
-struct Seen {
+pub struct Seen {
     status: u8,
     printed: Vec<u8>,
 }

@@ -15,6 +15,7 @@ use trial_books::{
 };
 
 mod chance;
+mod memory;
 
 // Whether the table is one of the book.
 fn is_for(book: &Book, table: &CostTable) -> bool

@@ -8,7 +8,7 @@ ghost use Rattle.branch_marks.specs.Settled.{AreDuals};
 ghost use Rattle.branch_marks.specs.inside.MarkTables.{AreMarksOf};
 ghost use Rattle.pricing.specs.Price.{IsPriceOf};
 
-use super::twice;
+use super::{musts, twice};
 use branch_marks::{Fact, Marks};
 use connection_net::Net;
 use label_store::Store;
@@ -20,6 +20,7 @@ use tail_book::*;
 use trial_books::{are_duals, costs, duals_of, flight, marks, plain_book, there_and_back};
 
 mod chance;
+mod memory;
 
 // A store for the book.
 fn store(alloc: Global, book: &Book) -> Result<Store, Memory>
@@ -292,25 +293,19 @@ fn two_types(rt: HostRuntime) -> Result<(), Fail> {
     Ok(())
 }
 
+// Whether the answer is this weight and this route.
+fn is_route(answer: &Option<Priced>, weight: i64, flown: &[u32]) -> bool {
+    match answer {
+        Some(Priced::Best { value, route }) => *value == weight && route.0.as_slice() == flown,
+        _ => false,
+    }
+}
+
 // Whether the first aircraft, which must fly all four flights, weighs so much by this route.
 fn is_dear(alloc: Global, limit: i64, weight: i64, route: &[u32]) -> Result<bool, Fail> {
-    let musts = [
-        Fact::Must(0, 0),
-        Fact::Must(0, 1),
-        Fact::Must(0, 3),
-        Fact::Must(0, 4),
-    ];
     let book = twice(alloc, limit, false)?;
-    let answer = priced(alloc, &book, &musts, &[0, 0, 0, 0, 0], 0)?;
-    Ok(match answer {
-        Some(
-            Priced::Best {
-                value,
-                route: answered,
-            },
-        ) => value == weight && answered.0.as_slice() == route,
-        _ => false,
-    })
+    let answer = priced(alloc, &book, &musts(), &[0, 0, 0, 0, 0], 0)?;
+    Ok(is_route(&answer, weight, route))
 }
 
 // Through the ground time the aircraft comes to the fourth activity at no cost, but with two landings, and then passes

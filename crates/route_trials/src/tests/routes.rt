@@ -7,8 +7,8 @@ ghost use Rattle.connection_net.specs.Net.{net_of};
 ghost use Rattle.branch_marks.specs.Settled.{AreDuals};
 ghost use Rattle.branch_marks.specs.inside.MarkTables.{AreMarksOf};
 
-use super::twice;
 use super::weights::bits;
+use super::{musts, twice};
 use branch_marks::{Fact, Marks};
 use connection_net::Net;
 use route_search::{Found, RouteSearch};
@@ -18,6 +18,7 @@ use tail_book::*;
 use trial_books::{are_duals, costs, duals_of, marks, there_and_back};
 
 mod chance;
+mod memory;
 
 // The least route of an aircraft at each of these cuts, with one search for all.
 fn found_in(
@@ -190,14 +191,8 @@ fn is_least_of_four(
     least: i64,
     flown: u32,
 ) -> Result<bool, Fail> {
-    let musts = [
-        Fact::Must(0, 0),
-        Fact::Must(0, 1),
-        Fact::Must(0, 3),
-        Fact::Must(0, 4),
-    ];
     let book = twice(alloc, limit, resets)?;
-    is_least(alloc, &book, &musts, &[0, 0, 0, 0, 0], least, flown)
+    is_least(alloc, &book, &musts(), &[0, 0, 0, 0, 0], least, flown)
 }
 
 // Counters aside the aircraft flies all four for 240,000, through the ground time and with two landings on its counter. With a

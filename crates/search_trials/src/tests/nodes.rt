@@ -6,6 +6,7 @@ ghost use Rattle.tail_book.specs.inside.CostTable.{IsTableFor};
 ghost use Rattle.branch_marks.specs.Settled.{AreDuals};
 ghost use Rattle.branch_marks.specs.inside.MarkTables.{AreMarksOf};
 
+mod memory;
 mod steps;
 
 use super::{Failing, label};

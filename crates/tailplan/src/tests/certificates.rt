@@ -6,21 +6,21 @@ use book_maker::read_book;
 use cert_checker::{Verdict, judge};
 use tail_book::Claim;
 
-// The tables of two aircraft of two types and of a flight for each, the dear one the longer.
-const SIDE_BY_SIDE: &str = "F1,flight,ARN,OSL,2025-03-03T06:00,2025-03-03T07:00,,,,\n\
+/// The tables of two aircraft of two types and of a flight for each, the dear one the longer.
+pub const SIDE_BY_SIDE: &str = "F1,flight,ARN,OSL,2025-03-03T06:00,2025-03-03T07:00,,,,\n\
 F2,flight,ARN,OSL,2025-03-03T06:00,2025-03-03T08:00,,,,\n";
 
-const TWO_TYPES: &str = "A1,P,ARN,2025-03-03T05:00,0,,,\nA2,Q,ARN,2025-03-03T05:00,0,,,\n";
+pub const TWO_TYPES: &str = "A1,P,ARN,2025-03-03T05:00,0,,,\nA2,Q,ARN,2025-03-03T05:00,0,,,\n";
 
 /// How a run ended, what it printed, and what the certificate's file holds then.
 #[derive(Debug, Drop)]
-struct Left {
-    seen: Seen,
-    cert: Vec<u8>,
+pub struct Left {
+    pub seen: Seen,
+    pub cert: Vec<u8>,
 }
 
-// The run by these words over these files, of whose calls these fail.
-fn left_by(
+/// The run by these words over these files, of whose calls these fail.
+pub fn left_by(
     alloc: Global,
     words: &[&str],
     files: Vec<MemFile>,
@@ -41,8 +41,8 @@ fn left_by(
     })
 }
 
-// The files of these tables, with a longer file under the certificate's name.
-fn files_with_old(
+/// The files of these tables, with a longer file under the certificate's name.
+pub fn files_with_old(
     alloc: Global,
     records: &str,
     aircraft: &str,
@@ -58,10 +58,10 @@ fn files_with_old(
     Ok(files)
 }
 
-// The words that ask for a certificate, with a limit of no nodes behind them or not.
-const CERTIFIED: &[&str] = &["tailplan", "t", "f", "r", "--cert", "c"];
+/// The words that ask for a certificate, with a limit of no nodes behind them or not.
+pub const CERTIFIED: &[&str] = &["tailplan", "t", "f", "r", "--cert", "c"];
 
-const BOUNDED: &[&str] = &["tailplan", "t", "f", "r", "--cert", "c", "--nodes", "0"];
+pub const BOUNDED: &[&str] = &["tailplan", "t", "f", "r", "--cert", "c", "--nodes", "0"];
 
 // No aircraft; a turn a minute short, which leaves the second flight to nobody; and a bound of nothing.
 #[test]
