@@ -1,7 +1,7 @@
 //! Sweeps: each dual in turn moves to where its activity is asked for once, as far as it is trusted to go.
 //!
-//! Sweeps go up and down the numbers in turn. They end where a sweep moves little, or after so many. The cooler the
-//! mixtures, the more sweeps are worth their time.
+//! Sweeps go up and down the numbers in turn, and leave activities alone whose duals hardly moved the last time. They end
+//! where a sweep moves little, or after so many. The cooler the mixtures, the more sweeps are worth their time.
 
 ghost use Rattle.std.specs.Prelude.{◌<◌, length};
 ghost use Rattle.tail_book.specs.inside.CostTable.{IsInBox};
@@ -105,8 +105,11 @@ fn sweep(
     let mut moved = 0u64;
     for i in 0..n {
         let a = place(n, i, upwards);
-        let far = step(book, table, powers, mixture, limits, duals, a)?;
-        moved = moved.saturating_add(far);
+        if !mixture.is_resting(a) {
+            let far = step(book, table, powers, mixture, limits, duals, a)?;
+            mixture.rest(a, far);
+            moved = moved.saturating_add(far);
+        }
     }
     Ok(moved)
 }
@@ -127,7 +130,7 @@ pub fn climb(
     let (sweeps, share) = if temperature < COOL {
         (60, 2000)
     } else {
-        (20, 200)
+        (20, 50)
     };
     let all = temperature
         .unsigned_abs()
