@@ -30,7 +30,10 @@ const RELAXED: i64 = 26;
 // No dual moves further at once than so many temperatures.
 const STRIDE: i64 = 16;
 
-// An activity whose dual moves less than such a part of the temperature rests for so many sweeps.
+/// Below this temperature mixtures are cool: more sweeps are worth their time. In thousandths of a cost unit.
+pub const COOL: i64 = 4000;
+
+// While mixtures are hot, an activity whose dual moves less than such a part of the temperature rests for so many sweeps.
 const STILL: u64 = 100;
 
 const RESTS: u32 = 2;
@@ -156,9 +159,10 @@ impl Mixture {
         }
     }
 
-    /// Lets an activity rest for the next sweeps, if its dual has moved so little.
+    /// Lets an activity rest for the next sweeps, if its dual has moved so little while the mixtures are hot.
     pub fn rest(&mut self, a: usize, moved: u64) {
-        if moved <= self.temperature.unsigned_abs() / STILL {
+        let is_hot = self.temperature >= COOL;
+        if is_hot && moved <= self.temperature.unsigned_abs() / STILL {
             if let Some(sweeps) = self.rests.get_mut(a) {
                 *sweeps = RESTS;
             }
