@@ -295,6 +295,6 @@ impl Ascent {
     fn cool(&mut self)
         ensures { self.new ≡ self.old }
     {
-        self.temperature = (self.temperature / 4 * 3).max(COLDEST);
+        self.temperature = (self.temperature.saturating_mul(3) / 4).max(COLDEST);
     }
 }
