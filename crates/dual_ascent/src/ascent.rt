@@ -15,7 +15,7 @@ use crate::powers::Powers;
 use restricted_master::Pool;
 use std::alloc::Global;
 use std::marker::Model;
-use tail_book::{Book, CostTable, Duals, Memory};
+use tail_book::{Book, COST_UNIT, CostTable, Duals, Memory};
 
 // The temperature at the beginning is such a part of the mean of the first duals, which is as large as costs are, and lies
 // within these, in thousandths of a cost unit.
@@ -88,6 +88,12 @@ fn most_of(table: &CostTable) -> i64 {
     (most.min(1 << 40) * 4000) as i64
 }
 
+// A sum in cost units, rounded up where it is positive.
+fn rounded_up(sum: i128) -> i128 {
+    let unit = i128::from(COST_UNIT);
+    sum.saturating_add(unit - 1) / unit
+}
+
 impl Ascent {
     /// An ascent that begins at these duals, of which no sum is known yet.
     pub fn new(alloc: Global, table: &CostTable, first: &Duals) -> Result<Ascent, Memory>
@@ -155,9 +161,18 @@ impl Ascent {
         self.temperature
     }
 
-    /// Whether the ascent has come to its end.
+    /// Whether the ascent has come to its end: at the last temperature, after a few rounds without a gain, or where no gain
+    /// would bound costs higher.
     pub fn is_over(&self) -> bool {
-        self.temperature <= COLDEST && self.stalls >= STALLS
+        self.temperature <= COLDEST && (self.stalls >= STALLS || self.is_high())
+    }
+
+    // Whether the best sum, rounded up to whole cost units, comes to all that the pool promises.
+    fn is_high(&self) -> bool {
+        let (Some(promised), Some(best)) = (self.promised, self.sum) else {
+            return false;
+        };
+        rounded_up(promised) <= rounded_up(best)
     }
 
     /// Whether the pool promises so little that no sum of this size is near: three temperatures for each aircraft below it.
@@ -262,17 +277,17 @@ impl Ascent {
             duals,
             temperature,
         )?;
-        self.promised = Some(self.mixture.sum_over(pool, duals.values.as_slice(), m)?);
+        self.promised = Some(self.mixture.sum(duals.values.as_slice()));
         Ok(is_still)
     }
 
-    // Whether the pool promises so little more than the best sum that it is time to cool: two temperatures for each aircraft.
+    // Whether the pool promises so little more than the best sum that it is time to cool: three temperatures for each aircraft.
     fn is_near(&self, aircraft: usize) -> bool {
         let (Some(promised), Some(best)) = (self.promised, self.sum) else {
             return false;
         };
         let hoped = promised.saturating_sub(best);
-        let near = (aircraft as i128).saturating_mul(self.temperature as i128 * 2);
+        let near = (aircraft as i128).saturating_mul(self.temperature as i128 * 3);
         self.temperature > COLDEST && hoped <= near
     }
 
@@ -280,6 +295,6 @@ impl Ascent {
     fn cool(&mut self)
         ensures { self.new ≡ self.old }
     {
-        self.temperature = (self.temperature / 4 * 3).max(COLDEST);
+        self.temperature = (self.temperature.saturating_mul(3) / 4).max(COLDEST);
     }
 }

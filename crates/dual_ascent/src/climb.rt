@@ -1,18 +1,15 @@
 //! Sweeps: each dual in turn moves to where its activity is asked for once, as far as it is trusted to go.
 //!
-//! Sweeps go up and down the numbers in turn. They end where a sweep moves little, or after so many. The cooler the
-//! mixtures, the more sweeps are worth their time.
+//! Sweeps go up and down the numbers in turn. They end where a sweep moves little, or after so many. While the mixtures are
+//! hot few sweeps are worth their time, and activities rest whose duals hardly moved.
 
 ghost use Rattle.std.specs.Prelude.{◌<◌, length};
 ghost use Rattle.tail_book.specs.inside.CostTable.{IsInBox};
 ghost use Rattle.branch_marks.specs.Settled.{AreDuals};
 
-use crate::mixture::Mixture;
+use crate::mixture::{COOL, Mixture};
 use crate::powers::Powers;
 use tail_book::{Book, CostTable, Duals, Memory};
-
-// Below this temperature, in thousandths of a cost unit, a sweep has to move less before the last.
-const COOL: i64 = 4000;
 
 /// How far duals may go.
 #[derive(Clone, Copy, Debug)]
@@ -105,8 +102,11 @@ fn sweep(
     let mut moved = 0u64;
     for i in 0..n {
         let a = place(n, i, upwards);
-        let far = step(book, table, powers, mixture, limits, duals, a)?;
-        moved = moved.saturating_add(far);
+        if !mixture.is_resting(a) {
+            let far = step(book, table, powers, mixture, limits, duals, a)?;
+            mixture.rest(a, far);
+            moved = moved.saturating_add(far);
+        }
     }
     Ok(moved)
 }
@@ -127,7 +127,7 @@ pub fn climb(
     let (sweeps, share) = if temperature < COOL {
         (60, 2000)
     } else {
-        (20, 200)
+        (20, 50)
     };
     let all = temperature
         .unsigned_abs()

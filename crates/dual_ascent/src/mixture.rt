@@ -30,6 +30,14 @@ const RELAXED: i64 = 26;
 // No dual moves further at once than so many temperatures.
 const STRIDE: i64 = 16;
 
+/// Below this temperature mixtures are cool: more sweeps are worth their time. In thousandths of a cost unit.
+pub const COOL: i64 = 4000;
+
+// While mixtures are hot, an activity whose dual moves less than such a part of the temperature rests for so many sweeps.
+const STILL: u64 = 100;
+
+const RESTS: u32 = 2;
+
 // A route that takes part: its aircraft, its weight in thousandths of a cost unit, and its mass.
 #[derive(Clone, Copy, Debug)]
 struct Mixed {
@@ -69,8 +77,10 @@ fn scale_at(temperature: i64) -> Scale {
 pub struct Mixture {
     temperature: i64,
     scale: Scale,
-    // of each route of the pool: its weight, and as a member of its aircraft's routes
+    // the weight of each route of the pool, and the least of each aircraft's
     weights: Vec<i64>,
+    least: Vec<i64>,
+    // the light routes as members of their aircraft's routes
     owned: Vec<Member>,
     by_aircraft: Groups,
     // the routes that take part, aircraft by aircraft
@@ -80,6 +90,8 @@ pub struct Mixture {
     flown: Vec<Member>,
     by_activity: Groups,
     shares: Vec<Share>,
+    // for how many sweeps each activity is left alone
+    rests: Vec<u32>,
 }
 
 // What a route costs less the duals of its activities, in thousandths of a cost unit.
@@ -98,6 +110,7 @@ impl Mixture {
             temperature: 1,
             scale: scale_at(1),
             weights: Vec::new(alloc),
+            least: Vec::new(alloc),
             owned: Vec::new(alloc),
             by_aircraft: Groups::new(alloc),
             mixed: Vec::new(alloc),
@@ -105,6 +118,7 @@ impl Mixture {
             flown: Vec::new(alloc),
             by_activity: Groups::new(alloc),
             shares: Vec::new(alloc),
+            rests: Vec::new(alloc),
         }
     }
 
@@ -119,57 +133,85 @@ impl Mixture {
     ) -> Result<(), Memory> {
         self.temperature = temperature.max(1);
         self.scale = scale_at(temperature);
-        self.weigh_all(pool, duals)?;
+        self.weigh_all(pool, duals, aircraft)?;
+        self.choose(pool)?;
         self.by_aircraft.set(self.owned.as_slice(), aircraft)?;
         self.mixed.clear();
         self.owners.clear();
         self.flown.clear();
         for k in 0..aircraft {
-            self.choose(pool, k)?;
+            self.mix_all(pool, k)?;
             self.rebase(powers, k);
         }
+        self.rests.clear();
+        self.rests.resize(duals.len(), 0)?;
         self.by_activity.set(self.flown.as_slice(), duals.len())
     }
 
-    // Weighs each route of the pool.
-    fn weigh_all(&mut self, pool: &Pool, duals: &[i64]) -> Result<(), Memory> {
+    /// Whether a sweep leaves an activity alone.
+    pub fn is_resting(&mut self, a: usize) -> bool {
+        match self.rests.get_mut(a) {
+            Some(sweeps) if *sweeps > 0 => {
+                *sweeps = sweeps.saturating_sub(1);
+                true
+            }
+            _ => false,
+        }
+    }
+
+    /// Lets an activity rest for the next sweeps, if its dual has moved so little while the mixtures are hot.
+    pub fn rest(&mut self, a: usize, moved: u64) {
+        let is_hot = self.temperature >= COOL;
+        if is_hot && moved <= self.temperature.unsigned_abs() / STILL {
+            if let Some(sweeps) = self.rests.get_mut(a) {
+                *sweeps = RESTS;
+            }
+        }
+    }
+
+    // Weighs each route of the pool, and finds the least weight of each aircraft.
+    fn weigh_all(&mut self, pool: &Pool, duals: &[i64], aircraft: usize) -> Result<(), Memory> {
         self.weights.clear();
-        self.owned.clear();
+        self.least.clear();
+        self.least.resize(aircraft, i64::MAX)?;
         for i in 0..pool.count() {
-            self.weights
-                .push(weigh(pool.cost(i), pool.route(i), duals))?;
-            self.owned.push(Member {
-                group: pool.aircraft(i),
-                thing: (i % (1 << 32)) as u32,
-            })?;
+            let weight = weigh(pool.cost(i), pool.route(i), duals);
+            if let Some(least) = self.least.get_mut(pool.aircraft(i) as usize) {
+                *least = weight.min(*least);
+            }
+            self.weights.push(weight)?;
         }
         Ok(())
     }
 
-    // The least weight of an aircraft's routes.
-    fn least(&self, k: usize) -> i64 {
-        let mut least = i64::MAX;
-        for i in self.by_aircraft.of(k) {
-            least = least.min(self.weights.get(*i as usize).copied().unwrap_or(i64::MAX));
+    // Chooses the routes that take part.
+    fn choose(&mut self, pool: &Pool) -> Result<(), Memory> {
+        let reach = self.temperature.saturating_mul(REACH);
+        self.owned.clear();
+        for i in 0..pool.count().min(self.weights.len()) {
+            let group = pool.aircraft(i);
+            let least = self.least.get(group as usize).copied().unwrap_or(i64::MIN);
+            if self.weights[i] <= least.saturating_add(reach) {
+                self.owned.push(Member {
+                    group,
+                    thing: (i % (1 << 32)) as u32,
+                })?;
+            }
         }
-        least
+        Ok(())
     }
 
-    // Chooses the routes of an aircraft that take part.
-    fn choose(&mut self, pool: &Pool, k: usize) -> Result<(), Memory> {
+    // Lets the chosen routes of an aircraft take part.
+    fn mix_all(&mut self, pool: &Pool, k: usize) -> Result<(), Memory> {
         let first = self.mixed.len();
-        let reach = self
-            .least(k)
-            .saturating_add(self.temperature.saturating_mul(REACH));
         for i in self.by_aircraft.of(k) {
             let i = *i as usize;
-            let weight = self.weights.get(i).copied().unwrap_or(i64::MAX);
-            if weight <= reach && i < pool.count() {
+            if i < pool.count() {
                 mix(
                     &mut self.mixed,
                     &mut self.flown,
                     pool.aircraft(i),
-                    weight,
+                    self.weights.get(i).copied().unwrap_or(i64::MAX),
                     pool.route(i),
                 )?;
             }
@@ -183,25 +225,18 @@ impl Mixture {
         Ok(())
     }
 
-    /// The sum of duals, and of the least weight of each aircraft that has a route in the pool, in thousandths.
-    pub fn sum_over(
-        &mut self,
-        pool: &Pool,
-        duals: &[i64],
-        aircraft: usize,
-    ) -> Result<i128, Memory> {
-        self.weigh_all(pool, duals)?;
-        self.by_aircraft.set(self.owned.as_slice(), aircraft)?;
+    /// The sum of duals, and of the least weight of each aircraft's routes that take part, in thousandths of a cost unit.
+    pub fn sum(&self, duals: &[i64]) -> i128 {
         let mut sum = 0i128;
         for dual in duals {
             sum = sum.saturating_add(*dual as i128);
         }
-        for k in 0..aircraft {
-            if !self.by_aircraft.of(k).is_empty() {
-                sum = sum.saturating_add(self.least(k) as i128);
+        for owner in self.owners.iter() {
+            if let Some(least) = least(self.mixed.as_slice(), *owner) {
+                sum = sum.saturating_add(least as i128);
             }
         }
-        Ok(sum)
+        sum
     }
 
     // Measures an aircraft's masses from its least weight.
@@ -324,6 +359,15 @@ fn mix(
         flown.push(Member { group: *a, thing })?;
     }
     Ok(())
+}
+
+// The least weight of an aircraft's routes.
+fn least(mixed: &[Mixed], owner: Owner) -> Option<i64> {
+    let mut least = None;
+    for route in mixed.get(owner.first..owner.end)? {
+        least = Some(least.map_or(route.weight, |known: i64| known.min(route.weight)));
+    }
+    least
 }
 
 // The mass of a weight that is so far above its base.
