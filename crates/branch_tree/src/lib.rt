@@ -22,6 +22,7 @@ mod planning;
 mod rounds;
 mod search_state;
 mod searching;
+mod seeking;
 mod settled;
 mod shortage;
 mod shutting;

@@ -18,6 +18,7 @@ ghost use Rattle.branch_tree.specs.inside.Stepping.{AreToolsFor, IsEndFound, IsF
 use crate::ending::note_end;
 use crate::first_duals::first_duals;
 use crate::rounds::ascend;
+use crate::seeking::seek_plan;
 use crate::settled::settle_node;
 use crate::shortage::shortage_duals;
 use crate::shutting::{keep_fitting, shut_and_tell};
@@ -180,6 +181,9 @@ fn find_end(
     )?;
     if let Some(end) = ascended {
         return Ok(end);
+    }
+    if is_root {
+        seek_plan(alloc, book, table, net, marks, pool, duals, best)?;
     }
     settle_node(alloc, book, table, net, marks, pool, duals, best, tools)
 }

@@ -79,8 +79,8 @@ fn first_temperature(first: &Duals) -> i64 {
     (mean / PART).clamp(MILDEST, HOTTEST) as i64
 }
 
-// Four times the most that an activity costs an aircraft, in thousandths of a cost unit.
-fn most_of(table: &CostTable) -> i64 {
+/// Four times the most that an activity costs an aircraft, in thousandths of a cost unit.
+pub fn most_of(table: &CostTable) -> i64 {
     let mut most = 1u64;
     for cost in table.fly.iter() {
         most = most.max(*cost);
@@ -118,8 +118,9 @@ impl Ascent {
         Ascent::starting(alloc, table, first, WARM, NEAR_RADIUS)
     }
 
-    // An ascent that begins at these duals and this temperature, and trusts duals so far.
-    fn starting(
+    /// An ascent that begins at these duals and this temperature, and trusts duals so far from them: both in thousandths of a cost
+    /// unit.
+    pub fn starting(
         alloc: Global,
         table: &CostTable,
         first: &Duals,

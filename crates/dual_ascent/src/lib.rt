@@ -8,12 +8,14 @@
 
 mod ascent;
 mod climb;
+mod climber;
 mod demand;
 mod groups;
 mod mixture;
 mod powers;
 
 pub use ascent::Ascent;
+pub use climber::Climber;
 
 #[cfg(test)]
 mod tests;

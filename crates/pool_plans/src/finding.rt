@@ -18,8 +18,13 @@ pub struct Found {
     pub cost: u64,
 }
 
-// The plan in which each aircraft flies its route among these; without one it flies nothing.
-fn plan_of(alloc: Global, pool: &Pool, numbers: &[usize], aircraft: usize) -> Result<Plan, Memory> {
+// The routes of aircraft among these; one without a route flies nothing.
+fn routes_of(
+    alloc: Global,
+    pool: &Pool,
+    numbers: &[usize],
+    aircraft: usize,
+) -> Result<Vec<Route>, Memory> {
     let mut routes = Vec::with_capacity(alloc, aircraft)?;
     for k in 0..aircraft {
         let mut activities = Vec::new(alloc);
@@ -30,7 +35,27 @@ fn plan_of(alloc: Global, pool: &Pool, numbers: &[usize], aircraft: usize) -> Re
         }
         routes.push(Route(activities))?;
     }
-    Ok(Plan(routes))
+    Ok(routes)
+}
+
+/// Looks among the routes of a pool for one of each of so many aircraft, so that each activity stands in one of them but those that
+/// may be left out. Together they undercut a cost, as far as the duals tell. It takes so many turns at most.
+pub fn find_cover(
+    alloc: Global,
+    pool: &Pool,
+    duals: &[i64],
+    aircraft: usize,
+    left_out: &[bool],
+    target: u64,
+    turns: u64,
+) -> Result<Option<Vec<Route>>, Memory> {
+    let candidates = Candidates::of(alloc, pool, duals, aircraft, target)?;
+    let mut partition = Partition::new(alloc, pool, candidates, duals.len(), aircraft)?;
+    partition.leave_out(left_out);
+    let Some(numbers) = partition.search(alloc, turns)? else {
+        return Ok(None);
+    };
+    Ok(Some(routes_of(alloc, pool, &numbers, aircraft)?))
 }
 
 /// Looks among the routes of a pool for a plan that undercuts a cost, for so many turns. The duals say which routes are
@@ -47,14 +72,12 @@ pub fn find_plan(
     requires table { IsTableFor book.now table.now }
     ensures { IfOk result (λ found. IfSome found (λ plan. IsPlanIn table.now book.now plan.cost plan.plan)) }
 {
-    let (n, m) = (book.activities.len(), book.tails.len());
-    let candidates = Candidates::of(alloc, pool, &duals.values, m, target)?;
-    let mut partition = Partition::new(alloc, pool, candidates, n, m)?;
-    let Some(numbers) = partition.search(alloc, turns)? else {
-        return Ok(None);
-    };
-    let plan = plan_of(alloc, pool, &numbers, m)?;
-    judge(alloc, book, table, plan)
+    let m = book.tails.len();
+    let found = find_cover(alloc, pool, &duals.values, m, &[], target, turns)?;
+    match found {
+        Some(routes) => judge(alloc, book, table, Plan(routes)),
+        None => Ok(None),
+    }
 }
 
 // The plan with its cost, where it is legal.

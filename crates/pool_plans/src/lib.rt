@@ -9,7 +9,7 @@ mod candidates;
 mod finding;
 mod partition;
 
-pub use finding::{Found, find_plan};
+pub use finding::{Found, find_cover, find_plan};
 
 #[cfg(test)]
 mod tests;

@@ -70,6 +70,15 @@ impl Partition {
         Ok(partition)
     }
 
+    /// Leaves it open who flies these activities, if anybody does.
+    pub fn leave_out(&mut self, left_out: &[bool]) {
+        for a in 0..left_out.len().min(self.activities) {
+            if left_out[a] {
+                self.filled.put(0, a);
+            }
+        }
+    }
+
     // Notes what each route fills.
     fn note_fillers(&mut self, pool: &Pool) {
         for (i, route) in self.routes.iter().enumerate() {

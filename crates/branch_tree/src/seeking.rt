@@ -1,0 +1,59 @@
+//! Plans that are looked for at the root, once its bound has stalled. One within a cost unit of the bound ends the search there.
+
+ghost use Rattle.std.specs.Prelude.{◌≡◌, ◌≤◌};
+ghost use Rattle.tail_book.specs.inside.CostTable.{IsTableFor};
+ghost use Rattle.connection_net.specs.Net.{net_of};
+ghost use Rattle.branch_marks.specs.Settled.{AreDuals};
+ghost use Rattle.branch_marks.specs.inside.MarkTables.{AreMarksOf};
+ghost use Rattle.branch_tree.specs.Target.{IsBest};
+ghost use Rattle.branch_tree.specs.inside.Stepping.{IsFittingPool};
+
+use crate::Best;
+use branch_marks::Marks;
+use connection_net::Net;
+use plan_finder::{Problem, Sought, find_by_dives};
+use restricted_master::Pool;
+use std::alloc::Global;
+use tail_book::{Book, CostTable, Duals, Memory};
+
+// For each activity and aircraft so many labels and routes are looked at, at most.
+const WORK: u64 = 1000;
+
+// How much work a book is worth.
+fn work_for(book: &Book) -> u64 {
+    let (n, m) = (book.activities.len() as u64, book.tails.len() as u64);
+    n.saturating_mul(m).saturating_mul(WORK)
+}
+
+/// Looks for a plan that undercuts the best one, with the pool and the duals that an ascent left. The pool gets its routes.
+pub fn seek_plan(
+    alloc: Global,
+    book: &Book,
+    table: &CostTable,
+    net: &Net,
+    marks: &Marks,
+    pool: &mut Pool,
+    duals: &Duals,
+    best: &mut Best,
+) -> Result<(), Memory>
+    requires table { IsTableFor book.now table.now }
+    requires net { net.now ≡ net_of book.now }
+    requires marks { AreMarksOf book.now marks.now }
+    requires duals { AreDuals table.now book.now duals.now.values }
+    requires pool { IsFittingPool table.now book.now marks.now.facts pool.old }
+    requires best { IsBest table.now book.now best.old.plan best.old.target }
+    ensures pool { IsFittingPool table.now book.now marks.now.facts pool.new }
+    ensures best { IsBest table.now book.now best.new.plan best.new.target }
+    ensures falls { best.new.target ≤ best.old.target }
+{
+    let problem = Problem { book, table, net };
+    let sought = Sought {
+        marks,
+        duals,
+        work: work_for(book),
+    };
+    if let Some(found) = find_by_dives(alloc, &problem, &sought, pool)? {
+        best.take(book, table, found.plan, &found.cost);
+    }
+    Ok(())
+}

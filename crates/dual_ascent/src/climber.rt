@@ -1,0 +1,65 @@
+//! Climbing at a temperature that the caller knows, from where the duals are.
+
+ghost use Rattle.branch_marks.specs.Settled.{AreDuals};
+
+use crate::ascent::most_of;
+use crate::climb::{Limits, climb};
+use crate::mixture::Mixture;
+use crate::powers::Powers;
+use restricted_master::Pool;
+use std::alloc::Global;
+use tail_book::{Book, CostTable, Duals, Memory};
+
+/// What climbs keep from one to the next: room, and a table of powers.
+#[derive(Debug, Drop)]
+pub struct Climber {
+    powers: Powers,
+    mixture: Mixture,
+    // no dual is larger, with or without its sign
+    most: i64,
+}
+
+impl Climber {
+    /// A climber for duals of a table's book.
+    pub fn new(alloc: Global, table: &CostTable) -> Result<Climber, Memory> {
+        Ok(Climber {
+            powers: Powers::new(alloc)?,
+            mixture: Mixture::new(alloc),
+            most: most_of(table),
+        })
+    }
+
+    /// Moves duals to where the sum over a pool is larger at a temperature, each by no more than the radius and within the box. Both
+    /// are in thousandths of a cost unit.
+    pub fn climb(
+        &mut self,
+        book: &Book,
+        table: &CostTable,
+        pool: &Pool,
+        duals: &mut Duals,
+        temperature: i64,
+        radius: i64,
+    ) -> Result<(), Memory>
+        requires duals { AreDuals table.now book.now duals.old.values }
+        ensures duals { AreDuals table.now book.now duals.new.values }
+    {
+        let m = book.tails.len();
+        let center = duals.values.clone()?;
+        self.mixture.take(pool, duals.values.as_slice(), m, temperature, &self.powers)?;
+        let limits = Limits {
+            center: center.as_slice(),
+            radius,
+            most: self.most,
+        };
+        let _ = climb(
+            book,
+            table,
+            &self.powers,
+            &mut self.mixture,
+            limits,
+            duals,
+            temperature,
+        )?;
+        Ok(())
+    }
+}

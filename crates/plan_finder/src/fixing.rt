@@ -1,0 +1,88 @@
+//! Marks that hold parts of a plan: whole routes, or what lies before and behind a stretch of activities.
+//!
+//! Only facts are added, to a copy of the marks: none of them copies a table.
+
+ghost use Rattle.branch_marks.specs.inside.MarkTables.{AreMarksOf};
+
+use branch_marks::{Fact, Marks};
+use tail_book::{Book, Memory};
+
+// Adds a fact, if its numbers are of the book.
+fn add(book: &Book, marks: &mut Marks, fact: Fact) -> Result<(), Memory>
+    requires { AreMarksOf book.now marks.old }
+    ensures { AreMarksOf book.now marks.new }
+{
+    if fact.is_of(book) {
+        let _ = marks.add(book, fact)?;
+    }
+    Ok(())
+}
+
+// Whether an activity is the next of a route, of which so many were met.
+fn is_next(route: &[u32], met: usize, a: u32) -> bool {
+    match route.get(met) {
+        Some(next) => *next == a,
+        None => false,
+    }
+}
+
+/// Holds the route of an aircraft: it flies this and nothing else, and nobody else flies any of it.
+pub fn fix(book: &Book, marks: &mut Marks, k: u32, route: &[u32]) -> Result<(), Memory>
+    requires { AreMarksOf book.now marks.old }
+    ensures { AreMarksOf book.now marks.new }
+{
+    let mut met = 0usize;
+    for a in 0..book.activities.len() as u32 {
+        if is_next(route, met, a) {
+            met = met.saturating_add(1);
+            add(book, marks, Fact::Must(k, a))?;
+        } else {
+            add(book, marks, Fact::Bar(k, a))?;
+        }
+    }
+    Ok(())
+}
+
+// Holds an activity of an aircraft's route, where it lies outside a stretch, and how it comes after the one before, where both lie behind it.
+fn fix_one(
+    book: &Book,
+    marks: &mut Marks,
+    k: u32,
+    before: Option<u32>,
+    a: u32,
+    from: u32,
+    to: u32,
+) -> Result<(), Memory>
+    requires { AreMarksOf book.now marks.old }
+    ensures { AreMarksOf book.now marks.new }
+{
+    if a < from {
+        add(book, marks, Fact::Must(k, a))?;
+    }
+    match before {
+        Some(before) if before >= to => add(book, marks, Fact::Tie(before, a)),
+        _ => Ok(()),
+    }
+}
+
+/// Holds of an aircraft's route what lies before a stretch of activities, and behind it what comes directly after what, whoever
+/// flies that.
+pub fn fix_outside(
+    book: &Book,
+    marks: &mut Marks,
+    k: u32,
+    route: &[u32],
+    from: u32,
+    to: u32,
+) -> Result<(), Memory>
+    requires { AreMarksOf book.now marks.old }
+    ensures { AreMarksOf book.now marks.new }
+{
+    let mut before = None;
+    for a in route {
+        let a = *a;
+        fix_one(book, marks, k, before, a, from, to)?;
+        before = Some(a);
+    }
+    Ok(())
+}

@@ -1,0 +1,20 @@
+//! Good legal plans: each is judged before it is told, and how good it is, is not promised.
+//!
+//! Costs are whole numbers, so a plan within less than a cost unit of a bound ends a search. A dive that cannot fail fixes routes
+//! one after the other, at duals near the best ones, and may leave activities out. What it leaves out is put in by planning
+//! stretches of time around it again.
+#![tactic(auto)]
+
+mod columns;
+mod finding;
+mod fixing;
+mod leads;
+mod neighbourhood;
+mod problem;
+mod repairing;
+mod soft_dive;
+mod soft_plan;
+mod weights;
+
+pub use finding::{Sought, find_by_dives};
+pub use problem::Problem;

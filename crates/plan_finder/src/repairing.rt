@@ -1,0 +1,162 @@
+//! Stretches of a plan that are planned again, and what is left out put in by that.
+
+ghost use Rattle.std.specs.Prelude.{◌≡◌, ◌<◌, IfOk};
+ghost use Rattle.branch_marks.specs.Settled.{AreDuals};
+ghost use Rattle.branch_marks.specs.inside.MarkTables.{AreMarksOf};
+ghost use Rattle.plan_finder.specs.Columns.{AreColumns};
+ghost use Rattle.plan_finder.specs.Problem.{IsProblem};
+
+use crate::columns::Columns;
+use crate::fixing::fix_outside;
+use crate::neighbourhood::{Neighbourhood, improve};
+use crate::problem::Problem;
+use crate::soft_plan::SoftPlan;
+use crate::weights::copy_of;
+use branch_marks::Marks;
+use restricted_master::Pool;
+use std::alloc::Global;
+use tail_book::{Duals, Memory, Route};
+
+/// What neighbourhoods begin with: marks that hold for all of them, routes, and duals.
+#[derive(Clone, Copy)]
+pub struct Ground<'a> {
+    pub marks: &'a Marks,
+    pub pool: &'a Pool,
+    pub duals: &'a Duals,
+}
+
+// A stretch reaches so many activities to both sides of one that is left out.
+const WIDTHS: [u32; 5] = [15, 30, 60, 120, 240];
+
+// No plan costs as much, in cost units.
+const NO_TARGET: u64 = 1 << 50;
+
+// Routes that fit are taken from a pool, however heavy they are.
+const ANY_WEIGHT: i64 = i64::MAX;
+
+// The marks that hold a plan outside a stretch of activities.
+fn marks_outside(
+    problem: &Problem,
+    marks: &Marks,
+    routes: &[Route],
+    from: u32,
+    to: u32,
+) -> Result<Marks, Memory>
+    requires { AreMarksOf problem.now.book.now marks.now }
+    ensures { IfOk result (AreMarksOf problem.now.book.now) }
+{
+    let mut held = marks.copy()?;
+    for k in 0..routes.len() {
+        let (number, route) = ((k % (1 << 32)) as u32, &routes[k]);
+        fix_outside(problem.book, &mut held, number, &route.0, from, to)?;
+    }
+    Ok(held)
+}
+
+// Plans a stretch of activities again. What lies before it stays with its aircraft, and what lies behind it stays together.
+fn replan_stretch(
+    alloc: Global,
+    problem: &Problem,
+    columns: &mut Columns,
+    ground: &Ground,
+    plan: &SoftPlan,
+    left_out: &[bool],
+    from: u32,
+    to: u32,
+) -> Result<Option<Vec<Route>>, Memory>
+    requires problem { IsProblem problem.now }
+    requires marks { AreMarksOf problem.now.book.now ground.now.marks.now }
+    requires duals { AreDuals problem.now.table.now problem.now.book.now ground.now.duals.now.values }
+    requires columns { AreColumns problem.now columns.old }
+    ensures columns { AreColumns problem.now columns.new }
+{
+    let Ground {
+        marks: own,
+        pool,
+        duals,
+    } = *ground;
+    let marks = marks_outside(problem, own, &plan.routes, from, to)?;
+    columns.begin(alloc, problem, &marks, duals, pool, ANY_WEIGHT)?;
+    let near = Neighbourhood {
+        marks: &marks,
+        left_out,
+        target: NO_TARGET,
+    };
+    improve(alloc, problem, columns, &near, copy_of(duals)?)
+}
+
+// Puts in an activity that is left out, if that goes within a stretch around it.
+fn put_in(
+    alloc: Global,
+    problem: &Problem,
+    columns: &mut Columns,
+    ground: &Ground,
+    plan: &mut SoftPlan,
+    a: usize,
+    width: u32,
+) -> Result<(), Memory>
+    requires problem { IsProblem problem.now }
+    requires marks { AreMarksOf problem.now.book.now ground.now.marks.now }
+    requires duals { AreDuals problem.now.table.now problem.now.book.now ground.now.duals.now.values }
+    requires columns { AreColumns problem.now columns.old }
+    ensures columns { AreColumns problem.now columns.new }
+{
+    let mut left_out = plan.left_out.clone()?;
+    if let Some(left) = left_out.get_mut(a) {
+        *left = false;
+    }
+    let middle = (a % (1 << 31)) as u32;
+    let (from, to) = (middle.saturating_sub(width), middle.saturating_add(width));
+    let found = replan_stretch(alloc, problem, columns, ground, plan, &left_out, from, to)?;
+    if let Some(routes) = found {
+        let fuller = SoftPlan::of(alloc, problem.book, routes)?;
+        if fuller.count_left() < plan.count_left() {
+            *plan = fuller;
+        }
+    }
+    Ok(())
+}
+
+// Puts in what a plan leaves out, one activity after the other, each within a stretch of this width.
+fn repair_within(
+    alloc: Global,
+    problem: &Problem,
+    columns: &mut Columns,
+    ground: &Ground,
+    plan: &mut SoftPlan,
+    width: u32,
+) -> Result<(), Memory>
+    requires problem { IsProblem problem.now }
+    requires marks { AreMarksOf problem.now.book.now ground.now.marks.now }
+    requires duals { AreDuals problem.now.table.now problem.now.book.now ground.now.duals.now.values }
+    requires columns { AreColumns problem.now columns.old }
+    ensures columns { AreColumns problem.now columns.new }
+{
+    let book = problem.book;
+    for a in 0..book.activities.len() {
+        if plan.leaves_out(a) && !columns.is_spent() {
+            put_in(alloc, problem, columns, ground, plan, a, width)?;
+        }
+    }
+    Ok(())
+}
+
+/// Puts in what a plan leaves out, as far as that goes: within short stretches first.
+pub fn repair(
+    alloc: Global,
+    problem: &Problem,
+    columns: &mut Columns,
+    ground: &Ground,
+    plan: &mut SoftPlan,
+) -> Result<(), Memory>
+    requires problem { IsProblem problem.now }
+    requires marks { AreMarksOf problem.now.book.now ground.now.marks.now }
+    requires duals { AreDuals problem.now.table.now problem.now.book.now ground.now.duals.now.values }
+    requires columns { AreColumns problem.now columns.old }
+    ensures columns { AreColumns problem.now columns.new }
+{
+    for i in 0..WIDTHS.len() {
+        repair_within(alloc, problem, columns, ground, plan, WIDTHS[i])?;
+    }
+    Ok(())
+}

@@ -1,0 +1,348 @@
+//! A dive that cannot fail: it fixes one route after the other, and leaves out what no route is left for.
+//!
+//! Aircraft that are not fixed yet are priced, and duals climb over the pool at one temperature. Then the lightest route that
+//! stands out most is fixed, with all others that stand out and share nothing with it. Nothing is propagated or undone.
+
+ghost use Rattle.std.specs.Prelude.{◌≡◌, ◌<◌, IfOk};
+ghost use Rattle.tail_book.specs.Lookup.{aircraft};
+ghost use Rattle.branch_marks.specs.Settled.{AreDuals};
+ghost use Rattle.branch_marks.specs.inside.MarkTables.{AreMarksOf};
+ghost use Rattle.plan_finder.specs.Columns.{AreColumns};
+ghost use Rattle.plan_finder.specs.Problem.{IsProblem};
+
+use crate::columns::Columns;
+use crate::fixing::fix;
+use crate::leads::{Lead, WHOLE, leads_of};
+use crate::problem::Problem;
+use crate::soft_plan::SoftPlan;
+use crate::weights::Weights;
+use branch_marks::Marks;
+use dual_ascent::Climber;
+use restricted_master::Pool;
+use std::alloc::Global;
+use tail_book::laws::every_book_is_sound;
+use tail_book::{Duals, Memory, Route};
+
+// Duals go so far in a round, in thousandths of a cost unit.
+const RADIUS: i64 = 60_000;
+
+// So many rounds come before each choice.
+const ROUNDS: u32 = 2;
+
+// Suggestions are looked for so many temperatures above the least weights.
+const SUGGESTED: i64 = 8;
+
+// Routes take part up to so many temperatures above the least weights.
+const REACH: i64 = 30;
+
+/// A dive under way: who flies what so far, and what is left to all others.
+#[derive(Debug, Drop)]
+struct Dive {
+    marks: Marks,
+    plan: SoftPlan,
+    free: Vec<bool>,
+    temperature: i64,
+}
+
+// The lead that stands out most, of the aircraft that are free.
+fn first_lead(leads: &[Option<Lead>], free: &[bool]) -> Option<usize> {
+    let mut best = None;
+    let mut share = 0u64;
+    for k in 0..leads.len().min(free.len()) {
+        if let Some(lead) = leads[k] {
+            if free[k] && lead.share > share {
+                best = Some(k);
+                share = lead.share;
+            }
+        }
+    }
+    best
+}
+
+// How far above the least weights suggestions are looked for, in thousandths of a cost unit.
+fn slack_at(temperature: i64) -> u32 {
+    temperature.saturating_mul(SUGGESTED).clamp(0, 1 << 31) as u32
+}
+
+impl Dive {
+    // Whether an aircraft has no route yet.
+    fn is_free(&self, k: usize) -> bool {
+        self.free.get(k).copied().unwrap_or(false)
+    }
+
+    // Whether any aircraft has none.
+    fn has_free(&self) -> bool {
+        for k in 0..self.free.len() {
+            if self.free[k] {
+                return true;
+            }
+        }
+        false
+    }
+
+    // Takes an aircraft from those that are free.
+    fn bind(&mut self, k: usize)
+        ensures { self.new.marks ≡ self.old.marks }
+    {
+        if let Some(free) = self.free.get_mut(k) {
+            *free = false;
+        }
+    }
+
+    // Prices an aircraft. One for which no route is found flies nothing.
+    fn price_one(
+        &mut self,
+        alloc: Global,
+        problem: &Problem,
+        columns: &mut Columns,
+        duals: &Duals,
+        k: u32,
+        low: i64,
+    ) -> Result<(), Memory>
+        requires problem { IsProblem problem.now }
+        requires marks { AreMarksOf problem.now.book.now self.old.marks }
+        requires duals { AreDuals problem.now.table.now problem.now.book.now duals.now.values }
+        requires aircraft { k < aircraft problem.now.book.now }
+        requires columns { AreColumns problem.now columns.old }
+        ensures columns { AreColumns problem.now columns.new }
+        ensures marks { self.new.marks ≡ self.old.marks }
+    {
+        let slack = slack_at(self.temperature);
+        let cut = low.saturating_add(i64::from(slack));
+        let found = columns.price(alloc, problem, &self.marks, duals, k, cut, slack)?;
+        if found.is_none() {
+            self.bind(k as usize);
+        }
+        Ok(())
+    }
+
+    // Prices the aircraft that are free.
+    fn price(
+        &mut self,
+        alloc: Global,
+        problem: &Problem,
+        columns: &mut Columns,
+        duals: &Duals,
+    ) -> Result<(), Memory>
+        requires problem { IsProblem problem.now }
+        requires marks { AreMarksOf problem.now.book.now self.old.marks }
+        requires duals { AreDuals problem.now.table.now problem.now.book.now duals.now.values }
+        requires columns { AreColumns problem.now columns.old }
+        ensures columns { AreColumns problem.now columns.new }
+        ensures marks { self.new.marks ≡ self.old.marks }
+    {
+        let book = problem.book;
+        every_book_is_sound(book);
+        let weights = Weights::of(alloc, &columns.pool, &duals.values, book.tails.len())?;
+        for k in 0..book.tails.len() as u32 {
+            if self.is_free(k as usize) && !columns.is_spent() {
+                let low = weights.least(k as usize);
+                self.price_one(alloc, problem, columns, duals, k, low)?;
+            }
+        }
+        Ok(())
+    }
+
+    // Fixes the route of a lead.
+    fn fix(
+        &mut self,
+        alloc: Global,
+        problem: &Problem,
+        pool: &Pool,
+        k: u32,
+        lead: Lead,
+    ) -> Result<(), Memory>
+        requires { AreMarksOf problem.now.book.now self.old.marks }
+        ensures { AreMarksOf problem.now.book.now self.new.marks }
+    {
+        self.bind(k as usize);
+        if lead.route < pool.count() {
+            let route = pool.route(lead.route);
+            fix(problem.book, &mut self.marks, k, route)?;
+            self.plan
+                .fly(k as usize, Route(Vec::from_slice(alloc, route)?));
+        }
+        Ok(())
+    }
+
+    // Whether an aircraft's lead stands out, and what it has is free.
+    fn is_sure(&self, problem: &Problem, pool: &Pool, k: u32, lead: Lead) -> bool
+        requires marks { AreMarksOf problem.now.book.now self.now.marks }
+        requires aircraft { k < aircraft problem.now.book.now }
+    {
+        self.is_free(k as usize)
+            && lead.share > WHOLE / 10 * 9
+            && lead.route < pool.count()
+            && self.marks.fits(problem.book, k, pool.route(lead.route))
+    }
+
+    // Fixes the leads that stand out, as far as they share nothing with what is fixed.
+    fn fix_sure(
+        &mut self,
+        alloc: Global,
+        problem: &Problem,
+        pool: &Pool,
+        leads: &[Option<Lead>],
+    ) -> Result<(), Memory>
+        requires { AreMarksOf problem.now.book.now self.old.marks }
+        ensures { AreMarksOf problem.now.book.now self.new.marks }
+    {
+        let book = problem.book;
+        every_book_is_sound(book);
+        for k in 0..book.tails.len() as u32 {
+            if let Some(Some(lead)) = leads.get(k as usize).copied() {
+                if self.is_sure(problem, pool, k, lead) {
+                    self.fix(alloc, problem, pool, k, lead)?;
+                }
+            }
+        }
+        Ok(())
+    }
+
+    // Fixes the lead that stands out most, and all others that stand out. Answers whether there was one.
+    fn choose(
+        &mut self,
+        alloc: Global,
+        problem: &Problem,
+        pool: &Pool,
+        duals: &Duals,
+    ) -> Result<bool, Memory>
+        requires { AreMarksOf problem.now.book.now self.old.marks }
+        ensures { AreMarksOf problem.now.book.now self.new.marks }
+    {
+        let leads = leads_of(
+            alloc,
+            pool,
+            &duals.values,
+            self.free.len(),
+            self.temperature,
+        )?;
+        let Some(k) = first_lead(&leads, &self.free) else {
+            return Ok(false);
+        };
+        if let Some(Some(lead)) = leads.get(k).copied() {
+            self.fix(alloc, problem, pool, (k % (1 << 32)) as u32, lead)?;
+        }
+        self.fix_sure(alloc, problem, pool, &leads)?;
+        Ok(true)
+    }
+
+    // Prices and climbs, in turn.
+    fn climb(
+        &mut self,
+        alloc: Global,
+        problem: &Problem,
+        columns: &mut Columns,
+        climber: &mut Climber,
+        duals: &mut Duals,
+    ) -> Result<(), Memory>
+        requires problem { IsProblem problem.now }
+        requires marks { AreMarksOf problem.now.book.now self.old.marks }
+        requires duals { AreDuals problem.now.table.now problem.now.book.now duals.old.values }
+        requires columns { AreColumns problem.now columns.old }
+        ensures columns { AreColumns problem.now columns.new }
+        ensures duals { AreDuals problem.now.table.now problem.now.book.now duals.new.values }
+        ensures marks { self.new.marks ≡ self.old.marks }
+    {
+        for _round in 0..ROUNDS {
+            self.price(alloc, problem, columns, duals)?;
+            climber.climb(
+                problem.book,
+                problem.table,
+                &columns.pool,
+                duals,
+                self.temperature,
+                RADIUS,
+            )?;
+        }
+        Ok(())
+    }
+
+    // One step: prices and climbs, and fixes what stands out. Answers whether there is more to do.
+    fn step(
+        &mut self,
+        alloc: Global,
+        problem: &Problem,
+        columns: &mut Columns,
+        climber: &mut Climber,
+        duals: &mut Duals,
+    ) -> Result<bool, Memory>
+        requires problem { IsProblem problem.now }
+        requires marks { AreMarksOf problem.now.book.now self.old.marks }
+        requires duals { AreDuals problem.now.table.now problem.now.book.now duals.old.values }
+        requires columns { AreColumns problem.now columns.old }
+        ensures columns { AreColumns problem.now columns.new }
+        ensures duals { AreDuals problem.now.table.now problem.now.book.now duals.new.values }
+        ensures marks { AreMarksOf problem.now.book.now self.new.marks }
+    {
+        self.climb(alloc, problem, columns, climber, duals)?;
+        if !self.choose(alloc, problem, &columns.pool, duals)? || columns.is_spent() {
+            return Ok(false);
+        }
+        let reach = self.temperature.saturating_mul(REACH);
+        columns.keep(alloc, problem, &self.marks, duals, reach)?;
+        Ok(self.has_free())
+    }
+
+    // Goes on until nothing is left to fix.
+    fn run(
+        &mut self,
+        alloc: Global,
+        problem: &Problem,
+        columns: &mut Columns,
+        climber: &mut Climber,
+        duals: &mut Duals,
+    ) -> Result<(), Memory>
+        requires problem { IsProblem problem.now }
+        requires marks { AreMarksOf problem.now.book.now self.old.marks }
+        requires duals { AreDuals problem.now.table.now problem.now.book.now duals.old.values }
+        requires columns { AreColumns problem.now columns.old }
+        ensures columns { AreColumns problem.now columns.new }
+        ensures duals { AreDuals problem.now.table.now problem.now.book.now duals.new.values }
+    {
+        for _choice in 0..self.free.len() {
+            if !self.step(alloc, problem, columns, climber, duals)? {
+                return Ok(());
+            }
+        }
+        Ok(())
+    }
+}
+
+// A dive that has not fixed anything.
+fn begin(alloc: Global, problem: &Problem, marks: &Marks, temperature: i64) -> Result<Dive, Memory>
+    ensures { IfOk result (λ dive. dive.marks ≡ marks.now) }
+{
+    let book = problem.book;
+    Ok(Dive {
+        marks: marks.copy()?,
+        plan: SoftPlan::none(alloc, book)?,
+        free: vec![in alloc; true; book.tails.len()]?,
+        temperature,
+    })
+}
+
+/// Dives from duals at a temperature, in thousandths of a cost unit. The pool suggests routes to begin with.
+pub fn soft_dive(
+    alloc: Global,
+    problem: &Problem,
+    marks: &Marks,
+    columns: &mut Columns,
+    pool: &Pool,
+    duals: &mut Duals,
+    temperature: i64,
+) -> Result<SoftPlan, Memory>
+    requires problem { IsProblem problem.now }
+    requires marks { AreMarksOf problem.now.book.now marks.now }
+    requires duals { AreDuals problem.now.table.now problem.now.book.now duals.old.values }
+    requires columns { AreColumns problem.now columns.old }
+    ensures duals { AreDuals problem.now.table.now problem.now.book.now duals.new.values }
+    ensures columns { AreColumns problem.now columns.new }
+{
+    let reach = temperature.saturating_mul(REACH);
+    columns.begin(alloc, problem, marks, duals, pool, reach)?;
+    let mut climber = Climber::new(alloc, problem.table)?;
+    let mut dive = begin(alloc, problem, marks, temperature)?;
+    dive.run(alloc, problem, columns, &mut climber, duals)?;
+    Ok(dive.plan)
+}
