@@ -52,7 +52,7 @@ pub fn price_leaf<L: TreeLog>(
     ensures ready { IsReady table.now book.now net.now marks.now prices.new }
 {
     every_book_is_sound(book);
-    let priced = match prices.price_all(alloc, book, table, net, marks, duals, &[]) {
+    let priced = match prices.price_all(alloc, book, table, net, marks, duals, &[], 0) {
         Ok(priced) => priced,
         Err(_) => return Err(Stop::Memory),
     };

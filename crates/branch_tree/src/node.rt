@@ -59,7 +59,7 @@ fn try_shortage(
         return Ok(None);
     };
     duals.values = found.values;
-    match weigh(alloc, book, table, net, marks, pool, duals, best, prices)? {
+    match weigh(alloc, book, table, net, marks, pool, duals, best, prices, 0)? {
         Weighed::Ended(end) => Ok(Some(end)),
         Weighed::Open(_) => Ok(None),
     }

@@ -12,6 +12,7 @@ ghost use Rattle.pricing.specs.Price.{IsPriceOf};
 ghost use Rattle.branch_tree.specs.inside.Leaf.{IsNodePricerOf, IsReady, ArePrices};
 ghost use Rattle.branch_tree.specs.inside.PricedStore.{IsPricedStore};
 
+use crate::suggesting::no_suggestions;
 use branch_marks::Marks;
 use connection_net::Net;
 use label_store::Store;
@@ -38,8 +39,8 @@ pub struct NodePricer {
     pub pricer: Pricer,
     pub store: Store,
     pub search: RouteSearch,
-    /// What the last search suggested.
-    pub suggested: Suggestions,
+    /// What the last searches with a slack suggested, for each aircraft.
+    pub suggested: Vec<Suggestions>,
 }
 
 impl NodePricer {
@@ -51,7 +52,7 @@ impl NodePricer {
         let pricer = Pricer::new(alloc, book, table)?;
         let store = Store::new(alloc, book.activities.len(), 1 + book.rules.counters.len())?;
         let search = RouteSearch::new(alloc, book)?;
-        let suggested = Suggestions::new(alloc);
+        let suggested = no_suggestions(alloc, book.tails.len())?;
         Ok(NodePricer {
             pricer,
             store,
@@ -81,7 +82,8 @@ impl NodePricer {
             .price(book, table, net, marks, duals, k, &mut self.store)
     }
 
-    // Prices an aircraft, by a search within the cut if that finds a route.
+    // Prices an aircraft, by a search that looks further than the cut by the slack, if that finds a route. With a slack it keeps
+    // what the search suggests.
     fn price_within(
         &mut self,
         book: &Book,
@@ -91,6 +93,7 @@ impl NodePricer {
         duals: &Duals,
         k: u32,
         cut: i64,
+        slack: u32,
     ) -> Result<Priced, Memory>
         requires ready { IsReady table.now book.now net.now marks.now self.old }
         requires duals { AreDuals table.now book.now duals.now.values }
@@ -98,17 +101,21 @@ impl NodePricer {
         ensures price { IfOk result (IsPriceOf table.now book.now marks.now.facts k duals.now.values) }
         ensures ready { IsReady table.now book.now net.now marks.now self.new }
     {
+        let far = cut.saturating_add(i64::from(slack));
         let found = self
             .search
-            .least_route(book, table, net, marks, duals, k, cut, 0)?;
+            .least_route(book, table, net, marks, duals, k, far, slack)?;
         match found {
-            Found::Best { value, route } => Ok(Priced::Best { value, route }),
+            Found::Best { value, route } => {
+                self.suggest_routes(book, table, net, marks, duals, k, &value, slack)?;
+                Ok(Priced::Best { value, route })
+            }
             Found::NoneWithin => self.fill(book, table, net, marks, duals, k),
         }
     }
 
     /// Prices all aircraft, up to one that is stuck. The cuts only suggest: a route is looked for within the cut of its
-    /// aircraft, and only where there is none further out.
+    /// aircraft, and only where there is none further out. With a slack, searches look further by it, and suggest routes.
     pub fn price_all(
         &mut self,
         alloc: Global,
@@ -118,6 +125,7 @@ impl NodePricer {
         marks: &Marks,
         duals: &Duals,
         cuts: &[i64],
+        slack: u32,
     ) -> Result<PricedAll, Memory>
         requires ready { IsReady table.now book.now net.now marks.now self.old }
         requires duals { AreDuals table.now book.now duals.now.values }
@@ -128,7 +136,7 @@ impl NodePricer {
         let mut routes = Vec::new(alloc);
         for k in 0..book.tails.len() as u32 {
             let cut = cut_of(cuts, k);
-            let priced = self.price_within(book, table, net, marks, duals, k, cut)?;
+            let priced = self.price_within(book, table, net, marks, duals, k, cut, slack)?;
             match priced {
                 Priced::Best { value, route } => push_best(
                     &mut values,

@@ -15,6 +15,7 @@ ghost use Rattle.branch_tree.specs.inside.Weighing.{IsWeighed};
 use crate::adding::add_routes;
 use crate::bounds::passes;
 use crate::step::End;
+use crate::suggesting::add_all_suggestions;
 use crate::weighing::{Weighed, weigh};
 use crate::{Best, NodePricer};
 use branch_marks::Marks;
@@ -98,23 +99,23 @@ fn look(
 {
     every_book_is_sound(book);
     legal_routes_rise();
-    let found = match weigh(alloc, book, table, net, marks, pool, duals, best, prices)? {
+    let slack = slack_at(temperature, pool.count() == 0);
+    let weighed = weigh(
+        alloc, book, table, net, marks, pool, duals, best, prices, slack,
+    )?;
+    let found = match weighed {
         Weighed::Ended(end) => return Ok(Weighed::Ended(end)),
         Weighed::Open(found) => found,
     };
-    let is_first = pool.count() == 0;
     let _ = add_routes(book, table, pool, &found.routes)?;
-    let slack = slack_at(temperature, is_first);
-    prices.suggest_all(
+    add_all_suggestions(
         alloc,
         book,
         table,
-        net,
         marks,
-        duals,
         pool,
-        &found.values,
-        slack,
+        &prices.suggested,
+        &mut prices.search,
     )?;
     try_pool(alloc, book, table, pool, duals, best, temperature)?;
     if passes(found.sum, best.target) {

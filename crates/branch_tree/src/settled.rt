@@ -50,7 +50,7 @@ fn begin(
 {
     every_book_is_sound(book);
     legal_routes_rise();
-    match weigh(alloc, book, table, net, marks, pool, duals, best, prices)? {
+    match weigh(alloc, book, table, net, marks, pool, duals, best, prices, 0)? {
         Weighed::Ended(end) => Ok(Some(end)),
         Weighed::Open(found) => {
             let _ = add_routes(book, table, pool, &found.routes)?;
@@ -99,6 +99,7 @@ fn turn(
         duals,
         best,
         &mut tools.prices,
+        0,
     )? {
         Weighed::Ended(end) => Ok(Some(end)),
         Weighed::Open(found) => {

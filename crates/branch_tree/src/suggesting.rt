@@ -108,7 +108,7 @@ fn add_suggested(
     )
 }
 
-// Adds to a pool what the last search suggests for an aircraft.
+// Adds to a pool what a search suggested for an aircraft.
 fn add_suggestions(
     alloc: Global,
     book: &Book,
@@ -133,69 +133,68 @@ fn add_suggestions(
     Ok(())
 }
 
+/// Adds to a pool what searches suggested for each aircraft.
+pub fn add_all_suggestions(
+    alloc: Global,
+    book: &Book,
+    table: &CostTable,
+    marks: &Marks,
+    pool: &mut Pool,
+    suggested: &[Suggestions],
+    search: &mut RouteSearch,
+) -> Result<(), Memory>
+    requires table { IsTableFor book.now table.now }
+    requires marks { AreMarksOf book.now marks.now }
+    requires pool { IsFittingPool table.now book.now marks.now.facts pool.old }
+    requires search { IsSearchOf book.now search.old }
+    ensures pool { IsFittingPool table.now book.now marks.now.facts pool.new }
+    ensures search { IsSearchOf book.now search.new }
+{
+    every_book_is_sound(book);
+    for k in 0..book.tails.len() as u32 {
+        if let Some(suggested) = suggested.get(k as usize) {
+            add_suggestions(alloc, book, table, marks, pool, k, suggested, search)?;
+        }
+    }
+    Ok(())
+}
+
+/// For each of so many aircraft no suggestion yet.
+pub fn no_suggestions(alloc: Global, aircraft: usize) -> Result<Vec<Suggestions>, Memory> {
+    let mut suggested = Vec::new(alloc);
+    for _aircraft in 0..aircraft {
+        suggested.push(Suggestions::new(alloc))?;
+    }
+    Ok(suggested)
+}
+
 impl NodePricer {
-    // Searches an aircraft's routes as far as a cut, and adds to a pool the best through each activity that are suggested.
-    fn suggest_routes(
+    /// Keeps what the last search suggests, which found this least weight of the aircraft: the best route through each activity
+    /// that is heavier by the slack at most. Without a slack nothing is suggested.
+    pub fn suggest_routes(
         &mut self,
-        alloc: Global,
         book: &Book,
         table: &CostTable,
         net: &Net,
         marks: &Marks,
         duals: &Duals,
-        pool: &mut Pool,
         k: u32,
-        cut: i64,
+        value: &i64,
         slack: u32,
     ) -> Result<(), Memory>
         requires ready { IsReady table.now book.now net.now marks.now self.old }
         requires duals { AreDuals table.now book.now duals.now.values }
-        requires pool { IsFittingPool table.now book.now marks.now.facts pool.old }
         requires aircraft { k < aircraft book.now }
         ensures ready { IsReady table.now book.now net.now marks.now self.new }
-        ensures pool { IsFittingPool table.now book.now marks.now.facts pool.new }
     {
-        self.search
-            .least_route(book, table, net, marks, duals, k, cut, slack)?;
-        self.search.suggest(book, table, net, marks, duals, k, cut, &mut self.suggested)?;
-        add_suggestions(
-            alloc,
-            book,
-            table,
-            marks,
-            pool,
-            k,
-            &self.suggested,
-            &mut self.search,
-        )
-    }
-
-    /// Adds to a pool what searches suggest that look further than the least weights by the slack, in thousandths of a cost
-    /// unit.
-    pub fn suggest_all(
-        &mut self,
-        alloc: Global,
-        book: &Book,
-        table: &CostTable,
-        net: &Net,
-        marks: &Marks,
-        duals: &Duals,
-        pool: &mut Pool,
-        values: &[i64],
-        slack: u32,
-    ) -> Result<(), Memory>
-        requires ready { IsReady table.now book.now net.now marks.now self.old }
-        requires duals { AreDuals table.now book.now duals.now.values }
-        requires pool { IsFittingPool table.now book.now marks.now.facts pool.old }
-        ensures ready { IsReady table.now book.now net.now marks.now self.new }
-        ensures pool { IsFittingPool table.now book.now marks.now.facts pool.new }
-    {
-        every_book_is_sound(book);
-        for k in 0..book.tails.len() as u32 {
-            let value = values.get(k as usize).copied().unwrap_or(0);
-            let cut = value.saturating_add(i64::from(slack));
-            self.suggest_routes(alloc, book, table, net, marks, duals, pool, k, cut, slack)?;
+        if slack == 0 {
+            return Ok(());
         }
-        Ok(())
+        let Some(suggested) = self.suggested.get_mut(k as usize) else {
+            return Ok(());
+        };
+        let cut = value.saturating_add(i64::from(slack));
+        self.search
+            .suggest(book, table, net, marks, duals, k, cut, suggested)
     }
 }

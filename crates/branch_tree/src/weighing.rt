@@ -38,7 +38,8 @@ pub struct LeastRoutes {
     pub sum: i128,
 }
 
-/// Prices all aircraft, within what the pool's routes weigh where it has some. The target falls where their routes are a cheaper plan.
+/// Prices all aircraft, within what the pool's routes weigh where it has some, and by a slack further for suggestions. The target
+/// falls where their routes are a cheaper plan.
 pub fn weigh(
     alloc: Global,
     book: &Book,
@@ -49,6 +50,7 @@ pub fn weigh(
     duals: &Duals,
     best: &mut Best,
     prices: &mut NodePricer,
+    slack: u32,
 ) -> Result<Weighed, Memory>
     requires ready { IsReady table.now book.now net.now marks.now prices.old }
     requires duals { AreDuals table.now book.now duals.now.values }
@@ -60,7 +62,7 @@ pub fn weigh(
 {
     every_book_is_sound(book);
     let cuts = cuts_of(alloc, book, pool, duals)?;
-    let priced = prices.price_all(alloc, book, table, net, marks, duals, &cuts)?;
+    let priced = prices.price_all(alloc, book, table, net, marks, duals, &cuts, slack)?;
     let (values, routes) = match priced {
         PricedAll::Stuck(k) => return Ok(Weighed::Ended(End::Stuck(k))),
         PricedAll::Least { values, routes } => (values, routes),

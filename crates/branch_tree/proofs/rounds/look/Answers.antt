@@ -5,11 +5,11 @@ use Rattle.branch_tree.proofs.rounds.look.Goals as goal
 pub returns-in_err-add_routes-clause-pool : goal.returns-in_err-add_routes-clause-pool
 returns-in_err-add_routes-clause-pool c =
     c.add_routes.ensures.fitting c.args.marks.now.facts c.requires.pool
-    (open_fits c.args.table.now c.args.book.now c.args.marks.now.facts c.args.duals.now.values c.weigh.new.best.target c.in_ok-end.field-0 c.in-Open.found
-    c.in_ok-end.ensures.weighed c.in-Open.is c.deref.result.now c.deref.ensures.value)
+    (open_fits c.args.table.now c.args.book.now c.args.marks.now.facts c.args.duals.now.values c.weigh.new.best.target c.in_ok-weighed.weighed c.in-Open.found
+    c.in_ok-weighed.ensures.weighed c.in-Open.is c.deref.result.now c.deref.ensures.value)
 
-pub suggest_all-requires-clause-pool : goal.suggest_all-requires-clause-pool
-suggest_all-requires-clause-pool c =
+pub add_all_suggestions-requires-clause-pool : goal.add_all_suggestions-requires-clause-pool
+add_all_suggestions-requires-clause-pool c =
     c.add_routes.ensures.fitting c.args.marks.now.facts c.requires.pool
-    (open_fits c.args.table.now c.args.book.now c.args.marks.now.facts c.args.duals.now.values c.weigh.new.best.target c.in_ok-end.field-0 c.in-Open.found
-    c.in_ok-end.ensures.weighed c.in-Open.is c.deref.result.now c.deref.ensures.value)
+    (open_fits c.args.table.now c.args.book.now c.args.marks.now.facts c.args.duals.now.values c.weigh.new.best.target c.in_ok-weighed.weighed c.in-Open.found
+    c.in_ok-weighed.ensures.weighed c.in-Open.is c.deref.result.now c.deref.ensures.value)

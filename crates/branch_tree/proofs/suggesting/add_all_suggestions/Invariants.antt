@@ -1,10 +1,10 @@
-use Rattle.branch_tree.specs.inside.Leaf.{IsReady}
+use Rattle.route_search.specs.Search.{IsSearchOf}
 use Rattle.branch_tree.specs.inside.Stepping.{IsFittingPool}
-use Rattle.branch_tree.proofs.node_pricer.NodePricer.suggest_all.Given as goal
+use Rattle.branch_tree.proofs.suggesting.add_all_suggestions.Given as goal
 
 -- what was added fits
 abbrev pub invariant-loop-k : goal.invariant-loop-k
 invariant-loop-k l = record {
-  ready : IsReady l.table l.book l.net l.marks l.self;
   pool : IsFittingPool l.table l.book l.marks.facts l.pool;
+  search : IsSearchOf l.book l.search;
 }
