@@ -1,6 +1,7 @@
-//! What pricing, the search within a cut and dives answer on small books.
+//! What pricing, the search within a cut, dives and the plan finder answer on small books.
 
 mod dives;
+mod finds;
 mod prices;
 mod questions;
 mod routes;

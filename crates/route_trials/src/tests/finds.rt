@@ -1,0 +1,163 @@
+//! Plans that dives and repairs find, on books by hand. Marks leave one plan of each book or none, so that what may be found is
+//! known from outside.
+
+ghost use Rattle.tail_book.specs.inside.CostTable.{IsTableFor};
+
+use super::twice;
+use branch_marks::Fact;
+use connection_net::Net;
+use plan_finder::{Problem, Sought, find_by_dives};
+use pool_plans::Found;
+use restricted_master::Pool;
+use std::alloc::Global;
+use std::test::Fail;
+use tail_book::*;
+use trial_books::{Row, are_duals, costs, duals_of, flight, marks, plain_book, there_and_back};
+
+// More labels and routes than any of these books has.
+const AMPLE: u64 = 1_000_000;
+
+// What is found by a table, under marks of these facts, and how many routes a pool that was empty then has. Nothing where the
+// duals are not in the box.
+fn found_by(
+    alloc: Global,
+    book: &Book,
+    table: &CostTable,
+    facts: &[Fact],
+    duals: &[i64],
+    work: u64,
+) -> Result<(Option<Found>, usize), Fail>
+    requires { IsTableFor book.now table.now }
+{
+    let net = Net::new(alloc, book)?;
+    let (marks, duals) = (marks(alloc, book, facts)?, duals_of(alloc, duals)?);
+    let mut pool = Pool::new(alloc)?;
+    if !are_duals(book, table, &duals) {
+        return Ok((None, 0));
+    }
+    let problem = Problem {
+        book,
+        table,
+        net: &net,
+    };
+    let sought = Sought {
+        marks: &marks,
+        duals: &duals,
+        work,
+    };
+    let found = find_by_dives(alloc, &problem, &sought, &mut pool)?;
+    Ok((found, pool.count()))
+}
+
+// The same by the book's own costs, with ample work.
+fn found(
+    alloc: Global,
+    book: &Book,
+    facts: &[Fact],
+    duals: &[i64],
+) -> Result<(Option<Found>, usize), Fail> {
+    let table = costs(alloc, book)?;
+    found_by(alloc, book, &table, facts, duals, AMPLE)
+}
+
+// Whether the answer is a plan of two aircraft with these routes and this cost.
+fn is_plan(answer: &Option<Found>, first: &[u32], second: &[u32], want: u64) -> bool {
+    match answer {
+        Some(Found { plan, cost }) => {
+            plan.0.len() == 2
+                && plan.0[0].0.as_slice() == first
+                && plan.0[1].0.as_slice() == second
+                && *cost == want
+        }
+        None => false,
+    }
+}
+
+// Two flights at once, of an hour and of two.
+fn side_by_side() -> [Row; 2] {
+    [flight((0, 1), (360, 420)), flight((0, 1), (360, 480))]
+}
+
+// A minute costs the second aircraft twice as much. What is given to one of the two, or taken from it, leaves one plan,
+// whatever the duals say. The pool gets its routes.
+#[test]
+fn the_plan_that_marks_leave(rt: HostRuntime) -> Result<(), Fail> {
+    let book = plain_book(rt.alloc(), &side_by_side(), &[0, 1], 30)?;
+    let (short, long) = ([0u32].as_slice(), [1u32].as_slice());
+    for (fact, first, second, cost) in [
+        (Fact::Must(0, 1), long, short, 240),
+        (Fact::Bar(0, 0), long, short, 240),
+        (Fact::Must(1, 1), short, long, 300),
+        (Fact::Bar(1, 0), short, long, 300),
+    ] {
+        for duals in [[0i64, 0], [120_000, 180_000]] {
+            let (answer, routes) = found(rt.alloc(), &book, &[fact], &duals)?;
+            assert!(rt;
+                is_plan(&answer, first, second, cost),
+                "{fact:?}, {duals:?}"
+            );
+            assert_eq!(rt; routes, 2, "{fact:?}, {duals:?}");
+        }
+    }
+    Ok(())
+}
+
+// There and back twice, by facts of all four kinds. Each way back is tied to the way out, and the first aircraft is left with
+// all of it. Where the first way back is cut from the way out, nobody else is there to fly it.
+#[test]
+fn facts_of_all_kinds(rt: HostRuntime) -> Result<(), Fail> {
+    let book = twice(rt.alloc(), 8, true)?;
+    let all = [0u32, 1, 2, 3, 4];
+    let (answer, _) = found(
+        rt.alloc(),
+        &book,
+        &[
+            Fact::Tie(0, 1),
+            Fact::Tie(3, 4),
+            Fact::Must(0, 0),
+            Fact::Bar(1, 2),
+            Fact::Bar(1, 3),
+        ],
+        &[0; 5],
+    )?;
+    assert!(rt; is_plan(&answer, &all, &[], 240));
+    let (answer, _) = found(
+        rt.alloc(),
+        &book,
+        &[Fact::Cut(0, 1), Fact::Must(0, 0)],
+        &[0; 5],
+    )?;
+    assert!(rt; answer.is_none());
+    Ok(())
+}
+
+// A turn of half an hour lets the one aircraft come back, a minute more does not: then there is no plan, and none is found.
+#[test]
+fn no_plan_where_there_is_none(rt: HostRuntime) -> Result<(), Fail> {
+    for (turn, cost) in [(30, Some(120)), (31, None)] {
+        let book = there_and_back(rt.alloc(), &[0], turn)?;
+        let (answer, _) = found(rt.alloc(), &book, &[], &[0, 0])?;
+        assert_eq!(rt; answer.map(|plan| plan.cost), cost, "{turn}");
+    }
+    Ok(())
+}
+
+// Where no flight is there, the empty routes are the plan.
+#[test]
+fn nothing_to_fly(rt: HostRuntime) -> Result<(), Fail> {
+    let book = plain_book(rt.alloc(), &[], &[0, 1], 30)?;
+    let (answer, _) = found(rt.alloc(), &book, &[], &[])?;
+    assert!(rt; is_plan(&answer, &[], &[], 0));
+    Ok(())
+}
+
+// Without work nothing is looked for, and the pool stays empty.
+#[test]
+fn no_work_finds_nothing(rt: HostRuntime) -> Result<(), Fail> {
+    let book = there_and_back(rt.alloc(), &[0], 30)?;
+    let table = costs(rt.alloc(), &book)?;
+    let (answer, routes) = found_by(rt.alloc(), &book, &table, &[], &[0, 0], 0)?;
+    assert!(rt; answer.is_none());
+    assert_eq!(rt; routes, 0);
+    Ok(())
+}
