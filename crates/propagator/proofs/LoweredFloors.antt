@@ -11,7 +11,7 @@ use Rattle.tail_book.specs.Lookup.{activities}
 use Rattle.tail_book.specs.inside.Order.{EachAtMost}
 use Rattle.branch_marks.specs.declared.fact.Fact.{Fact}
 use Rattle.branch_marks.specs.Floors.{lesser, lesser_floor, stepped_floor}
-use Rattle.floor_rows.specs.inside.FloorRow.{FloorRowSeen, floor_in, IsSetAt}
+use Rattle.floor_rows.specs.inside.FloorRow.{FloorRowSeen, floor_in, IsSetAt, IsRowOf}
 use Rattle.floor_rows.specs.inside.LeastOver.{floor_of, least_over, brought, brought_first, FloorsAreLeast}
 
 -- what is there at b, lowered to what is left to take in, is the floor; the rest is as it was

@@ -1,5 +1,6 @@
 use Rattle.std.specs.Prelude.{All}
-use Rattle.std.proofs.Common.{◌<◌, ◌-◌, ◌+◌, ◌≡◌, ◌∙◌, ℕ, List, length, take, subst, sym, ap, refl, rules}
+use Rattle.std.proofs.Common.{◌<◌, ◌-◌, ◌+◌, ◌≡◌, ◌∙◌, ℕ, ℤ, List, Option, arith, length, take, get_or, subst, sym, ap, refl, rules}
+use Rattle.std.specs.List.{range_with_len}
 use Rattle.connection_net.specs.Seen.{NetSeen}
 use Rattle.connection_net.specs.Net.{net_of, predecessors_in}
 use Rattle.floor_rows.specs.inside.LeastOver.{floor_of}
