@@ -58,13 +58,19 @@ fn ends_as_it_may(rt: &impl Abort, alloc: Global, asked: &Asked<'_>) -> Result<(
     } else {
         (&first, &second)
     };
-    assert!(rt; is_so(&ample.seen, asked.status, asked.printed), "{ample:?}");
+    assert!(rt;
+        is_so(&ample.seen, asked.status, asked.printed),
+        "{ample:?}"
+    );
     let verdict = judged(alloc, asked, &ample.cert)?;
     assert_eq!(rt; verdict, Verdict::Yes(asked.claim));
     if other.seen.status == NO_MEMORY.0 {
         assert!(rt; leaves_a_front(other, ample, &old), "{other:?}");
     } else {
-        assert!(rt; is_so(&other.seen, asked.status, asked.printed), "{other:?}");
+        assert!(rt;
+            is_so(&other.seen, asked.status, asked.printed),
+            "{other:?}"
+        );
         assert!(rt; other.cert.as_slice() == ample.cert.as_slice(), "{other:?}");
     }
     Ok(())
