@@ -8,7 +8,6 @@ mod branching;
 mod certificates;
 mod limits;
 mod logs;
-mod memory;
 mod nodes;
 mod worked;
 

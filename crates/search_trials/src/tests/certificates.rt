@@ -11,8 +11,8 @@ use std::test::Fail;
 use tail_book::*;
 use tail_outside::MemSink;
 
-/// What is claimed of an outcome.
-pub fn claim_of(outcome: &Outcome) -> Claim {
+// What is claimed of an outcome.
+fn claim_of(outcome: &Outcome) -> Claim {
     match outcome {
         Outcome::Optimal(_, cost) => Claim::Optimal(*cost),
         Outcome::Infeasible => Claim::Infeasible,

@@ -71,19 +71,19 @@ fn is_short(step: &Result<Step, Stop>) -> bool {
     matches!(step, Err(Stop::Memory))
 }
 
-// Whether a step ended with a bound that a plan of this cost, in thousandths of a unit, attains.
-fn is_bound(step: &Result<Step, Stop>, cost: i128) -> bool {
-    matches!(step, Ok(Step::Bounded(sum)) if cost - 1_000 < *sum && *sum <= cost)
+// Whether a step ended with a bound of so many cost units, rounded up.
+fn is_bound(step: &Result<Step, Stop>, units: u64) -> bool {
+    let most = units as i128 * 1_000;
+    matches!(step, Ok(Step::Bounded(sum)) if most - 1_000 < *sum && *sum <= most)
 }
 
 // Whether both steps ended so, but for one at most that ran out of memory, and left this cost as the target.
 fn are_so(steps: &Steps, units: u64) -> bool {
-    let cost = i128::from(units) * 1_000;
     let (first, again) = (is_short(&steps.first), is_short(&steps.again));
     steps.target == units
         && !(first && again)
-        && (first || is_bound(&steps.first, cost))
-        && (again || is_bound(&steps.again, cost))
+        && (first || is_bound(&steps.first, units))
+        && (again || is_bound(&steps.again, units))
 }
 
 // The root of the book of two flights, and a node where the dear aircraft has to fly both.
