@@ -4,6 +4,10 @@ use Rattle.std.specs.Prelude.{ℕ, false, ◌≡◌, ◌⊎◌, ◌^◌, ◌-◌
 use Rattle.branch_marks.specs.declared.event.Event.{Event}
 use Rattle.branch_marks.specs.LogShown.{LogShown}
 
+-- the log tells no list
+abbrev pub TellsNothing : LogShown → Type 0
+TellsNothing log = (told : List Event) → log.tells told → ⊥
+
 -- the log tells the list with all of the due events at its end
 abbrev pub Notes : LogShown → LogShown → List Event → Type 0
 Notes old new due = (told : List Event) → new.ceased ≡ false → old.tells told → new.tells (told ++ due)

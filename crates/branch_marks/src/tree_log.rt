@@ -4,12 +4,12 @@
 //! it. So what a search promises of its events can be said of any log: one that keeps nothing, one that keeps the events,
 //! and one that writes lines, of which the last may be cut off.
 
-ghost use Rattle.std.specs.Prelude.{◌≡◌, ◌∷◌, [], List, false, ⊤, IsOk, IfOk, OnOk, OnErr, IsErrOf};
+ghost use Rattle.std.specs.Prelude.{◌≡◌, ◌∷◌, [], List, true, false, ⊤, IsOk, IfOk, OnOk, OnErr, IsErrOf};
 ghost use Rattle.std.specs.List.{All};
 ghost use Rattle.branch_marks.specs.declared.event.Event.{Event};
 ghost use Rattle.branch_marks.specs.Events.{IsNotable};
 ghost use Rattle.branch_marks.specs.LogShown.{LogShown};
-ghost use Rattle.branch_marks.specs.TreeLog.{Notes, NotesNothing, IsLater, WriteHasFailed};
+ghost use Rattle.branch_marks.specs.TreeLog.{Notes, NotesNothing, IsLater, TellsNothing, WriteHasFailed};
 
 #[cfg(test)]
 mod tests;
@@ -36,6 +36,10 @@ pub trait TreeLog {
     /// What the log holds beside the events is the same before and after.
     ghost beside: { Self → Self → Type 0 };
 
+    /// Whether the events are wanted. A log that wants none tells no list, so that nothing has to be made for it.
+    fn wants_events(&self) -> bool
+        ensures { result ≡ false → TellsNothing (shows self.now) };
+
     /// Notes the event at the end of the list. After a failure the log tells the list as it was, or is torn.
     fn note(&mut self, event: &Event) -> Result<(), LogFail>
         requires { IsNotable event.now }
@@ -59,7 +63,15 @@ impl TreeLog for NoLog {
 
     ghost beside = { λ _ _. ⊤ };
 
-    fn note(&mut self, _event: &Event) -> Result<(), LogFail> {
+    fn wants_events(&self) -> bool
+        ensures none { result ≡ false }
+    {
+        false
+    }
+
+    fn note(&mut self, _event: &Event) -> Result<(), LogFail>
+        ensures ok { IsOk result }
+    {
         Ok(())
     }
 
@@ -106,6 +118,12 @@ impl TreeLog for MemTree {
     ghost shows = { λ log. record { tells = λ told. log ≡ told; torn = λ _ _. ⊥; ceased = false; faults = 0 } };
 
     ghost beside = { λ _ _. ⊤ };
+
+    fn wants_events(&self) -> bool
+        ensures all { result ≡ true }
+    {
+        true
+    }
 
     fn note(&mut self, event: &Event) -> Result<(), LogFail> {
         match self.events.push(*event) {

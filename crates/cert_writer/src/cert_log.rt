@@ -159,6 +159,12 @@ impl<S: Sink> TreeLog for CertLog<S> {
     // The numbers of the header stay.
     ghost beside = { λ a b. S.beside a.sink b.sink × (b.activities ≡ a.activities) × (b.aircraft ≡ a.aircraft) × (b.counters ≡ a.counters) };
 
+    fn wants_events(&self) -> bool
+        ensures all { result ≡ true }
+    {
+        true
+    }
+
     fn note(&mut self, event: &Event) -> Result<(), LogFail> {
         if add_line(&CertLine::Event(*event), &mut self.waiting).is_err() {
             return Err(LogFail::Memory);

@@ -33,6 +33,10 @@ impl TreeLog for Failing {
 
     ghost beside = { λ _ _. ⊤ };
 
+    fn wants_events(&self) -> bool {
+        true
+    }
+
     fn note(&mut self, event: &Event) -> Result<(), LogFail> {
         if self.room == 0 {
             self.faults = self.faults.saturating_add(1);
