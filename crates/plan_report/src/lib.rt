@@ -13,7 +13,7 @@ mod writing;
 pub use audit_text::write_audit;
 pub use plan_text::read_plan;
 pub use refused::refusal_line;
-pub use report::write_report;
+pub use report::{first_line, write_report};
 pub use writing::{ReportFail, write_lines};
 
 #[cfg(test)]

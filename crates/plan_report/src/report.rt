@@ -52,7 +52,8 @@ fn report_lines(alloc: Global, book: &Book, outcome: &Outcome) -> Result<Vec<Lin
     Ok(lines)
 }
 
-fn first_line(alloc: Global, outcome: &Outcome) -> Result<Line, Memory>
+/// The line that says what was found, in cost units, without a plan.
+pub fn first_line(alloc: Global, outcome: &Outcome) -> Result<Line, Memory>
     ensures { IfOk result (λ line. line ≡ first_line outcome.now) }
 {
     let mut line = Line::new(alloc)?;

@@ -16,7 +16,7 @@ use branch_tree::Limit;
 use cert_checker::laws::accepted_is_yes;
 use cert_checker::{Verdict, judge};
 use certified_search::{Certified, certified_search};
-use plan_report::{ReportFail, write_lines};
+use plan_report::{ReportFail, first_line, write_lines};
 use run_frame::{Answer, Finding, Status, print};
 use std::alloc::Global;
 use tail_book::{Book, CostTable, Memory, Outcome};
@@ -99,33 +99,6 @@ fn size_line(alloc: Global, seed: u64) -> Result<Line, Memory>
     line.text(b"trial ")?;
     line.unsigned(seed)?;
     line.text(b" activities 120 aircraft 8\n")?;
-    Ok(line)
-}
-
-// What was found, without the plan.
-fn first_line(alloc: Global, outcome: &Outcome) -> Result<Line, Memory>
-    ensures { IfOk result (λ line. line ≡ first_line outcome.now) }
-{
-    let mut line = Line::new(alloc)?;
-    match outcome {
-        Outcome::Optimal(_, cost) => {
-            line.text(b"optimal ")?;
-            line.unsigned(*cost)?;
-        }
-        Outcome::Infeasible => line.text(b"infeasible")?,
-        Outcome::Between { low, high, .. } => {
-            line.text(b"limit ")?;
-            line.unsigned(*low)?;
-            line.text(b" ")?;
-            line.unsigned(*high)?;
-        }
-        Outcome::Above { low, .. } => {
-            line.text(b"limit ")?;
-            line.unsigned(*low)?;
-            line.text(b" -")?;
-        }
-    }
-    line.text(b"\n")?;
     Ok(line)
 }
 
