@@ -2,6 +2,9 @@
 //!
 //! What weighs least is known before: an aircraft is priced again for its labels alone, so that no more than one store of
 //! them is ever held. Its events are listed before the first of them is told.
+//!
+//! A log that wants no events is told none, and then no aircraft is priced again: that covers with these values are there
+//! is a law of `whole_families`, and nobody reads them.
 
 ghost use Rattle.std.specs.Prelude.{◌≡◌, ◌<◌, ◌∷◌, [], All, IfOk, OnOk, OnErr, IsErrOf, List};
 ghost use Rattle.tail_book.specs.Lookup.{aircraft};
@@ -27,6 +30,7 @@ use label_store::laws::every_store_is_sound;
 use std::alloc::Global;
 use tail_book::laws::{every_book_is_sound, every_cost_table_is_sound};
 use tail_book::{Book, CostTable, Duals, Memory};
+use whole_families::laws::{low_bounds_are_shown, stuck_is_shown};
 
 // The events of the cover of an aircraft with this value, which is its least weight.
 fn cover_of(
@@ -186,8 +190,8 @@ fn duals_of(
     Ok(events)
 }
 
-/// Notes a bound: its duals, and a cover of each aircraft, with these values, which are their least weights.
-pub fn note_bounded<L: TreeLog>(
+// Notes a bound as it is told: its duals, and then the covers, one after the other.
+fn tell_bounded<L: TreeLog>(
     alloc: Global,
     book: &Book,
     table: &CostTable,
@@ -221,8 +225,39 @@ pub fn note_bounded<L: TreeLog>(
     Ok(())
 }
 
-/// Notes that an aircraft is stuck, with the labels that show it.
-pub fn note_stuck<L: TreeLog>(
+/// Notes a bound: its duals, and a cover of each aircraft, with these values, which are their least weights.
+/// Where the log wants no events nothing is priced.
+pub fn note_bounded<L: TreeLog>(
+    alloc: Global,
+    book: &Book,
+    table: &CostTable,
+    net: &Net,
+    marks: &Marks,
+    duals: &Duals,
+    values: &[i64],
+    prices: &mut NodePricer,
+    log: &mut L,
+) -> Result<(), Stop>
+    requires ready { IsReady table.now book.now net.now marks.now prices.old }
+    requires duals { AreDuals table.now book.now duals.now.values }
+    requires least { AreLeastWeights table.now book.now marks.now.facts duals.now.values values.now }
+    ensures noted { OnOk result (IsBoundNoted table.now book.now marks.now.facts duals.now.values values.now (L.shows log.old) (L.shows log.new)) }
+    ensures cut { OnErr result (IsCutAtLeaf table.now book.now marks.now.facts (L.shows log.old) (L.shows log.new)) }
+    ensures later { IsLater (L.shows log.old) (L.shows log.new) }
+    ensures beside { L.beside log.old log.new }
+    ensures cause { IsErrOf result Stop.Log → WriteHasFailed (L.shows log.old) (L.shows log.new) }
+    ensures ready { IsReady table.now book.now net.now marks.now prices.new }
+{
+    if log.wants_events() {
+        return tell_bounded(alloc, book, table, net, marks, duals, values, prices, log);
+    }
+    every_book_is_sound(book);
+    low_bounds_are_shown();
+    Ok(())
+}
+
+// Notes a stuck aircraft as it is told: with its labels.
+fn tell_stuck<L: TreeLog>(
     alloc: Global,
     book: &Book,
     table: &CostTable,
@@ -254,6 +289,37 @@ pub fn note_stuck<L: TreeLog>(
     if let Err(stop) = note_all(log, &events) {
         return Err(stop);
     }
+    Ok(())
+}
+
+/// Notes that an aircraft is stuck, with the labels that show it.
+/// Where the log wants no events nothing is priced.
+pub fn note_stuck<L: TreeLog>(
+    alloc: Global,
+    book: &Book,
+    table: &CostTable,
+    net: &Net,
+    marks: &Marks,
+    k: u32,
+    prices: &mut NodePricer,
+    log: &mut L,
+) -> Result<(), Stop>
+    requires ready { IsReady table.now book.now net.now marks.now prices.old }
+    requires aircraft { k < aircraft book.now }
+    requires stuck { IsStuck book.now marks.now.facts k }
+    ensures noted { OnOk result ((family : List Label) × IsShownStuck table.now book.now marks.now.facts k family
+        × Notes (L.shows log.old) (L.shows log.new) (stuck_events k family)) }
+    ensures cut { OnErr result (IsCutAtLeaf table.now book.now marks.now.facts (L.shows log.old) (L.shows log.new)) }
+    ensures later { IsLater (L.shows log.old) (L.shows log.new) }
+    ensures beside { L.beside log.old log.new }
+    ensures cause { IsErrOf result Stop.Log → WriteHasFailed (L.shows log.old) (L.shows log.new) }
+    ensures ready { IsReady table.now book.now net.now marks.now prices.new }
+{
+    if log.wants_events() {
+        return tell_stuck(alloc, book, table, net, marks, k, prices, log);
+    }
+    every_book_is_sound(book);
+    stuck_is_shown();
     Ok(())
 }
 

@@ -1,7 +1,7 @@
 //! A leaf that is priced once, without propagation, and told with what shows it: that some aircraft is stuck, or else a bound.
 //!
-//! That nobody is stuck has to be known before the first line of a bound is told. So all aircraft are priced first, and then
-//! each once more for the labels of its cover.
+//! That nobody is stuck has to be known before the first line of a bound is told. So all aircraft are priced first, and then,
+//! for a log that wants the events, each once more for the labels of its cover.
 
 ghost use Rattle.std.specs.Prelude.{◌≡◌, ◌≤◌, ◌^◌, ◌∷◌, ◌+ℤ◌, ◌-ℤ◌, [], pos, length, IfOk, OnErr, IsErrOf};
 ghost use Rattle.tail_book.specs.inside.Sound.{IsWithin};

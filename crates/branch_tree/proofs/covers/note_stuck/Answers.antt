@@ -1,19 +1,7 @@
-use Rattle.std.proofs.Common.{◌≡◌, ◌∙◌, List, subst}
-use Rattle.branch_marks.specs.declared.event.Event.{Event}
-use Rattle.branch_marks.specs.TreeLog.{NotesFront}
-use Rattle.pricing.specs.Rows.{labels_of}
-use Rattle.branch_tree.specs.Node.{Stuck}
-use Rattle.branch_tree.specs.NodeEvents.{stuck_events}
-use Rattle.branch_tree.specs.inside.Leaf.{Whole}
 use Rattle.branch_tree.proofs.covers.note_stuck.Goals as goal
 
--- the cut is in the leaf, which is shown
-pub returns-in-Err-note_all-clause-cut : goal.returns-in-Err-note_all-clause-cut
-returns-in-Err-note_all-clause-cut g c =
-    let family = labels_of c.stuck_of.new.prices.store in
-    let told : c.deref.result.now ≡ stuck_events c.args.k family = c.deref.ensures.value ∙ c.in-Ok-stuck_of.ensures.events in
-    record {
-      part = Whole (Stuck c.args.k family);
-      shown = c.in-Ok-stuck_of.ensures.shown;
-      front = subst (λ (es : List Event). NotesFront (g.L.TreeLog.shows c.args.log.now) (g.L.TreeLog.shows c.note_all.new.log) es) told c.in-Err-note_all.ensures.cut;
-    }
+-- a family that shows it is there, and the log tells no list
+pub returns-clause-noted : goal.returns-clause-noted
+returns-clause-noted g c =
+    let (family, shown) = c.stuck_is_shown.ensures c.args.table.now c.args.book.now c.every_book_is_sound.ensures c.args.marks.now.facts c.args.k c.requires.aircraft c.requires.stuck in
+    (family, shown, λ told runs was. absurd (c.wants_events.ensures c.if-wants_events.false told was))

@@ -8,7 +8,7 @@ ghost use Rattle.branch_marks.specs.Settled.{AreDuals};
 ghost use Rattle.branch_marks.specs.inside.MarkTables.{AreMarksOf};
 
 use super::two_flights;
-use branch_marks::{Fact, Marks, NoLog};
+use branch_marks::{Fact, Marks, MemTree};
 use branch_tree::{Best, Step, Stop, node_step};
 use connection_net::Net;
 use restricted_master::Pool;
@@ -26,7 +26,8 @@ struct Steps {
     target: u64,
 }
 
-// A step, and then another one from what the first left of marks, pool, duals and best plan, whatever became of it.
+// A step, and then another one from what the first left of marks, pool, duals and best plan, whatever became of it. The log
+// wants all events, so that memory may also run out where they are listed.
 fn step_twice(
     alloc: Global,
     book: &Book,
@@ -41,11 +42,12 @@ fn step_twice(
     requires duals { AreDuals table.now book.now duals.old.values }
 {
     let (mut pool, mut best) = (Pool::new(alloc)?, Best::none(table));
+    let mut log = MemTree::new(alloc)?;
     let first = node_step(
-        alloc, book, table, net, marks, &mut pool, duals, &mut best, &mut NoLog,
+        alloc, book, table, net, marks, &mut pool, duals, &mut best, &mut log,
     );
     let again = node_step(
-        alloc, book, table, net, marks, &mut pool, duals, &mut best, &mut NoLog,
+        alloc, book, table, net, marks, &mut pool, duals, &mut best, &mut log,
     );
     Ok(Steps {
         first,

@@ -1,0 +1,5 @@
+pub mod Lists
+pub mod Beginnings
+pub mod WholeFamily
+pub mod Ends
+pub mod Covers
