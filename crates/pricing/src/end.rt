@@ -44,8 +44,8 @@ fn lighter(best: Option<End>, end: End) -> Option<End>
     }
 }
 
-// What a row weighs.
-fn weight_of(store: &Store, j: usize) -> i64
+/// What a row weighs.
+pub fn weight_of(store: &Store, j: usize) -> i64
     requires { j < length store.now.rows }
     ensures { result ≡ weight_of (row_at store.now.rows j) }
 {

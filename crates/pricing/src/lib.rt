@@ -7,7 +7,7 @@ mod departing;
 mod end;
 mod exact_price;
 mod fill;
-mod laws;
+pub mod laws;
 mod line_fill;
 mod line_pass;
 mod priced;
@@ -17,6 +17,7 @@ mod step;
 mod waiting;
 mod window;
 
+pub use end::{spelled, weight_of};
 pub use exact_price::price;
 pub use priced::Priced;
 pub use pricer::Pricer;
