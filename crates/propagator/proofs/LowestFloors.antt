@@ -58,9 +58,12 @@ module _ (width : ℕ) (f g : Option (List ℤ)) (wide : (low : List ℤ) → f 
         by_cases None g w w' h = absurd (none_is_not h.0 h.1)
         by_cases (Some us) None w w' h = h
         by_cases (Some us) (Some vs) w w' h =
-            let (low, is, under) = h in
-            (lesser us vs, refl, chains (lesser us vs) us values (lesser_under us vs (w us refl ∙ sym (w' vs refl))).0
-            (subst (λ (z : List ℤ). EachAtMost z values) (sym (some_same us low is)) under))
+            let (low, is, under) = h in (
+              lesser us vs,
+              refl,
+              chains (lesser us vs) us values (lesser_under us vs (w us refl ∙ sym (w' vs refl))).0
+                  (subst (λ (z : List ℤ). EachAtMost z values) (sym (some_same us low is)) under),
+            )
 
     stays_right : IsLowFor g values → IsLowFor (lesser_floor f g) values
     stays_right = by_cases f g wide other_wide
@@ -70,9 +73,12 @@ module _ (width : ℕ) (f g : Option (List ℤ)) (wide : (low : List ℤ) → f 
         by_cases None g w w' h = h
         by_cases (Some us) None w w' h = absurd (none_is_not h.0 h.1)
         by_cases (Some us) (Some vs) w w' h =
-            let (low, is, under) = h in
-            (lesser us vs, refl, chains (lesser us vs) vs values (lesser_under us vs (w us refl ∙ sym (w' vs refl))).1
-            (subst (λ (z : List ℤ). EachAtMost z values) (sym (some_same vs low is)) under))
+            let (low, is, under) = h in (
+              lesser us vs,
+              refl,
+              chains (lesser us vs) vs values (lesser_under us vs (w us refl ∙ sym (w' vs refl))).1
+                  (subst (λ (z : List ℤ). EachAtMost z values) (sym (some_same vs low is)) under),
+            )
 
 -- the least floors are lowered to those of a row at the activities below n
 pub record IsLowered (book : BookSeen) (row old new : FloorRowSeen) (n : ℕ) : Type 0 where
