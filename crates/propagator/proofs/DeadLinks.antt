@@ -6,7 +6,7 @@ use Rattle.connection_net.specs.inside.Laws.{SuccessorsAreLinks}
 use Rattle.connection_net.specs.Net.{net_of, successors_in}
 use Rattle.std.proofs.Common.{◌≡◌, ◌∙◌, ℕ, ℤ, ◌<◌, ◌≤◌, ◌+◌, suc, inl, inr, Bool, true, false, List, [], ◌∷◌, ◌++◌, length, get_or, refl, sym, ap, subst, arith, below_more, Option, None, Some}
 use Rattle.std.proofs.lemmas.List.{get_or_default, ext_get_or}
-use Rattle.std.proofs.lemmas.Bool.{both_ways, and_from, and_parts, or_cases, eqb-true, cases_order}
+use Rattle.std.proofs.lemmas.Bool.{both_ways, and_parts, or_cases, eqb-true, cases_lt, cases_order}
 use Rattle.tail_book.specs.Seen.{BookSeen}
 use Rattle.tail_book.specs.declared.place.Place.TheVariants.{After}
 use Rattle.tail_book.specs.Lookup.{aircraft}
@@ -95,6 +95,12 @@ asked_now book marks a b n used now may asked lt cannot not link test e = record
 module _ (alive : AliveDecides) (book : BookSeen) (marks : List Fact) (a b n m : ℕ) (gap : (k : ℕ) → n ≤ k → k < m → is_alive book marks k a ≡ false) where
   not_there : (k : ℕ) → n ≤ k → k < m → ¬ IsUsable book marks k (After a) b
   not_there k le lt link = both_ways (is_alive book marks k a) (gap k le lt) ((alive book marks k a).1 link.before)
+
+  pub unused_on : ((k : ℕ) → k < n → ¬ IsUsable book marks k (After a) b) → (k : ℕ) → k < m → ¬ IsUsable book marks k (After a) b
+  unused_on none k lt = elim (cases_lt k n) [
+    | inl before ↦ none k before
+    | inr from ↦ not_there k (omega (arith, from)) lt
+  ]
 
   pub asked_on : (used : Bool) → AreAsked book marks a b n used → AreAsked book marks a b m used
   asked_on used asked = record {

@@ -19,4 +19,5 @@ pub mod StillGoing
 pub mod RisingFloors
 pub mod LoweredFloors
 pub mod LowRows
+pub mod LowestFloors
 pub mod CutOffs

@@ -1,5 +1,5 @@
 -- Rows whose floors are no higher than those of the marks.
-use Rattle.std.proofs.Common.{◌≡◌, ◌∙◌, ◌≤◌, ◌++◌, ℕ, ℤ, ◌<◌, inl, inr, List, length, take, drop, get_or, refl, sym, ap, subst, Option, None, Some}
+use Rattle.std.proofs.Common.{◌≡◌, ◌∙◌, ◌++◌, ℕ, ℤ, ◌<◌, inl, inr, List, take, drop, get_or, sym, ap, subst, Option, None, Some}
 use Rattle.std.proofs.lemmas.Bool.Decides.{eqb_tells}
 use Rattle.std.proofs.lemmas.List.{take-append-drop}
 use Rattle.tail_book.specs.Seen.{BookSeen}

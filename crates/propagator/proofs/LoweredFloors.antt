@@ -1,6 +1,6 @@
 -- Taking in the predecessors of an activity one by one, the last of them first.
 use Rattle.std.specs.Prelude.{◌≢◌, All, if◌then◌else◌}
-use Rattle.std.proofs.Common.{◌≡◌, ◌∙◌, ℕ, ℤ, ◌<◌, ◌+◌, Bool, true, false, List, [], ◌∷◌, ◌++◌, length, take, get_or, ap, arith, refl, sym, subst, Option, None, Some}
+use Rattle.std.proofs.Common.{◌≡◌, ◌∙◌, ℕ, ℤ, ◌<◌, ◌≤◌, ◌+◌, ◌-◌, Bool, true, false, List, [], ◌∷◌, ◌++◌, length, take, get_or, ap, arith, refl, sym, subst, Option, None, Some}
 use Rattle.std.specs.Int.{int_min}
 use Rattle.std.proofs.lemmas.Int.{ints, clamps}
 use Rattle.std.proofs.lemmas.List.{take_more}
@@ -11,7 +11,7 @@ use Rattle.tail_book.specs.Lookup.{activities}
 use Rattle.tail_book.specs.inside.Order.{EachAtMost}
 use Rattle.branch_marks.specs.declared.fact.Fact.{Fact}
 use Rattle.branch_marks.specs.Floors.{lesser, lesser_floor, stepped_floor}
-use Rattle.floor_rows.specs.inside.FloorRow.{FloorRowSeen, floor_in, IsSetAt, IsRowOf}
+use Rattle.floor_rows.specs.inside.FloorRow.{FloorRowSeen, floor_in, IsSetAt}
 use Rattle.floor_rows.specs.inside.LeastOver.{floor_of, least_over, brought, brought_first, FloorsAreLeast}
 
 -- what is there at b, lowered to what is left to take in, is the floor; the rest is as it was
@@ -97,11 +97,15 @@ module _ (book : BookSeen) (marks : List Fact) (k b : ℕ) (first : FloorRowSeen
       known : floor_in row x ≡ floor_of book marks k x
       known = let apart : x ≢ b = omega (arith, lt) in way.others x apart ∙ below x lt
 
-  pub next_of : (row new : FloorRowSeen) (items : List ℕ) (i : ℕ) → i < length items → All (λ x. x < b) items → IsLowering book marks k b first row (take (i + 1) items)
-      → IsSetAt b (lesser_floor (floor_in row b) (brought book marks k b (floor_in row) (get_or items i 0))) row new → IsLowering book marks k b first new (take i items)
-  next_of row new items i within all way set =
-      next_lowered row new (take i items) (get_or items i 0) (all i 0 within)
-      (subst (λ (left : List ℕ). IsLowering book marks k b first row left) (take_more items i 0 within) way) set
+  pub next_of : (row new : FloorRowSeen) (items places : List ℕ) (n : ℕ) → items ≡ places → All (λ x. x < b) places → 0 < n → n ≤ length items
+      → IsLowering book marks k b first row (take n items)
+      → IsSetAt b (lesser_floor (floor_in row b) (brought book marks k b (floor_in row) (get_or items (n - 1) 0))) row new
+      → IsLowering book marks k b first new (take (n - 1) items)
+  next_of row new items places n are all some most way set =
+      let within : n - 1 < length items = omega (arith, some, most) in
+      let more : n ≡ n - 1 + 1 = omega (arith, some) in
+      next_lowered row new (take (n - 1) items) (get_or items (n - 1) 0) (subst (λ (xs : List ℕ). All (λ x. x < b) xs) (sym are) all (n - 1) 0 within)
+      (subst (λ (left : List ℕ). IsLowering book marks k b first row left) (ap (λ (m : ℕ). take m items) more ∙ take_more items (n - 1) 0 within) way) set
 
   -- at the end the floor is there
   pub all_lowered : (row : FloorRowSeen) → IsLowering book marks k b first row [] → IsSetAt b (floor_of book marks k b) first row

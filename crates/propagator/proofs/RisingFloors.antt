@@ -1,7 +1,7 @@
 -- Floors never fall while marks grow. In order of the activities: what a place brings with more facts it brought without them,
 -- from a floor that was no higher, and so no higher itself; and the floor was no higher than what any place brought.
 use Rattle.std.specs.Prelude.{◌&&◌, if◌then◌else◌}
-use Rattle.std.proofs.Common.{◌≡◌, ◌∙◌, ℕ, zero, suc, ℤ, ◌+◌, ◌<◌, ◌≤◌, Bool, true, false, arith, List, [], ◌∷◌, ◌++◌, refl, sym, ap, subst, Option, None, Some}
+use Rattle.std.proofs.Common.{◌≡◌, ◌∙◌, ℕ, zero, suc, ℤ, ◌+◌, ◌<◌, Bool, true, false, arith, List, [], ◌∷◌, ◌++◌, refl, sym, subst, Option, None, Some}
 use Rattle.std.specs.List.{list_all, range_with_len}
 use Rattle.std.proofs.lemmas.Bool.{and_parts, and_from}
 use Rattle.std.proofs.lemmas.Int.{ints, clamps}
@@ -17,7 +17,7 @@ use Rattle.tail_book.specs.inside.Tests.{is_allowed, is_link, within_limits, Lim
 use Rattle.branch_marks.specs.declared.fact.Fact.{Fact}
 use Rattle.branch_marks.specs.inside.MarkTests.{is_alive, is_alive_at, is_usable, lets_fly, lets_go, UsableDecides}
 use Rattle.branch_marks.specs.Floors.{lesser, lesser_floor, stepped_floor, floor_at, FloorsAreLow}
-use Rattle.floor_rows.specs.inside.LeastOver.{floor_of, least_over, brought, brought_first, least_at, FloorsAreLeast}
+use Rattle.floor_rows.specs.inside.LeastOver.{floor_of, least_over, brought, brought_first, FloorsAreLeast}
 use Rattle.propagator.specs.inside.Rising.{IsLowFor}
 
 -- what is usable with more facts is so without them

@@ -10,4 +10,5 @@ pub mod Work
 pub mod Unnamed
 pub mod Cutting
 pub mod Rising
+pub mod Lowest
 pub mod CutOff

@@ -20,6 +20,7 @@ ghost use Rattle.propagator.specs.inside.Work.{IsWorkOf};
 use crate::carriers::carry_all;
 use crate::dead_links::cut_links;
 use crate::flags::clear;
+use crate::lowest::note_lowest;
 use crate::settling::settle_all;
 use crate::suspects::suspect_links;
 use crate::work::Work;
@@ -76,6 +77,7 @@ pub fn close_with(
     settle_all(book, net, steps, marks, facts, seen, rows, work)?;
     carry_all(book, net, steps, marks, facts, rows, work)?;
     suspect_links(book, marks, seen, work);
+    note_lowest(book, seen, rows, &mut work.lowest, &mut work.values);
     cut_links(
         book,
         net,
@@ -86,6 +88,7 @@ pub fn close_with(
         &work.arrive,
         &work.pass,
         rows,
+        &work.lowest,
         &mut work.values,
     )
 }

@@ -3,7 +3,7 @@
 //! A Cut of such a link leaves all floors, and nothing follows from it that did not follow before. So one pass over the
 //! links of the network finds them all. Each that is suspect is judged, once. Only aircraft that are alive at its first
 //! activity are asked, and the one first that went on over the link before. For most links that one goes on too, and the
-//! question is answered by one step.
+//! question is answered by one step. Where the least of all floors is known, one step answers it for most dead ones too.
 
 ghost use Rattle.std.specs.Prelude.{◌≡◌, ◌<◌, ◌↔◌, ℕ, true, false, IsTrue, OnOk, length};
 ghost use Rattle.tail_book.specs.Lookup.{activities, aircraft};
@@ -13,14 +13,17 @@ ghost use Rattle.branch_marks.specs.inside.MarkTables.{AreMarksOf};
 ghost use Rattle.tail_book.specs.declared.place.Place.TheVariants.{After as PlaceAfter};
 ghost use Rattle.branch_marks.specs.Following.{CannotGoBy, IsDeadConnection, IsShutForFloors};
 ghost use Rattle.branch_marks.specs.Marks.{IsUsable};
+ghost use Rattle.floor_rows.specs.inside.FloorRow.{IsRowOf};
 ghost use Rattle.floor_rows.specs.inside.LeastOver.{floor_of};
 ghost use Rattle.propagator.specs.inside.Rows.{AreRowsOf};
 ghost use Rattle.propagator.specs.InTurn.{GrowInTurn};
+ghost use Rattle.propagator.specs.inside.Lowest.{IsLowestOf, SomebodyUses};
 ghost use Rattle.propagator.specs.inside.Suspects.{is_suspect};
 ghost use Rattle.propagator.specs.inside.Cutting.{AreFloorsOf, NothingNewFollows};
 
 use crate::adding::add_next;
 use crate::laws::{cuts_make_nothing_follow, cuts_take_no_floor};
+use crate::lowest::none_goes_over;
 use crate::suspects::is_suspect;
 use branch_marks::laws::{alive_decides, floors_count, usable_decides};
 use branch_marks::{Fact, Marks};
@@ -90,6 +93,25 @@ fn last_goes_over(
     (last as usize) < book.tails.len() && goes_over(book, steps, marks, last, a, b, rows, values)
 }
 
+// Whether some aircraft may use a link.
+fn somebody_uses(book: &Book, marks: &Marks, a: u32, b: u32) -> bool
+    requires marks { AreMarksOf book.now marks.now }
+    requires from { a < activities book.now }
+    requires to { b < activities book.now }
+    ensures { IsTrue result ↔ SomebodyUses book.now marks.now.facts a b }
+{
+    alive_decides();
+    usable_decides();
+    let mut k = marks.next_alive(book, a, 0);
+    while (k as usize) < book.tails.len() {
+        if marks.usable(book, k, Place::After(a), b) {
+            return true;
+        }
+        k = marks.next_alive(book, a, k + 1);
+    }
+    false
+}
+
 // Whether a link is a dead connection. Who goes on over it is noted, and asked first at the next link.
 fn is_dead_link(
     book: &Book,
@@ -98,6 +120,7 @@ fn is_dead_link(
     a: u32,
     b: u32,
     rows: &[FloorRow],
+    lowest: &FloorRow,
     values: &mut [i64],
     last: &mut u32,
 ) -> bool
@@ -106,6 +129,8 @@ fn is_dead_link(
     requires from { a < activities book.now }
     requires to { b < activities book.now }
     requires rows { AreRowsOf book.now rows.now }
+    requires lowest { IsRowOf book.now lowest.now }
+    requires least { IsLowestOf book.now rows.now lowest.now }
     requires floors { AreFloorsOf book.now marks.now.facts rows.now }
     requires width { length values.old ≡ length book.now.rules.counters }
     ensures { IsTrue result ↔ IsDeadConnection book.now marks.now.facts a b }
@@ -118,6 +143,9 @@ fn is_dead_link(
     }
     if marks.has(Fact::Cut(a, b)) {
         return false;
+    }
+    if none_goes_over(book, steps, a, b, rows, lowest, values) {
+        return somebody_uses(book, marks, a, b);
     }
     let mut used = false;
     let mut k = marks.next_alive(book, a, 0);
@@ -141,6 +169,7 @@ fn cut_link(
     a: u32,
     b: u32,
     rows: &[FloorRow],
+    lowest: &FloorRow,
     values: &mut [i64],
     last: &mut u32,
 ) -> Result<(), Memory>
@@ -149,6 +178,8 @@ fn cut_link(
     requires from { a < activities book.now }
     requires to { b < activities book.now }
     requires rows { AreRowsOf book.now rows.now }
+    requires lowest { IsRowOf book.now lowest.now }
+    requires least { IsLowestOf book.now rows.now lowest.now }
     requires floors { AreFloorsOf book.now marks.old.facts rows.now }
     requires shut { IsShutForFloors book.now marks.old.facts }
     requires width { length values.old ≡ length book.now.rules.counters }
@@ -161,7 +192,7 @@ fn cut_link(
     floors_count();
     cuts_take_no_floor();
     cuts_make_nothing_follow();
-    if !is_dead_link(book, steps, marks, a, b, rows, values, last) {
+    if !is_dead_link(book, steps, marks, a, b, rows, lowest, values, last) {
         return Ok(());
     }
     add_next(book, marks, facts, Fact::Cut(a, b))
@@ -179,6 +210,7 @@ fn cut_suspect(
     arrive: &[bool],
     pass: &[u32],
     rows: &[FloorRow],
+    lowest: &FloorRow,
     values: &mut [i64],
     last: &mut u32,
 ) -> Result<(), Memory>
@@ -187,6 +219,8 @@ fn cut_suspect(
     requires from { a < activities book.now }
     requires to { b < activities book.now }
     requires rows { AreRowsOf book.now rows.now }
+    requires lowest { IsRowOf book.now lowest.now }
+    requires least { IsLowestOf book.now rows.now lowest.now }
     requires floors { AreFloorsOf book.now marks.old.facts rows.now }
     requires shut { IsShutForFloors book.now marks.old.facts }
     requires leave { length leave.now ≡ activities book.now }
@@ -203,7 +237,7 @@ fn cut_suspect(
     if !is_suspect(a, b, leave, arrive, pass) {
         return Ok(());
     }
-    cut_link(book, steps, marks, facts, a, b, rows, values, last)
+    cut_link(book, steps, marks, facts, a, b, rows, lowest, values, last)
 }
 
 // Cuts each dead connection from an activity.
@@ -218,6 +252,7 @@ fn cut_links_of(
     arrive: &[bool],
     pass: &[u32],
     rows: &[FloorRow],
+    lowest: &FloorRow,
     values: &mut [i64],
 ) -> Result<(), Memory>
     requires net { net.now ≡ net_of book.now }
@@ -225,6 +260,8 @@ fn cut_links_of(
     requires marks { AreMarksOf book.now marks.old }
     requires activity { a < activities book.now }
     requires rows { AreRowsOf book.now rows.now }
+    requires lowest { IsRowOf book.now lowest.now }
+    requires least { IsLowestOf book.now rows.now lowest.now }
     requires floors { AreFloorsOf book.now marks.old.facts rows.now }
     requires shut { IsShutForFloors book.now marks.old.facts }
     requires leave { length leave.now ≡ activities book.now }
@@ -244,7 +281,7 @@ fn cut_links_of(
     let mut last = u32::MAX;
     for b in net.successors(a) {
         cut_suspect(
-            book, steps, marks, facts, a, *b, leave, arrive, pass, rows, values, &mut last,
+            book, steps, marks, facts, a, *b, leave, arrive, pass, rows, lowest, values, &mut last,
         )?;
     }
     Ok(())
@@ -261,12 +298,15 @@ pub fn cut_links(
     arrive: &[bool],
     pass: &[u32],
     rows: &[FloorRow],
+    lowest: &FloorRow,
     values: &mut [i64],
 ) -> Result<(), Memory>
     requires net { net.now ≡ net_of book.now }
     requires steps { IsStepTableOf book.now steps.now }
     requires marks { AreMarksOf book.now marks.old }
     requires rows { AreRowsOf book.now rows.now }
+    requires lowest { IsRowOf book.now lowest.now }
+    requires least { IsLowestOf book.now rows.now lowest.now }
     requires floors { AreFloorsOf book.now marks.old.facts rows.now }
     requires shut { IsShutForFloors book.now marks.old.facts }
     requires leave { length leave.now ≡ activities book.now }
@@ -282,7 +322,7 @@ pub fn cut_links(
 {
     for a in 0..book.activities.len() as u32 {
         cut_links_of(
-            book, net, steps, marks, facts, a, leave, arrive, pass, rows, values,
+            book, net, steps, marks, facts, a, leave, arrive, pass, rows, lowest, values,
         )?;
     }
     Ok(())

@@ -11,6 +11,7 @@ mod hole;
 mod keeping;
 pub mod laws;
 mod lowering;
+mod lowest;
 mod renewing;
 mod settling;
 mod suspects;

@@ -113,12 +113,9 @@ fn counting(alloc: Global, starts: &[i64]) -> Result<Book, Fail> {
     Ok(Book::new(to_and_fro(alloc, starts)?, tails, rules).ok_or("no book")?)
 }
 
-// Two aircraft at ARN that may fly 100 minutes; to OSL an hour's flight and one of half an hour, and an hour back.
-fn two_ways(alloc: Global) -> Result<Book, Fail> {
-    let (a, b) = (Name::new(b"SE-A".as_slice()), Name::new(b"SE-B".as_slice()));
-    let (used, new) = (vec![in alloc; 0]?, vec![in alloc; 0]?);
-    let tails = vec![in alloc; tail(alloc, a, ARN, used), tail(alloc, b, ARN, new)]?;
-    let flights = vec![in alloc;
+// To OSL an hour's flight and one of half an hour, and an hour back.
+fn ways_and_back(alloc: Global) -> Result<Vec<Activity>, Memory> {
+    Ok(vec![in alloc;
         flight(alloc, Name::new(b"LONG".as_slice()), (ARN, OSL), (360, 420)),
         flight(
             alloc,
@@ -127,9 +124,44 @@ fn two_ways(alloc: Global) -> Result<Book, Fail> {
             (370, 400)
         ),
         flight(alloc, Name::new(b"BACK".as_slice()), (OSL, ARN), (480, 540)),
-    ]?;
+    ]?)
+}
+
+// Two aircraft at ARN that may fly 100 minutes, with a long and a short way to OSL.
+fn two_ways(alloc: Global) -> Result<Book, Fail> {
+    let (a, b) = (Name::new(b"SE-A".as_slice()), Name::new(b"SE-B".as_slice()));
+    let (used, new) = (vec![in alloc; 0]?, vec![in alloc; 0]?);
+    let tails = vec![in alloc; tail(alloc, a, ARN, used), tail(alloc, b, ARN, new)]?;
     let rules = rules(alloc, 30, vec![in alloc; hours(alloc, 100)?]?)?;
-    Ok(Book::new(flights, tails, rules).ok_or("no book")?)
+    Ok(Book::new(ways_and_back(alloc)?, tails, rules).ok_or("no book")?)
+}
+
+// The same ways for three that may fly 130 minutes, with no stop long enough: two of them have flown 25 before.
+fn two_ways_for_three(alloc: Global) -> Result<Book, Fail> {
+    let tails = vec![in alloc;
+        tail(
+            alloc,
+            Name::new(b"SE-A".as_slice()),
+            ARN,
+            vec![in alloc; 0]?
+        ),
+        tail(
+            alloc,
+            Name::new(b"SE-B".as_slice()),
+            ARN,
+            vec![in alloc; 25]?
+        ),
+        tail(
+            alloc,
+            Name::new(b"SE-C".as_slice()),
+            ARN,
+            vec![in alloc; 25]?
+        ),
+    ]?;
+    let mut counter = hours(alloc, 130)?;
+    counter.stop = 600;
+    let rules = rules(alloc, 30, vec![in alloc; counter]?)?;
+    Ok(Book::new(ways_and_back(alloc)?, tails, rules).ok_or("no book")?)
 }
 
 // One aircraft at ARN, two flights to OSL at the same time, and no way back.
@@ -265,6 +297,17 @@ fn ends_are_free_without_a_must(rt: HostRuntime) -> Result<(), Fail> {
 fn connections_that_nobody_can_use_are_cut(rt: HostRuntime) -> Result<(), Fail> {
     let book = two_ways(rt.alloc())?;
     assert!(rt; adds(rt.alloc(), &book, &[], &[Fact::Cut(0, 2)], Closed::Fixed)?);
+    Ok(())
+}
+
+// After the long way only the first aircraft comes back. Where it may not, its floor is still the least of all, but the
+// connection is dead.
+#[test]
+fn the_least_floor_may_be_of_one_that_stays(rt: HostRuntime) -> Result<(), Fail> {
+    let book = two_ways_for_three(rt.alloc())?;
+    assert!(rt; adds(rt.alloc(), &book, &[], &[], Closed::Fixed)?);
+    let (facts, want) = ([Fact::Bar(0, 2)], [Fact::Cut(0, 2)]);
+    assert!(rt; adds(rt.alloc(), &book, &facts, &want, Closed::Fixed)?);
     Ok(())
 }
 

@@ -4,6 +4,7 @@
 ghost use Rattle.std.specs.Prelude.{IfOk};
 ghost use Rattle.propagator.specs.inside.Work.{IsWorkOf};
 
+use floor_rows::FloorRow;
 use std::alloc::Global;
 use tail_book::{Book, Memory};
 
@@ -22,6 +23,8 @@ pub struct Work {
     pub values: Vec<i64>,
     pub least: Vec<i64>,
     pub before: Vec<i64>,
+    /// The least of all floors at each activity, where it was asked.
+    pub lowest: FloorRow,
 }
 
 impl Work {
@@ -39,6 +42,7 @@ impl Work {
             values: vec![in alloc; 0; width]?,
             least: vec![in alloc; 0; width]?,
             before: vec![in alloc; 0; width]?,
+            lowest: FloorRow::new(alloc, n, width)?,
         })
     }
 }

@@ -2,9 +2,10 @@
 use Rattle.std.specs.Prelude.{◌≡◌, length}
 use Rattle.tail_book.specs.Seen.{BookSeen}
 use Rattle.tail_book.specs.Lookup.{activities}
+use Rattle.floor_rows.specs.inside.FloorRow.{IsRowOf}
 use Rattle.propagator.specs.declared.work.Work.{Work}
 
--- there are four flags and a number for each activity, and room three times for the values of a floor
+-- there are four flags and a number for each activity, room three times for the values of a floor, and for a floor of each activity
 pub record IsWorkOf (book : BookSeen) (work : Work) : Type 0 where
   pub due : length work.due.items ≡ activities book
   pub ask : length work.ask.items ≡ activities book
@@ -14,3 +15,4 @@ pub record IsWorkOf (book : BookSeen) (work : Work) : Type 0 where
   pub values : length work.values.items ≡ length book.rules.counters
   pub least : length work.least.items ≡ length book.rules.counters
   pub before : length work.before.items ≡ length book.rules.counters
+  pub lowest : IsRowOf book work.lowest

@@ -1,29 +1,29 @@
 use Rattle.std.specs.Prelude.{All}
-use Rattle.std.proofs.Common.{◌<◌, ◌-◌, ◌+◌, ◌≡◌, ◌∙◌, ℕ, ℤ, List, Option, arith, length, take, get_or, subst, sym, ap, refl, rules}
-use Rattle.std.specs.List.{range_with_len}
+use Rattle.std.proofs.Common.{◌<◌, ◌-◌, ◌≡◌, ℕ, take, subst, sym, refl, rules}
+use Rattle.tail_book.specs.Seen.{BookSeen}
+use Rattle.tail_book.specs.Lookup.{activities}
+use Rattle.tail_book.specs.inside.Sound.{IsBook}
 use Rattle.connection_net.specs.Seen.{NetSeen}
 use Rattle.connection_net.specs.Net.{net_of, predecessors_in}
 use Rattle.floor_rows.specs.inside.LeastOver.{floor_of}
-use Rattle.propagator.proofs.LoweredFloors.{IsLowering, next_of, back_lowered, none_lowered}
+use Rattle.floor_rows.specs.inside.Neighbours.{PredecessorsComeBefore}
+use Rattle.propagator.proofs.LoweredFloors.{next_of, back_lowered, none_lowered}
 use Rattle.propagator.proofs.lowering.lower_from_all.Goals as goal
+
+-- predecessors have smaller numbers, also in a network that was handed in
+before : PredecessorsComeBefore → (book : BookSeen) → IsBook book → (net : NetSeen) (b : ℕ) → b < activities book → net ≡ net_of book
+    → All (λ x. x < b) (predecessors_in net b)
+before come book sound net b lt is = subst (λ (n : NetSeen). All (λ x. x < b) (predecessors_in n b)) (sym is) (come book sound b lt)
 
 -- one predecessor more is taken in
 pub loop-i-preserved : goal.loop-i-preserved
-loop-i-preserved c =
-    let book = c.args.book.now in
-    let items = c.predecessors-places.result.now in
-    let are : items ≡ predecessors_in (net_of book) c.args.b
-    = c.predecessors-places.ensures ∙ ap (λ (net : NetSeen). predecessors_in net c.args.b) c.requires.net in
-    let before : All (λ x. x < c.args.b) items
-    = subst (λ (xs : List ℕ). All (λ x. x < c.args.b) xs) (sym are) (c.predecessors_come_before.ensures book c.every_book_is_sound.ensures c.args.b c.requires.activity) in
-    let i = c.loop-i.i - 1 in
-    let within : i < length items = search rules in
-    let last : i + 1 ≡ c.loop-i.i = search rules in (
-      next_of book c.args.marks.now.facts c.args.k c.args.b c.args.row.now c.requires.below c.loop-i.row c.lower_from-lowered.new.row items i within before
-          (subst (λ (n : ℕ). IsLowering book c.args.marks.now.facts c.args.k c.args.b c.args.row.now c.loop-i.row (take n items)) (sym last) c.loop-i.invariant.0)
-          c.lower_from-lowered.ensures.set,
-      c.lower_from-lowered.ensures.copied,
-    )
+loop-i-preserved c = (
+  next_of c.args.book.now c.args.marks.now.facts c.args.k c.args.b c.args.row.now c.requires.below c.loop-i.row c.lower_from-lowered.new.row
+      c.predecessors-places.result.now (predecessors_in c.args.net.now c.args.b) c.loop-i.i c.predecessors-places.ensures
+      (before c.predecessors_come_before.ensures c.args.book.now c.every_book_is_sound.ensures c.args.net.now c.args.b c.requires.activity c.requires.net)
+      (search rules) (search rules) c.loop-i.invariant.0 c.lower_from-lowered.ensures.set,
+  c.lower_from-lowered.ensures.copied,
+)
 
 -- the carry-in brings what the floor was
 pub returns-then-is : goal.returns-then-is
@@ -38,17 +38,11 @@ returns-then-is c =
 -- a predecessor brings it
 pub returns-then-is-2 : goal.returns-then-is-2
 returns-then-is-2 c =
-    let book = c.args.book.now in
     let items = c.predecessors-places.result.now in
-    let are : items ≡ predecessors_in (net_of book) c.args.b
-    = c.predecessors-places.ensures ∙ ap (λ (net : NetSeen). predecessors_in net c.args.b) c.requires.net in
-    let before : All (λ x. x < c.args.b) items
-    = subst (λ (xs : List ℕ). All (λ x. x < c.args.b) xs) (sym are) (c.predecessors_come_before.ensures book c.every_book_is_sound.ensures c.args.b c.requires.activity) in
-    let i = c.loop-i.i - 1 in
-    let within : i < length items = search rules in
-    let last : i + 1 ≡ c.loop-i.i = search rules in
-    back_lowered book c.args.marks.now.facts c.args.k c.args.b c.args.row.now c.requires.below c.lower_from-lowered.new.row c.args.before.now (take i items)
-    (next_of book c.args.marks.now.facts c.args.k c.args.b c.args.row.now c.requires.below c.loop-i.row c.lower_from-lowered.new.row items i within before
-    (subst (λ (n : ℕ). IsLowering book c.args.marks.now.facts c.args.k c.args.b c.args.row.now c.loop-i.row (take n items)) (sym last) c.loop-i.invariant.0)
-    c.lower_from-lowered.ensures.set)
+    back_lowered c.args.book.now c.args.marks.now.facts c.args.k c.args.b c.args.row.now c.requires.below c.lower_from-lowered.new.row c.args.before.now
+    (take (c.loop-i.i - 1) items)
+    (next_of c.args.book.now c.args.marks.now.facts c.args.k c.args.b c.args.row.now c.requires.below c.loop-i.row c.lower_from-lowered.new.row
+    items (predecessors_in c.args.net.now c.args.b) c.loop-i.i c.predecessors-places.ensures
+    (before c.predecessors_come_before.ensures c.args.book.now c.every_book_is_sound.ensures c.args.net.now c.args.b c.requires.activity c.requires.net)
+    (search rules) (search rules) c.loop-i.invariant.0 c.lower_from-lowered.ensures.set)
     (c.if-is-2.ensures refl) (c.requires.low c.if-had-2.true)
