@@ -2,8 +2,6 @@ mod Steps
 mod Small
 mod Completions
 mod Successors
-mod Routes
-mod Truths
 mod Growing
 mod Bound
 mod Ending

@@ -2,24 +2,23 @@
 //!
 //! With each lighter end the limit falls to it and the slack, so that what comes later has less to do.
 
-ghost use Rattle.std.specs.Prelude.{true, false, ◌≡◌, ◌<◌, ◌≤◌, ◌≤ℤ◌, ◌^◌, ◌-ℤ◌, ◌⊎◌, ℤ, ℕ, pos, length, None, Some, IfSome, IfOk, ◌++◌, reverse};
+ghost use Rattle.std.specs.Prelude.{true, false, ◌≡◌, ◌<◌, ◌≤◌, ◌≤ℤ◌, ◌^◌, ◌-ℤ◌, ◌⊎◌, ℤ, ℕ, pos, length, None, Some, IfSome};
 ghost use Rattle.tail_book.specs.declared.place.Place.TheVariants.{Carry, After};
 ghost use Rattle.tail_book.specs.Lookup.{activities};
 ghost use Rattle.branch_marks.specs.Marks.{MayEnd};
 ghost use Rattle.label_store.specs.Buckets.{row_at};
-ghost use Rattle.label_store.specs.Store.{node_of};
-ghost use Rattle.pricing.specs.Rows.{weight_of, route_to};
-ghost use Rattle.pricing.specs.inside.Truth.{IsKept, AreTrue};
+ghost use Rattle.pricing.specs.Rows.{weight_of};
+ghost use Rattle.pricing.specs.inside.Truth.{AreTrue};
 ghost use Rattle.route_search.specs.inside.Completion.{IsBroad, IsSmall};
 ghost use Rattle.route_search.specs.inside.Ends.{IsEnd, IsAtMost, IsLimit, IsLeastAt, AreEnds, AreNoHeavier};
 ghost use Rattle.route_search.specs.inside.Task.{IsTask};
 
-use crate::laws;
 use crate::task::{Task, every_task_is_sound};
 use label_store::Store;
 use label_store::laws::every_store_is_sound;
-use std::alloc::Global;
-use tail_book::{Memory, Place, Route};
+use pricing::laws::true_rows_are_small;
+use pricing::weight_of;
+use tail_book::Place;
 
 /// A place where the aircraft may end: its weight there, and the row, none at the carry-in.
 #[derive(Clone, Copy, Debug)]
@@ -75,15 +74,6 @@ fn with_end(ends: Ends, end: End, slack: u32) -> Ends
     }
 }
 
-/// What a row weighs.
-pub fn weight_of(store: &Store, j: usize) -> i64
-    requires { j < length store.now.rows }
-    ensures { result ≡ weight_of (row_at store.now.rows j) }
-{
-    every_store_is_sound(store);
-    store.row(j)[0]
-}
-
 // The end at a row.
 fn end_at(store: &Store, j: usize) -> End
     requires { j < length store.now.rows }
@@ -111,7 +101,7 @@ fn with_rows(task: &Task, store: &Store, x: u32, ends: Ends, slack: u32) -> Ends
 {
     every_task_is_sound(task);
     every_store_is_sound(store);
-    laws::true_rows_are_small();
+    true_rows_are_small();
     let mut all = ends;
     for i in 0..store.count(x as usize) {
         let j = store.at(x as usize, i);
@@ -158,20 +148,4 @@ pub fn first_ends(task: &Task, store: &Store, cut: i64, slack: u32) -> Ends
         row: None,
     };
     with_end(ends, end, slack)
-}
-
-/// The route that the parents of a row spell.
-pub fn spelled(alloc: Global, store: &Store, row: Option<usize>) -> Result<Route, Memory>
-    requires { IsKept store.now row }
-    ensures { IfOk result (λ route. route ≡ route_to store.now row) }
-{
-    every_store_is_sound(store);
-    let mut route = Vec::new(alloc);
-    let mut at = row;
-    while let Some(j) = at {
-        route.push(store.node(j) as u32)?;
-        at = store.parent(j);
-    }
-    route.reverse();
-    Ok(Route(route))
 }

@@ -1,15 +1,10 @@
 //! Laws of a search: the contract of each function is the law.
 
-ghost use Rattle.route_search.specs.inside.Laws.{ClampedCutsFindTheSame, DoneBucketsAreExact, FittingRestsAreSmall, OffersKeepTruth, TrueRowsAreSmall};
+ghost use Rattle.route_search.specs.inside.Laws.{ClampedCutsFindTheSame, DoneBucketsAreExact, FittingRestsAreSmall};
 
-use branch_marks::laws::{
-    fits_is_usable_to_its_end, usable_with_one_more, weight_is_along, weight_with_one_more,
-    weights_along,
-};
-use label_store::laws::{kept_rows_are_offered, offers_keep_rows};
+use branch_marks::laws::{fits_is_usable_to_its_end, weight_is_along, weights_along};
 use tail_book::laws::{
-    counters_with_one_more, each_at_most_chains, each_at_most_itself, legal_routes_rise,
-    legal_with_one_more, links_rise, lower_stays_within, place_with_one_more,
+    each_at_most_chains, each_at_most_itself, links_rise, lower_stays_within,
     reduced_costs_are_small, steps_keep_order,
 };
 
@@ -20,27 +15,6 @@ pub fn fitting_rests_are_small()
     links_rise();
     reduced_costs_are_small();
     weights_along();
-}
-
-/// What is offered over a usable link and within the limits leaves each row true.
-pub fn offers_keep_truth()
-    ensures { OffersKeepTruth }
-{
-    offers_keep_rows();
-    kept_rows_are_offered();
-    legal_with_one_more();
-    counters_with_one_more();
-    place_with_one_more();
-    weight_with_one_more();
-    usable_with_one_more();
-}
-
-/// A true row weighs no more than 2^61 on either side of 0.
-pub fn true_rows_are_small()
-    ensures { TrueRowsAreSmall }
-{
-    legal_routes_rise();
-    reduced_costs_are_small();
 }
 
 /// Where all buckets are done as far as the limit, the best end is the least, and without one nothing is within the cut.

@@ -22,8 +22,6 @@ ghost use Rattle.route_search.specs.inside.Reach.{IsTried, AreTried, IsDone, Goe
 ghost use Rattle.route_search.specs.inside.Task.{IsTask};
 
 use crate::completion::{Way, way_through};
-use crate::end::weight_of;
-use crate::laws;
 use crate::step::{links_leave_free, stepped};
 use crate::task::{Task, every_task_is_sound};
 use connection_net::laws::{
@@ -35,6 +33,8 @@ use label_store::laws::{
     others_stay,
 };
 use maint_counters::start;
+use pricing::laws::{offers_keep_truth, true_rows_are_small};
+use pricing::weight_of;
 use tail_book::laws::rising_routes_are_below;
 use tail_book::{Memory, Place};
 
@@ -58,7 +58,7 @@ fn put(
     ensures covered { IfOk result (λ _. IsCoveredAt store.new b row.now) }
     ensures wide { IsAsWide store.old store.new }
 {
-    laws::offers_keep_truth();
+    offers_keep_truth();
     offers_keep_rows();
     offers_keep_covered();
     offered_rows_are_covered();
@@ -101,7 +101,7 @@ fn try_row(
     ensures length { length row.new ≡ length row.old }
 {
     every_task_is_sound(task);
-    laws::true_rows_are_small();
+    true_rows_are_small();
     links_leave_free(task, from, b);
     if !stepped(task.book, task.steps, task.k, arc, from, b, row) {
         return Ok(());

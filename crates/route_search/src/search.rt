@@ -25,7 +25,7 @@ ghost use Rattle.route_search.specs.inside.Task.{IsTask};
 
 use crate::added::add_up;
 use crate::completion::complete;
-use crate::end::{Ends, first_ends, spelled, with_ends_at};
+use crate::end::{Ends, first_ends, with_ends_at};
 use crate::reach::{begin, go_on};
 use crate::rests::Rests;
 use crate::task::{Task, every_task_is_sound};
@@ -35,6 +35,7 @@ use connection_net::Net;
 use label_store::Store;
 use label_store::laws::every_store_is_sound;
 use maint_counters::StepTable;
+use pricing::spelled;
 use std::alloc::Global;
 use tail_book::laws::every_book_is_sound;
 use tail_book::{Book, CostTable, Duals, Memory};

@@ -1,4 +1,4 @@
--- What a search knows of rests of routes, of rows as they come, and of the rows that are left.
+-- What a search knows of rests of routes, and of the rows that are left.
 use Rattle.std.specs.Prelude.{◌≡◌, ℕ, ℤ, pos, ◌+ℤ◌, ◌-ℤ◌, ◌≤ℤ◌, ◌^◌, ◌<◌, ◌⊎◌, List, length, Option, None, Some}
 use Rattle.tail_book.specs.Seen.{BookSeen}
 use Rattle.tail_book.specs.inside.Seen.{CostTableSeen}
@@ -10,12 +10,10 @@ use Rattle.branch_marks.specs.declared.fact.Fact.{Fact}
 use Rattle.branch_marks.specs.Marks.{FitsFrom}
 use Rattle.branch_marks.specs.Settled.{AreDuals}
 use Rattle.branch_marks.specs.Weights.{weight_from, WeighsAtLeast, IsLeastWeight, IsRouteOfWeight}
-use Rattle.label_store.specs.declared.offered.Offered.{Offered}
 use Rattle.label_store.specs.Seen.{StoreSeen}
 use Rattle.label_store.specs.Store.{IsStore}
-use Rattle.label_store.specs.Offers.{Offers}
-use Rattle.pricing.specs.Rows.{weight_of, route_to}
-use Rattle.pricing.specs.inside.Truth.{place_of, row_of, IsTrueAt, AreTrue, IsKept, IsNext}
+use Rattle.pricing.specs.Rows.{route_to}
+use Rattle.pricing.specs.inside.Truth.{AreTrue}
 use Rattle.route_search.specs.declared.end.End.{End}
 use Rattle.route_search.specs.declared.end.Ends.{Ends}
 use Rattle.route_search.specs.declared.found.Found.{Found}
@@ -29,19 +27,6 @@ abbrev pub FittingRestsAreSmall : Type 0
 FittingRestsAreSmall = (table : CostTableSeen) (book : BookSeen) (marks : List Fact) (k : ℕ) (duals : List ℤ) (x : Place) (rest : List ℕ)
     → IsBook book → IsCostTable table → IsTableFor book table → AreDuals table book duals → FitsFrom book marks k x rest
     → IsSmall (weight_from table book k duals x rest)
-
--- what is offered over a usable link and within the limits leaves each row true
-abbrev pub OffersKeepTruth : Type 0
-OffersKeepTruth = (table : CostTableSeen) (book : BookSeen) (marks : List Fact) (k : ℕ) (duals : List ℤ) (old new : StoreSeen) (parent : Option ℕ) (b : ℕ)
-    (row : List ℤ) (offered : Offered) → IsStore old → IsStore new → AreTrue table book marks k duals old → IsKept old parent
-    → IsTrueAt table book marks k duals old parent → IsNext table book marks k duals (place_of old parent) (row_of book k old parent) b row
-    → Offers old new b parent row offered → AreTrue table book marks k duals new
-
--- a true row weighs no more than 2^61 on either side of 0
-abbrev pub TrueRowsAreSmall : Type 0
-TrueRowsAreSmall = (table : CostTableSeen) (book : BookSeen) (marks : List Fact) (k : ℕ) (duals : List ℤ) (store : StoreSeen) (row : Option ℕ)
-    → IsBook book → IsCostTable table → IsTableFor book table → AreDuals table book duals → IsTrueAt table book marks k duals store row
-    → IsSmall (weight_of (row_of book k store row))
 
 -- where all buckets are done as far as the limit, the best end has the least weight, which the route to it attains; and where
 -- there is none, each legal route that fits weighs more than the cut
