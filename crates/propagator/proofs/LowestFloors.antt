@@ -15,7 +15,7 @@ use Rattle.branch_marks.specs.Following.{CannotGoBy}
 use Rattle.floor_rows.specs.inside.FloorRow.{FloorRowSeen, floor_in, IsRowOf, IsSetAt}
 use Rattle.propagator.specs.inside.Lowest.{AreWide, StaysLow, IsLowestOf}
 use Rattle.propagator.specs.inside.Rising.{IsLowFor}
-use Rattle.propagator.specs.inside.Rows.{AreRowsOf, floors_in}
+use Rattle.propagator.specs.inside.Rows.{floors_in}
 
 some_same : (low values : List ℤ) → Some low ≡ Some values → low ≡ values
 some_same low values e = cc

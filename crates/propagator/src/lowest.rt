@@ -20,7 +20,7 @@ use maint_counters::StepTable;
 use tail_book::laws::{
     each_at_most_chains, each_at_most_itself, limits_decide, lower_stays_within, steps_keep_order,
 };
-use tail_book::{Book, Place};
+use tail_book::Book;
 
 // Takes all floors away.
 fn clear_all(book: &Book, lowest: &mut FloorRow)

@@ -1,7 +1,5 @@
-use Rattle.std.proofs.Common.{◌<◌, ◌+◌, ◌≡◌, ℕ, ap, arith, below_more, length, refl}
+use Rattle.std.proofs.Common.{◌+◌, ℕ, arith, below_more}
 use Rattle.std.proofs.lemmas.Bool.{both_ways}
-use Rattle.tail_book.specs.Seen.{BookSeen}
-use Rattle.tail_book.specs.Lookup.{aircraft}
 use Rattle.tail_book.specs.declared.place.Place.TheVariants.{After}
 use Rattle.branch_marks.specs.Marks.{IsUsable}
 use Rattle.propagator.proofs.DeadLinks.{unused_on}

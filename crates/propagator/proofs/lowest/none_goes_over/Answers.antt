@@ -1,5 +1,5 @@
 use Rattle.std.specs.Prelude.{not, is_some}
-use Rattle.std.proofs.Common.{◌≡◌, ◌∙◌, Bool, Option, List, ℤ, true, false, refl, sym, ap}
+use Rattle.std.proofs.Common.{◌≡◌, ◌∙◌, Bool, Option, List, ℤ, true, false, refl, ap}
 use Rattle.floor_rows.specs.inside.FloorRow.{floor_in}
 use Rattle.propagator.proofs.LowestFloors.{nobody_goes}
 use Rattle.propagator.proofs.lowest.none_goes_over.Goals as goal
