@@ -74,14 +74,7 @@ pub fn check_of<'a>(alloc: Global, words: &'a [String]) -> Result<Option<CheckNa
 mod tests {
     use super::*;
     use std::test::Fail;
-
-    fn strings_of(alloc: Global, words: &[&str]) -> Result<Vec<String>, Fail> {
-        let mut all = Vec::new(alloc);
-        for word in words {
-            all.push(String::from_str(alloc, word)?)?;
-        }
-        Ok(all)
-    }
+    use trial_texts::words_of;
 
     fn named<'a>(
         timetable: &'a str,
@@ -109,7 +102,7 @@ mod tests {
 
     // Whether the words are read as these names, or refused where none are given.
     fn are_read_as(alloc: Global, words: &[&str], names: Option<CheckNames>) -> Result<bool, Fail> {
-        let words = strings_of(alloc, words)?;
+        let words = words_of(alloc, words)?;
         Ok(check_of(alloc, &words)? == names)
     }
 

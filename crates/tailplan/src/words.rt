@@ -109,14 +109,7 @@ pub fn run_of<'a>(alloc: Global, words: &'a [String]) -> Result<Option<TaskNames
 mod tests {
     use super::*;
     use std::test::Fail;
-
-    fn strings_of(alloc: Global, words: &[&str]) -> Result<Vec<String>, Fail> {
-        let mut all = Vec::new(alloc);
-        for word in words {
-            all.push(String::from_str(alloc, word)?)?;
-        }
-        Ok(all)
-    }
+    use trial_texts::words_of;
 
     fn limited<'a>(
         timetable: &'a str,
@@ -141,7 +134,7 @@ mod tests {
 
     // Whether the words are read as these names, or refused where none are given.
     fn are_read_as(alloc: Global, words: &[&str], names: Option<TaskNames>) -> Result<bool, Fail> {
-        let words = strings_of(alloc, words)?;
+        let words = words_of(alloc, words)?;
         Ok(run_of(alloc, &words)? == names)
     }
 
@@ -305,7 +298,7 @@ mod tests {
             (&["trial", "1"], None),
             (&[], None),
         ] {
-            let read = seed_of(&strings_of(rt.alloc(), words)?);
+            let read = seed_of(&words_of(rt.alloc(), words)?);
             assert!(rt; read == seed, "{words:?}");
         }
         Ok(())

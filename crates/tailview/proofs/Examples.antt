@@ -1,104 +1,33 @@
 -- What the words mean, at command lines that are written out.
 use Rattle.std.proofs.Common.{◌≡◌, ℕ, true, false, List, [], ◌∷◌, Option, Some, None, codes, refl}
 use Rattle.clap.proofs.OnLiterals.{clap_on_literals}
+use Rattle.trial_texts.specs.inside.PlanWords.{ReadsPlans}
 use Rattle.tailview.specs.Texts.{ViewNamesSeen}
 use Rattle.tailview.specs.Words.{names_of}
-
--- the words after the program's name
-abbrev after_name : List (List ℕ) → Option ViewNamesSeen
-after_name words = names_of (codes "tailview" ∷ words)
 
 -- the words name these tables and this plan
 abbrev named : List ℕ → List ℕ → List ℕ → List ℕ → Option ViewNamesSeen
 named timetable fleet rules plan = Some (record { tables = record { timetable = timetable; fleet = fleet; rules = rules }; plan = plan; airport = None; html = false })
 
--- the same, with a letter for each
-abbrev all_named : Option ViewNamesSeen
-all_named = named (codes "t") (codes "f") (codes "r") (codes "p")
-
--- no words at all, or the program's name alone, give no names
-no_words : (names_of [] ≡ None) × (after_name [] ≡ None)
+-- a plan is named as by each program that judges one
+plans : ReadsPlans (codes "tailview") names_of named
 unfolding clap_on_literals names_of
-no_words = (refl, refl)
+plans = record {
+  no_words = (refl, refl);
+  option_anywhere = (refl, refl, refl, refl, refl, refl);
+  any_program = (refl, refl);
+  other_counts = (refl, refl, refl, refl, refl);
+  option_once = (refl, refl, refl, refl, refl, refl);
+  option_written_out = (refl, refl, refl, refl);
+  odd_names = (refl, refl, refl, refl);
+  dash_in_front = (refl, refl, refl, refl, refl, refl);
+  behind_two_dashes = (refl, refl, refl, refl, refl);
+  no_help = (refl, refl, refl, refl, refl);
+}
 
--- the plan's option stands behind the three names, before them or between them
-option_anywhere : (after_name (codes "t" ∷ codes "f" ∷ codes "r" ∷ codes "--plan" ∷ codes "p" ∷ []) ≡ all_named)
-    × (after_name (codes "--plan" ∷ codes "p" ∷ codes "t" ∷ codes "f" ∷ codes "r" ∷ []) ≡ all_named)
-    × (after_name (codes "t" ∷ codes "--plan" ∷ codes "p" ∷ codes "f" ∷ codes "r" ∷ []) ≡ all_named)
-    × (after_name (codes "t" ∷ codes "f" ∷ codes "--plan" ∷ codes "p" ∷ codes "r" ∷ []) ≡ all_named)
-    × (after_name (codes "t" ∷ codes "f" ∷ codes "r" ∷ codes "--plan=p" ∷ []) ≡ all_named)
-    × (after_name (codes "t" ∷ codes "--plan=p" ∷ codes "f" ∷ codes "r" ∷ []) ≡ all_named)
-unfolding clap_on_literals names_of
-option_anywhere = (refl, refl, refl, refl, refl, refl)
-
--- whatever the program is called
-any_program : (names_of (codes "" ∷ codes "t" ∷ codes "f" ∷ codes "r" ∷ codes "--plan" ∷ codes "p" ∷ []) ≡ all_named)
-    × (names_of (codes "--plan=q" ∷ codes "t" ∷ codes "f" ∷ codes "r" ∷ codes "--plan" ∷ codes "p" ∷ []) ≡ all_named)
-unfolding clap_on_literals names_of
-any_program = (refl, refl)
-
--- fewer than three names are too few, and four are too many
-other_counts : (after_name (codes "--plan" ∷ codes "p" ∷ []) ≡ None)
-    × (after_name (codes "t" ∷ codes "--plan" ∷ codes "p" ∷ []) ≡ None)
-    × (after_name (codes "t" ∷ codes "f" ∷ codes "--plan" ∷ codes "p" ∷ []) ≡ None)
-    × (after_name (codes "t" ∷ codes "f" ∷ codes "r" ∷ codes "x" ∷ codes "--plan" ∷ codes "p" ∷ []) ≡ None)
-    × (after_name (codes "t" ∷ codes "f" ∷ codes "r" ∷ codes "" ∷ codes "--plan" ∷ codes "p" ∷ []) ≡ None)
-unfolding clap_on_literals names_of
-other_counts = (refl, refl, refl, refl, refl)
-
--- the option has to be given, once, and with a value
-option_once : (after_name (codes "t" ∷ codes "f" ∷ codes "r" ∷ []) ≡ None)
-    × (after_name (codes "t" ∷ codes "f" ∷ codes "r" ∷ codes "--plan" ∷ codes "p" ∷ codes "--plan" ∷ codes "q" ∷ []) ≡ None)
-    × (after_name (codes "t" ∷ codes "f" ∷ codes "r" ∷ codes "--plan=p" ∷ codes "--plan=p" ∷ []) ≡ None)
-    × (after_name (codes "t" ∷ codes "f" ∷ codes "r" ∷ codes "--plan" ∷ []) ≡ None)
-    × (after_name (codes "t" ∷ codes "f" ∷ codes "r" ∷ codes "--plan" ∷ codes "--" ∷ []) ≡ None)
-    × (after_name (codes "--plan" ∷ codes "t" ∷ codes "f" ∷ codes "r" ∷ []) ≡ None)
-unfolding clap_on_literals names_of
-option_once = (refl, refl, refl, refl, refl, refl)
-
--- its name is written out, behind two dashes
-option_written_out : (after_name (codes "t" ∷ codes "f" ∷ codes "r" ∷ codes "--pla" ∷ codes "p" ∷ []) ≡ None)
-    × (after_name (codes "t" ∷ codes "f" ∷ codes "r" ∷ codes "-p" ∷ codes "p" ∷ []) ≡ None)
-    × (after_name (codes "t" ∷ codes "f" ∷ codes "r" ∷ codes "-plan" ∷ codes "p" ∷ []) ≡ None)
-    × (after_name (codes "t" ∷ codes "f" ∷ codes "r" ∷ codes "plan" ∷ codes "p" ∷ []) ≡ None)
-unfolding clap_on_literals names_of
-option_written_out = (refl, refl, refl, refl)
-
--- an empty word, a dash alone, blanks and the word help are names like others
-odd_names : (after_name (codes "" ∷ codes "" ∷ codes "" ∷ codes "--plan" ∷ codes "" ∷ []) ≡ named (codes "") (codes "") (codes "") (codes ""))
-    × (after_name (codes "t" ∷ codes "f" ∷ codes "r" ∷ codes "--plan=" ∷ []) ≡ named (codes "t") (codes "f") (codes "r") (codes ""))
-    × (after_name (codes "-" ∷ codes "f" ∷ codes "-" ∷ codes "--plan" ∷ codes "-" ∷ []) ≡ named (codes "-") (codes "f") (codes "-") (codes "-"))
-    × (after_name (codes "help" ∷ codes "a b" ∷ codes "r=1" ∷ codes "--plan" ∷ codes "p q" ∷ []) ≡ named (codes "help") (codes "a b") (codes "r=1") (codes "p q"))
-unfolding clap_on_literals names_of
-odd_names = (refl, refl, refl, refl)
-
--- a name that begins with a dash is refused, but behind the option's `=`
-dash_in_front : (after_name (codes "-t" ∷ codes "f" ∷ codes "r" ∷ codes "--plan" ∷ codes "p" ∷ []) ≡ None)
-    × (after_name (codes "t" ∷ codes "f" ∷ codes "-5" ∷ codes "--plan" ∷ codes "p" ∷ []) ≡ None)
-    × (after_name (codes "t" ∷ codes "--f" ∷ codes "r" ∷ codes "--plan" ∷ codes "p" ∷ []) ≡ None)
-    × (after_name (codes "t" ∷ codes "f" ∷ codes "r" ∷ codes "--plan" ∷ codes "-x" ∷ []) ≡ None)
-    × (after_name (codes "t" ∷ codes "f" ∷ codes "r" ∷ codes "--plan=-x" ∷ []) ≡ named (codes "t") (codes "f") (codes "r") (codes "-x"))
-    × (after_name (codes "t" ∷ codes "f" ∷ codes "r" ∷ codes "--plan==p" ∷ []) ≡ named (codes "t") (codes "f") (codes "r") (codes "=p"))
-unfolding clap_on_literals names_of
-dash_in_front = (refl, refl, refl, refl, refl, refl)
-
--- behind two dashes each word is the name of a table
-behind_two_dashes : (after_name (codes "--plan" ∷ codes "p" ∷ codes "--" ∷ codes "-t" ∷ codes "--plan" ∷ codes "-" ∷ []) ≡ named (codes "-t") (codes "--plan") (codes "-") (codes "p"))
-    × (after_name (codes "t" ∷ codes "--plan" ∷ codes "p" ∷ codes "--" ∷ codes "--" ∷ codes "--help" ∷ []) ≡ named (codes "t") (codes "--") (codes "--help") (codes "p"))
-    × (after_name (codes "t" ∷ codes "f" ∷ codes "r" ∷ codes "--plan" ∷ codes "p" ∷ codes "--" ∷ []) ≡ all_named)
-    × (after_name (codes "--" ∷ codes "t" ∷ codes "f" ∷ codes "r" ∷ codes "--plan" ∷ codes "p" ∷ []) ≡ None)
-    × (after_name (codes "--plan" ∷ codes "p" ∷ codes "--" ∷ codes "t" ∷ codes "f" ∷ []) ≡ None)
-unfolding clap_on_literals names_of
-behind_two_dashes = (refl, refl, refl, refl, refl)
-
--- there is no flag for help or for the version, alone or beside the names
-no_help : (after_name (codes "--help" ∷ []) ≡ None)
-    × (after_name (codes "-h" ∷ []) ≡ None)
-    × (after_name (codes "--version" ∷ []) ≡ None)
-    × (after_name (codes "t" ∷ codes "f" ∷ codes "r" ∷ codes "--plan" ∷ codes "p" ∷ codes "--help" ∷ []) ≡ None)
-    × (after_name (codes "t" ∷ codes "f" ∷ codes "r" ∷ codes "--plan" ∷ codes "p" ∷ codes "-V" ∷ []) ≡ None)
-unfolding clap_on_literals names_of
-no_help = (refl, refl, refl, refl, refl)
+-- the words after the program's name
+abbrev after_name : List (List ℕ) → Option ViewNamesSeen
+after_name words = names_of (codes "tailview" ∷ words)
 
 -- no other option is taken, in place of the plan's or beside it
 no_other_options : (after_name (codes "t" ∷ codes "f" ∷ codes "r" ∷ codes "--cert" ∷ codes "c" ∷ []) ≡ None)

@@ -22,11 +22,13 @@ ghost use Rattle.branch_marks.specs.inside.MarkTables.{AreMarksOf};
 ghost use Rattle.branch_marks.specs.inside.MarkTests.{is_usable, may_end};
 ghost use Rattle.branch_marks.specs.ProofTree.{zero_duals};
 ghost use Rattle.branch_marks.specs.inside.TreeTests.{is_shown_cover, is_shown_family, is_shown_stuck};
-ghost use Rattle.tree_tests.specs.inside.Buckets.{AreStarts, IsFamilyOf, IsInOrder, IsLabelOf};
+ghost use Rattle.tree_tests.specs.inside.Buckets.{IsFamilyOf, IsLabelOf};
+ghost use Rattle.tree_tests.specs.inside.Leaf.{IsLeaf};
 ghost use Rattle.tree_tests.specs.inside.Means.{AreMeansOf};
 
 use crate::buckets::{is_covered, put_starts};
 use crate::label::Label;
+use crate::leaf::Leaf;
 use crate::means::Means;
 use crate::ways::{ways, ways_are_all, ways_are_of_book};
 use branch_marks::Marks;
@@ -78,108 +80,60 @@ fn weight_after(
 }
 
 // Whether a label of a family covers what a label comes to over a link.
-fn is_covered_after(
-    book: &Book,
-    means: &Means,
-    k: u32,
-    duals: &[i64],
-    family: &[Label],
-    starts: &[usize],
-    from: Place,
-    weight: i64,
-    b: u32,
-    values: &[i64],
-) -> bool
-    requires means { AreMeansOf book.now means.now }
-    requires aircraft { k < aircraft book.now }
-    requires duals { length duals.now ≡ activities book.now }
-    requires order { IsInOrder family.now }
-    requires labels { All (IsLabelOf book.now) family.now }
-    requires starts { AreStarts book.now family.now starts.now }
-    requires place { IsPlaceOf book.now from }
-    requires activity { b < activities book.now }
-    requires width { length values.now ≡ length book.now.rules.counters }
-    ensures { result ≡ is_covered_by family.now (record { at = b; weight = weight +ℤ arc_weight (costs_of book.now) book.now k duals.now from b; counters = values.now }) }
+fn is_covered_after(leaf: &Leaf, from: Place, weight: i64, b: u32, values: &[i64]) -> bool
+    requires leaf { IsLeaf leaf.now }
+    requires place { IsPlaceOf leaf.now.book.now from }
+    requires activity { b < activities leaf.now.book.now }
+    requires width { length values.now ≡ length leaf.now.book.now.rules.counters }
+    ensures { result ≡ is_covered_by leaf.now.family.now (record { at = b; weight = weight +ℤ arc_weight (costs_of leaf.now.book.now) leaf.now.book.now leaf.now.k leaf.now.duals.now from b; counters = values.now }) }
 {
     own_costs_are_for_book();
-    let after = weight_after(book, &means.costs, duals, k, from, b, weight);
-    is_covered(book, family, starts, b, after, values)
+    let costs = &leaf.means.costs;
+    let after = weight_after(leaf.book, costs, leaf.duals, leaf.k, from, b, weight);
+    is_covered(leaf.book, leaf.family, leaf.starts, b, after, values)
 }
 
 // Whether a link is not to be gone over by a label, or a label of the family covers what it comes to.
 fn is_met(
-    book: &Book,
-    means: &Means,
-    marks: &Marks,
-    k: u32,
-    duals: &[i64],
-    family: &[Label],
-    starts: &[usize],
+    leaf: &Leaf,
     from: Place,
     weight: i64,
     counters: &[i64],
     b: u32,
     values: &mut [i64],
 ) -> bool
-    requires means { AreMeansOf book.now means.now }
-    requires marks { AreMarksOf book.now marks.now }
-    requires aircraft { k < aircraft book.now }
-    requires duals { length duals.now ≡ activities book.now }
-    requires order { IsInOrder family.now }
-    requires labels { All (IsLabelOf book.now) family.now }
-    requires starts { AreStarts book.now family.now starts.now }
-    requires place { IsPlaceOf book.now from }
-    requires count { length counters.now ≡ length book.now.rules.counters }
+    requires leaf { IsLeaf leaf.now }
+    requires place { IsPlaceOf leaf.now.book.now from }
+    requires count { length counters.now ≡ length leaf.now.book.now.rules.counters }
     requires counters { AreCountable counters.now }
-    requires activity { b < activities book.now }
-    requires width { length values.old ≡ length book.now.rules.counters }
-    ensures { result ≡ (not (is_usable book.now marks.now.facts k from b && within_limits book.now.rules.counters (step book.now k from b counters.now)) || is_covered_by family.now (label_after (costs_of book.now) book.now k duals.now from weight counters.now b)) }
+    requires activity { b < activities leaf.now.book.now }
+    requires width { length values.old ≡ length leaf.now.book.now.rules.counters }
+    ensures { result ≡ (not (is_usable leaf.now.book.now leaf.now.marks.now.facts leaf.now.k from b && within_limits leaf.now.book.now.rules.counters (step leaf.now.book.now leaf.now.k from b counters.now)) || is_covered_by leaf.now.family.now (label_after (costs_of leaf.now.book.now) leaf.now.book.now leaf.now.k leaf.now.duals.now from weight counters.now b)) }
 {
-    if !marks.usable(book, k, from, b) {
+    let (book, k) = (leaf.book, leaf.k);
+    if !leaf.marks.usable(book, k, from, b) {
         return true;
     }
     values.copy_from_slice(counters);
-    if !step_by(book, &means.steps, k, from, b, values) {
+    if !step_by(book, &leaf.means.steps, k, from, b, values) {
         return true;
     }
-    is_covered_after(
-        book, means, k, duals, family, starts, from, weight, b, values,
-    )
+    is_covered_after(leaf, from, weight, b, values)
 }
 
 // Whether the family goes on from a place with this weight and these counters.
-fn goes_on(
-    book: &Book,
-    means: &Means,
-    marks: &Marks,
-    k: u32,
-    duals: &[i64],
-    family: &[Label],
-    starts: &[usize],
-    from: Place,
-    weight: i64,
-    counters: &[i64],
-    values: &mut [i64],
-) -> bool
-    requires means { AreMeansOf book.now means.now }
-    requires marks { AreMarksOf book.now marks.now }
-    requires aircraft { k < aircraft book.now }
-    requires duals { length duals.now ≡ activities book.now }
-    requires order { IsInOrder family.now }
-    requires labels { All (IsLabelOf book.now) family.now }
-    requires starts { AreStarts book.now family.now starts.now }
-    requires place { IsPlaceOf book.now from }
-    requires count { length counters.now ≡ length book.now.rules.counters }
+fn goes_on(leaf: &Leaf, from: Place, weight: i64, counters: &[i64], values: &mut [i64]) -> bool
+    requires leaf { IsLeaf leaf.now }
+    requires place { IsPlaceOf leaf.now.book.now from }
+    requires count { length counters.now ≡ length leaf.now.book.now.rules.counters }
     requires counters { AreCountable counters.now }
-    requires width { length values.old ≡ length book.now.rules.counters }
-    ensures { result ≡ goes_on (costs_of book.now) book.now marks.now.facts k duals.now family.now from weight counters.now }
+    requires width { length values.old ≡ length leaf.now.book.now.rules.counters }
+    ensures { result ≡ goes_on (costs_of leaf.now.book.now) leaf.now.book.now leaf.now.marks.now.facts leaf.now.k leaf.now.duals.now leaf.now.family.now from weight counters.now }
 {
     ways_are_of_book();
     ways_are_all();
-    for b in ways(book, means, k, from) {
-        if !is_met(
-            book, means, marks, k, duals, family, starts, from, weight, counters, *b, values,
-        ) {
+    for b in ways(leaf.book, leaf.means, leaf.k, from) {
+        if !is_met(leaf, from, weight, counters, *b, values) {
             return false;
         }
     }
@@ -187,42 +141,15 @@ fn goes_on(
 }
 
 // Whether the family goes on from each of its labels.
-fn goes_on_from_each(
-    book: &Book,
-    means: &Means,
-    marks: &Marks,
-    k: u32,
-    duals: &[i64],
-    family: &[Label],
-    starts: &[usize],
-    values: &mut [i64],
-) -> bool
-    requires means { AreMeansOf book.now means.now }
-    requires marks { AreMarksOf book.now marks.now }
-    requires aircraft { k < aircraft book.now }
-    requires duals { length duals.now ≡ activities book.now }
-    requires order { IsInOrder family.now }
-    requires labels { All (IsLabelOf book.now) family.now }
-    requires starts { AreStarts book.now family.now starts.now }
-    requires width { length values.old ≡ length book.now.rules.counters }
-    ensures { result ≡ list_all (λ label. goes_on (costs_of book.now) book.now marks.now.facts k duals.now family.now (PlaceAfter label.at) label.weight label.counters) family.now }
+fn goes_on_from_each(leaf: &Leaf, values: &mut [i64]) -> bool
+    requires leaf { IsLeaf leaf.now }
+    requires width { length values.old ≡ length leaf.now.book.now.rules.counters }
+    ensures { result ≡ list_all (λ label. goes_on (costs_of leaf.now.book.now) leaf.now.book.now leaf.now.marks.now.facts leaf.now.k leaf.now.duals.now leaf.now.family.now (PlaceAfter label.at) label.weight label.counters) leaf.now.family.now }
 {
-    for i in 0..family.len() {
-        let label = &family[i];
+    for i in 0..leaf.family.len() {
+        let label = &leaf.family[i];
         let (from, counters) = (Place::After(label.at), label.counters.as_slice());
-        if !goes_on(
-            book,
-            means,
-            marks,
-            k,
-            duals,
-            family,
-            starts,
-            from,
-            label.weight,
-            counters,
-            values,
-        ) {
+        if !goes_on(leaf, from, label.weight, counters, values) {
             return false;
         }
     }
@@ -230,41 +157,15 @@ fn goes_on_from_each(
 }
 
 // Whether the family goes on from the carry-in.
-fn goes_on_from_carry(
-    book: &Book,
-    means: &Means,
-    marks: &Marks,
-    k: u32,
-    duals: &[i64],
-    family: &[Label],
-    starts: &[usize],
-    values: &mut [i64],
-) -> bool
-    requires means { AreMeansOf book.now means.now }
-    requires marks { AreMarksOf book.now marks.now }
-    requires aircraft { k < aircraft book.now }
-    requires duals { length duals.now ≡ activities book.now }
-    requires order { IsInOrder family.now }
-    requires labels { All (IsLabelOf book.now) family.now }
-    requires starts { AreStarts book.now family.now starts.now }
-    requires width { length values.old ≡ length book.now.rules.counters }
-    ensures { result ≡ goes_on (costs_of book.now) book.now marks.now.facts k duals.now family.now PlaceCarry (pos 0) (carry_of book.now k) }
+fn goes_on_from_carry(leaf: &Leaf, values: &mut [i64]) -> bool
+    requires leaf { IsLeaf leaf.now }
+    requires width { length values.old ≡ length leaf.now.book.now.rules.counters }
+    ensures { result ≡ goes_on (costs_of leaf.now.book.now) leaf.now.book.now leaf.now.marks.now.facts leaf.now.k leaf.now.duals.now leaf.now.family.now PlaceCarry (pos 0) (carry_of leaf.now.book.now leaf.now.k) }
 {
+    let book = leaf.book;
     every_book_is_sound(book);
-    let carry = &book.tails[k as usize].carry;
-    goes_on(
-        book,
-        means,
-        marks,
-        k,
-        duals,
-        family,
-        starts,
-        Place::Carry,
-        0,
-        carry,
-        values,
-    )
+    let carry = &book.tails[leaf.k as usize].carry;
+    goes_on(leaf, Place::Carry, 0, carry, values)
 }
 
 // Whether an aircraft may not end at a place, or what it weighs there is at least a value.
@@ -316,28 +217,12 @@ fn has_no_end(book: &Book, marks: &Marks, k: u32, family: &[Label]) -> bool
 }
 
 // Whether the family goes on from the carry-in and from each of its labels.
-fn goes_on_from_all(
-    book: &Book,
-    means: &Means,
-    marks: &Marks,
-    k: u32,
-    duals: &[i64],
-    family: &[Label],
-    starts: &[usize],
-    values: &mut [i64],
-) -> bool
-    requires means { AreMeansOf book.now means.now }
-    requires marks { AreMarksOf book.now marks.now }
-    requires aircraft { k < aircraft book.now }
-    requires duals { length duals.now ≡ activities book.now }
-    requires order { IsInOrder family.now }
-    requires labels { All (IsLabelOf book.now) family.now }
-    requires starts { AreStarts book.now family.now starts.now }
-    requires width { length values.old ≡ length book.now.rules.counters }
-    ensures { result ≡ (goes_on (costs_of book.now) book.now marks.now.facts k duals.now family.now PlaceCarry (pos 0) (carry_of book.now k) && list_all (λ label. goes_on (costs_of book.now) book.now marks.now.facts k duals.now family.now (PlaceAfter label.at) label.weight label.counters) family.now) }
+fn goes_on_from_all(leaf: &Leaf, values: &mut [i64]) -> bool
+    requires leaf { IsLeaf leaf.now }
+    requires width { length values.old ≡ length leaf.now.book.now.rules.counters }
+    ensures { result ≡ (goes_on (costs_of leaf.now.book.now) leaf.now.book.now leaf.now.marks.now.facts leaf.now.k leaf.now.duals.now leaf.now.family.now PlaceCarry (pos 0) (carry_of leaf.now.book.now leaf.now.k) && list_all (λ label. goes_on (costs_of leaf.now.book.now) leaf.now.book.now leaf.now.marks.now.facts leaf.now.k leaf.now.duals.now leaf.now.family.now (PlaceAfter label.at) label.weight label.counters) leaf.now.family.now) }
 {
-    goes_on_from_carry(book, means, marks, k, duals, family, starts, values)
-        && goes_on_from_each(book, means, marks, k, duals, family, starts, values)
+    goes_on_from_carry(leaf, values) && goes_on_from_each(leaf, values)
 }
 
 // Whether the family is closed, where each of its labels is alive.
@@ -361,7 +246,16 @@ fn is_closed(
     ensures { result ≡ is_shown_family (costs_of book.now) book.now marks.now.facts k duals.now family.now }
 {
     put_starts(book, family, starts);
-    goes_on_from_all(book, means, marks, k, duals, family, starts, values)
+    let leaf = Leaf {
+        book,
+        means,
+        marks,
+        duals,
+        family,
+        starts,
+        k,
+    };
+    goes_on_from_all(&leaf, values)
 }
 
 /// Whether the labels of a cover show its value.

@@ -7,6 +7,7 @@ mod buckets;
 mod covering;
 mod following;
 mod label;
+mod leaf;
 mod means;
 mod ways;
 

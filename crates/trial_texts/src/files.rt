@@ -39,6 +39,19 @@ pub fn file_of(alloc: Global, name: &str, bytes: Vec<u8>) -> Result<MemFile, Fai
     Ok(MemFile { name, bytes })
 }
 
+/// The files `t`, `f` and `r` of these bytes.
+pub fn files_holding(
+    alloc: Global,
+    timetable: Vec<u8>,
+    fleet: Vec<u8>,
+    rules: Vec<u8>,
+) -> Result<Vec<MemFile>, Fail> {
+    let timetable = file_of(alloc, "t", timetable)?;
+    let fleet = file_of(alloc, "f", fleet)?;
+    let rules = file_of(alloc, "r", rules)?;
+    Ok(vec![in alloc; timetable, fleet, rules]?)
+}
+
 /// The files `t`, `f` and `r` of a timetable, a fleet and rules.
 pub fn table_files(
     alloc: Global,
@@ -46,10 +59,10 @@ pub fn table_files(
     fleet: &[&str],
     rules: &[&str],
 ) -> Result<Vec<MemFile>, Fail> {
-    let timetable = file_of(alloc, "t", text_of(alloc, timetable)?)?;
-    let fleet = file_of(alloc, "f", text_of(alloc, fleet)?)?;
-    let rules = file_of(alloc, "r", text_of(alloc, rules)?)?;
-    Ok(vec![in alloc; timetable, fleet, rules]?)
+    let timetable = text_of(alloc, timetable)?;
+    let fleet = text_of(alloc, fleet)?;
+    let rules = text_of(alloc, rules)?;
+    files_holding(alloc, timetable, fleet, rules)
 }
 
 /// The same, and the file `p` of what is judged by them.

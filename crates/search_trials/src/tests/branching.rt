@@ -64,28 +64,11 @@ A0,P,ARN,2025-03-03T05:00,40,,,\n\
 A1,Q,ARN,2025-03-03T05:00,40,,,fh=22\n\
 A2,Q,ARN,2025-03-03T05:00,3,,,fh=24\n\
 A3,Q,ARN,2025-03-03T05:00,17,,,fh=48\n",
-            "[[type]]\n\
-name = \"P\"\n\
-rate = 2\n\
-turn = 0\n\
-[[type]]\n\
-name = \"Q\"\n\
-rate = 2\n\
-turn = 0\n\
-[[type]]\n\
-name = \"R\"\n\
-rate = 5\n\
-turn = 0\n\
-[[airport]]\n\
-name = \"ARN\"\n\
-offset = 60\n\
-turn = 0\n\
-[[counter]]\n\
-name = \"fh\"\n\
-kind = \"minutes\"\n\
-limit = 112\n\
-bases = []\n\
-stop = 1\n",
+            "[[type]]\nname = \"P\"\nrate = 2\nturn = 0\n\
+[[type]]\nname = \"Q\"\nrate = 2\nturn = 0\n\
+[[type]]\nname = \"R\"\nrate = 5\nturn = 0\n\
+[[airport]]\nname = \"ARN\"\noffset = 60\nturn = 0\n\
+[[counter]]\nname = \"fh\"\nkind = \"minutes\"\nlimit = 112\nbases = []\nstop = 1\n",
         ],
         Some(767),
     ),
@@ -151,34 +134,12 @@ F7,flight,ARN,ARN,2025-03-03T15:44,2025-03-03T17:12,P R,,,\n",
 A0,R,ARN,2025-03-03T05:00,17,,,fh=22\n\
 A1,P,ARN,2025-03-03T05:00,3,,,fh=32\n\
 A2,P,ARN,2025-03-03T05:00,3,,,\n",
-            "[[type]]\n\
-name = \"P\"\n\
-rate = 3\n\
-turn = 0\n\
-[[type]]\n\
-name = \"Q\"\n\
-rate = 4\n\
-turn = 0\n\
-[[type]]\n\
-name = \"R\"\n\
-rate = 5\n\
-turn = 0\n\
-[[airport]]\n\
-name = \"ARN\"\n\
-offset = 60\n\
-turn = 0\n\
-[[counter]]\n\
-name = \"fh\"\n\
-kind = \"minutes\"\n\
-limit = 242\n\
-bases = []\n\
-stop = 1\n\
-[[counter]]\n\
-name = \"ldg\"\n\
-kind = \"landings\"\n\
-limit = 4\n\
-bases = []\n\
-stop = 1\n",
+            "[[type]]\nname = \"P\"\nrate = 3\nturn = 0\n\
+[[type]]\nname = \"Q\"\nrate = 4\nturn = 0\n\
+[[type]]\nname = \"R\"\nrate = 5\nturn = 0\n\
+[[airport]]\nname = \"ARN\"\noffset = 60\nturn = 0\n\
+[[counter]]\nname = \"fh\"\nkind = \"minutes\"\nlimit = 242\nbases = []\nstop = 1\n\
+[[counter]]\nname = \"ldg\"\nkind = \"landings\"\nlimit = 4\nbases = []\nstop = 1\n",
         ],
         Some(2146),
     ),
@@ -220,34 +181,12 @@ A0,Q,ARN,2025-03-03T05:00,3,,,fh=41\n\
 A1,P,ARN,2025-03-03T05:00,3,,,fh=34\n\
 A2,P,ARN,2025-03-03T05:00,3,,,\n\
 A3,Q,ARN,2025-03-03T05:00,40,,,\n",
-            "[[type]]\n\
-name = \"P\"\n\
-rate = 2\n\
-turn = 0\n\
-[[type]]\n\
-name = \"Q\"\n\
-rate = 3\n\
-turn = 0\n\
-[[type]]\n\
-name = \"R\"\n\
-rate = 5\n\
-turn = 0\n\
-[[airport]]\n\
-name = \"ARN\"\n\
-offset = 60\n\
-turn = 0\n\
-[[counter]]\n\
-name = \"fh\"\n\
-kind = \"minutes\"\n\
-limit = 150\n\
-bases = []\n\
-stop = 1\n\
-[[counter]]\n\
-name = \"ldg\"\n\
-kind = \"landings\"\n\
-limit = 3\n\
-bases = []\n\
-stop = 1\n",
+            "[[type]]\nname = \"P\"\nrate = 2\nturn = 0\n\
+[[type]]\nname = \"Q\"\nrate = 3\nturn = 0\n\
+[[type]]\nname = \"R\"\nrate = 5\nturn = 0\n\
+[[airport]]\nname = \"ARN\"\noffset = 60\nturn = 0\n\
+[[counter]]\nname = \"fh\"\nkind = \"minutes\"\nlimit = 150\nbases = []\nstop = 1\n\
+[[counter]]\nname = \"ldg\"\nkind = \"landings\"\nlimit = 3\nbases = []\nstop = 1\n",
         ],
         Some(1215),
     ),
@@ -267,34 +206,12 @@ A0,P,ARN,2025-03-03T05:00,40,,,fh=25\n\
 A1,P,ARN,2025-03-03T05:00,17,,,\n\
 A2,Q,ARN,2025-03-03T05:00,17,,,\n\
 A3,R,ARN,2025-03-03T05:00,17,,,\n",
-            "[[type]]\n\
-name = \"P\"\n\
-rate = 4\n\
-turn = 0\n\
-[[type]]\n\
-name = \"Q\"\n\
-rate = 3\n\
-turn = 0\n\
-[[type]]\n\
-name = \"R\"\n\
-rate = 4\n\
-turn = 0\n\
-[[airport]]\n\
-name = \"ARN\"\n\
-offset = 60\n\
-turn = 0\n\
-[[counter]]\n\
-name = \"fh\"\n\
-kind = \"minutes\"\n\
-limit = 142\n\
-bases = []\n\
-stop = 1\n\
-[[counter]]\n\
-name = \"ldg\"\n\
-kind = \"landings\"\n\
-limit = 3\n\
-bases = []\n\
-stop = 1\n",
+            "[[type]]\nname = \"P\"\nrate = 4\nturn = 0\n\
+[[type]]\nname = \"Q\"\nrate = 3\nturn = 0\n\
+[[type]]\nname = \"R\"\nrate = 4\nturn = 0\n\
+[[airport]]\nname = \"ARN\"\noffset = 60\nturn = 0\n\
+[[counter]]\nname = \"fh\"\nkind = \"minutes\"\nlimit = 142\nbases = []\nstop = 1\n\
+[[counter]]\nname = \"ldg\"\nkind = \"landings\"\nlimit = 3\nbases = []\nstop = 1\n",
         ],
         Some(1680),
     ),

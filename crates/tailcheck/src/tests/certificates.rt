@@ -5,21 +5,14 @@ use std::alloc::Global;
 use std::process::Abort;
 use std::test::Fail;
 use trial_texts::{
-    DEAR_TYPE, FLEET, ONE_AT_ARLANDA, RULES, Seen, THERE, THERE_AND_BACK, TIMETABLE, Typed,
-    files_of,
+    AT_ONCE, CHEAP_AND_DEAR, DEAR_TYPE, FLEET, LONGER_TURN, ONE_AT_ARLANDA, RULES, Seen, THERE,
+    THERE_AND_BACK, TIMETABLE, Typed, files_of,
 };
 
 // A quick flight and a slow one at the same time, a cheap aircraft and a dear one.
 const SAME_TIME: Typed<'_> = Typed {
-    timetable: &[
-        TIMETABLE,
-        THERE,
-        "F2,flight,ARN,OSL,2025-03-03T06:00,2025-03-03T08:00,,,,\n",
-    ],
-    fleet: &[
-        FLEET,
-        "A1,P,ARN,2025-03-03T05:00,0,,,\nA2,Q,ARN,2025-03-03T05:00,0,,,\n",
-    ],
+    timetable: &[TIMETABLE, AT_ONCE],
+    fleet: &[FLEET, CHEAP_AND_DEAR],
     rules: &[RULES, DEAR_TYPE],
     judged: &[],
 };
@@ -28,11 +21,7 @@ const SAME_TIME: Typed<'_> = Typed {
 const TOO_EARLY: Typed<'_> = Typed {
     timetable: &[TIMETABLE, THERE_AND_BACK],
     fleet: &[FLEET, ONE_AT_ARLANDA],
-    rules: &[
-        "[[type]]\nname = \"P\"\nrate = 1\nturn = 31\n\
-[[airport]]\nname = \"ARN\"\noffset = 60\nturn = 20\n\
-[[airport]]\nname = \"OSL\"\noffset = 60\nturn = 20\n",
-    ],
+    rules: &[LONGER_TURN],
     judged: &[],
 };
 

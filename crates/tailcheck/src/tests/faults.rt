@@ -2,7 +2,7 @@
 
 use super::fixtures::{WORDS, run_failing};
 use std::test::Fail;
-use trial_texts::{BROKEN, LEGAL, NO_PLAN, files_of};
+use trial_texts::{BROKEN, LEGAL, MISSING, NO_PLAN, files_of};
 
 // A write that fails ends the run with what was printed before it.
 #[test]
@@ -53,15 +53,7 @@ fn a_failed_read_ends_a_run(rt: HostRuntime) -> Result<(), Fail> {
 // A file that isn't there can't be read, even where a table is bad: the plan's file is no timetable.
 #[test]
 fn a_missing_file_ends_a_run(rt: HostRuntime) -> Result<(), Fail> {
-    for (timetable, fleet, rules, plan) in [
-        ("none", "f", "r", "p"),
-        ("t", "none", "r", "p"),
-        ("t", "f", "none", "p"),
-        ("t", "f", "r", "none"),
-        ("p", "f", "r", "none"),
-        ("t", "p", "r", "none"),
-        ("t", "f", "p", "none"),
-    ] {
+    for (timetable, fleet, rules, plan) in MISSING {
         let words = ["tailcheck", timetable, fleet, rules, "--plan", plan];
         let files = files_of(rt.alloc(), LEGAL)?;
         let seen = run_failing(rt.alloc(), &words, files, &[], &[])?;

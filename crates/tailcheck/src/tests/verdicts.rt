@@ -2,7 +2,11 @@
 
 use super::fixtures::{run_there_and_back, run_with};
 use std::test::Fail;
-use trial_texts::{DEAR_TYPE, ONE_AT_ARLANDA, THERE_AND_BACK, TWO_AT_ARLANDA};
+use trial_texts::{
+    AT_ONCE, CHEAP_AND_DEAR, CHECK_IN_OSLO, DAILY_CHECK, DEAR_TYPE, FOUR_FLIGHTS, FOUR_TOO_CLOSE,
+    NIGHT, ONE_AT_ARLANDA, ONE_EACH, THERE_AND_BACK, THREE_LANDINGS, TWO_AT_ARLANDA, TWO_HOURS,
+    WITH_A_STOP,
+};
 
 // The plans of two flights and one aircraft.
 #[test]
@@ -44,39 +48,6 @@ fn plans_of_two_flights_are_judged(rt: HostRuntime) -> Result<(), Fail> {
     Ok(())
 }
 
-const FLIGHT_HOURS: &str =
-    "[[counter]]\nname = \"fh\"\nkind = \"minutes\"\nlimit = 120\nbases = [\"ARN\"]\nstop = 60\n";
-
-const LANDINGS: &str =
-    "[[counter]]\nname = \"ldg\"\nkind = \"landings\"\nlimit = 3\nbases = [\"ARN\"]\nstop = 60\n\
-[[band]]\nupto = 59\ncost = 0\n[[band]]\nupto = 10000000\ncost = 500\n";
-
-const CHECK: &str =
-    "[[counter]]\nname = \"chk\"\nkind = \"days\"\nlimit = 1\nbases = [\"ARN\"]\nstop = 60\n";
-
-const NIGHT: &str = "[[curfew]]\nairport = \"ARN\"\nfrom = \"23:00\"\nto = \"06:00\"\ntypes = []\n\
-start = false\nlanding = true\n";
-
-const FOUR_FLIGHTS: &str = "F1,flight,ARN,OSL,2025-03-03T06:00,2025-03-03T07:00,,,,\n\
-F2,flight,OSL,ARN,2025-03-03T07:30,2025-03-03T08:30,,,,\n\
-F3,flight,ARN,OSL,2025-03-03T09:30,2025-03-03T10:30,,,,\n\
-F4,flight,OSL,ARN,2025-03-03T11:00,2025-03-03T12:00,,,,\n";
-
-// The same with a third flight a minute earlier, so that the counter isn't reset before it.
-const FOUR_WITHOUT_A_RESET: &str = "F1,flight,ARN,OSL,2025-03-03T06:00,2025-03-03T07:00,,,,\n\
-F2,flight,OSL,ARN,2025-03-03T07:30,2025-03-03T08:30,,,,\n\
-F3,flight,ARN,OSL,2025-03-03T09:29,2025-03-03T10:29,,,,\n\
-F4,flight,OSL,ARN,2025-03-03T11:00,2025-03-03T12:00,,,,\n";
-
-const GROUND_BETWEEN: &str = "F1,flight,ARN,OSL,2025-03-03T06:00,2025-03-03T07:00,,,A1,\n\
-F2,flight,OSL,ARN,2025-03-03T07:30,2025-03-03T08:30,,,A1,\n\
-G1,ground,ARN,ARN,2025-03-03T09:00,2025-03-03T09:45,,,,\n\
-F5,flight,ARN,OSL,2025-03-03T10:00,2025-03-03T11:00,,,A1,\n\
-F6,flight,OSL,ARN,2025-03-03T11:30,2025-03-03T12:30,,,A1,\n";
-
-const CHECK_IN_OSLO: &str = "G1,ground,OSL,OSL,2025-03-03T10:00,2025-03-03T12:00,,,A1,chk\n\
-F1,flight,OSL,ARN,2025-03-03T12:30,2025-03-03T13:30,,,,\n";
-
 // Counters, with and without a reset, and what a wait costs.
 #[test]
 fn counters_are_judged(rt: HostRuntime) -> Result<(), Fail> {
@@ -84,31 +55,31 @@ fn counters_are_judged(rt: HostRuntime) -> Result<(), Fail> {
         (
             FOUR_FLIGHTS,
             ONE_AT_ARLANDA,
-            FLIGHT_HOURS,
+            TWO_HOURS,
             "optimal 1\nA1: F1 F2 F3 F4\n",
             0,
             "legal 240\n",
         ),
         (
-            FOUR_WITHOUT_A_RESET,
+            FOUR_TOO_CLOSE,
             ONE_AT_ARLANDA,
-            FLIGHT_HOURS,
+            TWO_HOURS,
             "optimal 1\nA1: F1 F2 F3 F4\n",
             1,
             "broken 2\ncounter A1 F3 fh\ncounter A1 F4 fh\n",
         ),
         (
-            GROUND_BETWEEN,
+            WITH_A_STOP,
             TWO_AT_ARLANDA,
-            LANDINGS,
+            THREE_LANDINGS,
             "optimal 1\nA1: F1 F2 F5 F6\nA2: G1\n",
             0,
             "legal 740\n",
         ),
         (
-            GROUND_BETWEEN,
+            WITH_A_STOP,
             TWO_AT_ARLANDA,
-            LANDINGS,
+            THREE_LANDINGS,
             "optimal 1\nA1: F1 F2 G1 F5 F6\nA2:\n",
             1,
             "broken 1\ncounter A1 F6 ldg\n",
@@ -116,7 +87,7 @@ fn counters_are_judged(rt: HostRuntime) -> Result<(), Fail> {
         (
             CHECK_IN_OSLO,
             "A1,P,OSL,2025-03-03T00:00,7,,,chk=1000\n",
-            CHECK,
+            DAILY_CHECK,
             "optimal 1\nA1: G1 F1\n",
             0,
             "legal 74\n",
@@ -128,20 +99,12 @@ fn counters_are_judged(rt: HostRuntime) -> Result<(), Fail> {
     Ok(())
 }
 
-const QUICK_AND_SLOW: &str = "F1,flight,ARN,OSL,2025-03-03T06:00,2025-03-03T07:00,,,,\n\
-F2,flight,ARN,OSL,2025-03-03T06:00,2025-03-03T08:00,,,,\n";
-
-const CHEAP_AND_DEAR: &str = "A1,P,ARN,2025-03-03T05:00,0,,,\nA2,Q,ARN,2025-03-03T05:00,0,,,\n";
-
-const ONE_EACH: &str = "FB,flight,ARN,OSL,2025-03-03T06:00,2025-03-03T07:00,,,A1,\n\
-FA,flight,ARN,OSL,2025-03-03T06:00,2025-03-03T07:00,,,A2,\n";
-
 // Who may fly what, and what it costs.
 #[test]
 fn aircraft_are_judged(rt: HostRuntime) -> Result<(), Fail> {
     for (records, aircraft, rules, plan, status, printed) in [
         (
-            QUICK_AND_SLOW,
+            AT_ONCE,
             CHEAP_AND_DEAR,
             DEAR_TYPE,
             "optimal 240\nA1: F2\nA2: F1\n",
@@ -150,7 +113,7 @@ fn aircraft_are_judged(rt: HostRuntime) -> Result<(), Fail> {
         ),
         // legal, though another plan costs less
         (
-            QUICK_AND_SLOW,
+            AT_ONCE,
             CHEAP_AND_DEAR,
             DEAR_TYPE,
             "optimal 240\nA2: F2\nA1: F1\n",

@@ -1,16 +1,12 @@
 //! Certificates of runs, in files in memory: what is written, what was there before, and what each failed call leaves.
 
-use super::counters::{THREE_LANDINGS, WITH_A_STOP};
 use super::*;
-use book_maker::read_book;
 use cert_checker::{Verdict, judge};
 use tail_book::Claim;
-
-/// The tables of two aircraft of two types and of a flight for each, the dear one the longer.
-pub const SIDE_BY_SIDE: &str = "F1,flight,ARN,OSL,2025-03-03T06:00,2025-03-03T07:00,,,,\n\
-F2,flight,ARN,OSL,2025-03-03T06:00,2025-03-03T08:00,,,,\n";
-
-pub const TWO_TYPES: &str = "A1,P,ARN,2025-03-03T05:00,0,,,\nA2,Q,ARN,2025-03-03T05:00,0,,,\n";
+use trial_texts::{
+    AT_ONCE, CHEAP_AND_DEAR, DEAR_TYPE, LONGER_TURN, THERE, THREE_LANDINGS, TWO_AT_ARLANDA,
+    WITH_A_STOP, file_of,
+};
 
 /// How a run ended, what it printed, and what the certificate's file holds then.
 #[derive(Debug, Drop)]
@@ -30,13 +26,10 @@ pub fn left_by(
     let files = MemFiles::new(alloc, files, failing)?;
     let mut sink = MemSink::new(alloc, Vec::new(alloc))?;
     let ran = solve_run(alloc, &words, files, &mut sink);
-    let printed = sink.bytes().to_vec(alloc)?;
+    let seen = Seen::of(alloc, ran.status.0, &sink)?;
     let cert = ran.files.bytes("c").unwrap_or(b"gone".as_slice());
     Ok(Left {
-        seen: Seen {
-            status: ran.status.0,
-            printed,
-        },
+        seen,
         cert: cert.to_vec(alloc)?,
     })
 }
@@ -48,11 +41,11 @@ pub fn files_with_old(
     aircraft: &str,
     more_rules: &str,
 ) -> Result<Vec<MemFile>, Fail> {
-    let mut files = files_of(
+    let mut files = table_files(
         alloc,
-        text_of(alloc, &[TIMETABLE, records])?,
-        text_of(alloc, &[FLEET, aircraft])?,
-        text_of(alloc, &[RULES, more_rules])?,
+        &[TIMETABLE, records],
+        &[FLEET, aircraft],
+        &[RULES, more_rules],
     )?;
     files.push(file_of(alloc, "c", vec![in alloc; b'x'; 4_000]?)?)?;
     Ok(files)
@@ -78,8 +71,8 @@ fn certificates_are_written(rt: HostRuntime) -> Result<(), Fail> {
         ),
         (
             BOUNDED,
-            SIDE_BY_SIDE,
-            TWO_TYPES,
+            AT_ONCE,
+            CHEAP_AND_DEAR,
             DEAR_TYPE,
             4,
             "tailcert 1 2 2 0\nbound\ncover 0 0\nlabel 0 60000\nlabel 1 120000\ncover 1 0\n\
@@ -98,17 +91,14 @@ label 0 120000\nlabel 1 240000\nclaim limit 0 -\n",
 #[test]
 fn steps_are_written(rt: HostRuntime) -> Result<(), Fail> {
     let alloc = rt.alloc();
-    let rules = "[[type]]\nname = \"P\"\nrate = 1\nturn = 31\n\
-[[airport]]\nname = \"ARN\"\noffset = 60\nturn = 20\n\
-[[airport]]\nname = \"OSL\"\noffset = 60\nturn = 20\n";
-    let files = files_of(
+    let files = table_files(
         alloc,
-        text_of(alloc, &[TIMETABLE, THERE_AND_BACK])?,
-        text_of(alloc, &[FLEET, ONE])?,
-        text_of(alloc, &[rules])?,
+        &[TIMETABLE, THERE_AND_BACK],
+        &[FLEET, ONE_AT_ARLANDA],
+        &[LONGER_TURN],
     )?;
     let left = left_by(alloc, CERTIFIED, files, Vec::new(alloc))?;
-    assert!(rt; is_so(&left.seen, 1, "infeasible\n"));
+    assert!(rt; left.seen.is(1, "infeasible\n"));
     let cert = "tailcert 1 2 1 0\nbar 0 1\nmust 0 0\nhole 1\nclaim infeasible\n";
     assert!(rt; left.cert.as_slice() == cert.as_bytes());
     Ok(())
@@ -122,7 +112,7 @@ fn refusals_leave_the_file(rt: HostRuntime) -> Result<(), Fail> {
         (CERTIFIED, "F1,flight,ARN\n", 3),
         (&["tailplan", "t", "f", "--cert", "c"], THERE, 2),
     ] {
-        let files = files_with_old(alloc, records, ONE, "")?;
+        let files = files_with_old(alloc, records, ONE_AT_ARLANDA, "")?;
         let left = left_by(alloc, words, files, Vec::new(alloc))?;
         assert!(rt; left.seen.status == status);
         assert!(rt; left.cert.len() == 4_000);
@@ -151,8 +141,8 @@ fn failed_calls_leave_a_front(rt: HostRuntime) -> Result<(), Fail> {
     let alloc = rt.alloc();
     for (words, records, aircraft, rules) in [
         (CERTIFIED, THERE, "", ""),
-        (CERTIFIED, SIDE_BY_SIDE, TWO_TYPES, DEAR_TYPE),
-        (BOUNDED, SIDE_BY_SIDE, TWO_TYPES, DEAR_TYPE),
+        (CERTIFIED, AT_ONCE, CHEAP_AND_DEAR, DEAR_TYPE),
+        (BOUNDED, AT_ONCE, CHEAP_AND_DEAR, DEAR_TYPE),
     ] {
         let files = files_with_old(alloc, records, aircraft, rules)?;
         let whole = left_by(alloc, words, files, Vec::new(alloc))?;
@@ -166,34 +156,34 @@ fn failed_calls_leave_a_front(rt: HostRuntime) -> Result<(), Fail> {
     Ok(())
 }
 
-/// The verdict on the certificate that is left by a run over these texts, where they are a book.
+/// The verdict on the certificate that is left by a run over these texts.
 pub fn verdict_on(
     alloc: Global,
     records: &str,
     fleet: &[&str],
     rules: &[&str],
-) -> Result<Option<Verdict>, Fail> {
-    let timetable = text_of(alloc, &[TIMETABLE, records])?;
-    let fleet = text_of(alloc, fleet)?;
-    let rules = text_of(alloc, rules)?;
-    let Ok(book) = read_book(alloc, &timetable, &fleet, &rules) else {
-        return Ok(None);
-    };
-    let files = files_of(alloc, timetable, fleet, rules)?;
+) -> Result<Verdict, Fail> {
+    let book = book_of(alloc, &[TIMETABLE, records], fleet, rules)?;
+    let files = table_files(alloc, &[TIMETABLE, records], fleet, rules)?;
     let left = left_by(alloc, CERTIFIED, files, Vec::new(alloc))?;
-    Ok(Some(judge(alloc, &book, &left.cert)?))
+    Ok(judge(alloc, &book, &left.cert)?)
 }
 
 // What is written is accepted: a plan of least cost, one in which a dear arrival survives, and that there is none.
 #[test]
 fn certificates_are_accepted(rt: HostRuntime) -> Result<(), Fail> {
     for (records, aircraft, rules, claim) in [
-        (SIDE_BY_SIDE, TWO_TYPES, DEAR_TYPE, Claim::Optimal(240)),
-        (WITH_A_STOP, TWO, THREE_LANDINGS, Claim::Optimal(740)),
+        (AT_ONCE, CHEAP_AND_DEAR, DEAR_TYPE, Claim::Optimal(240)),
+        (
+            WITH_A_STOP,
+            TWO_AT_ARLANDA,
+            THREE_LANDINGS,
+            Claim::Optimal(740),
+        ),
         (THERE_AND_BACK, "", "", Claim::Infeasible),
     ] {
         let verdict = verdict_on(rt.alloc(), records, &[FLEET, aircraft], &[RULES, rules])?;
-        assert_eq!(rt; verdict, Some(Verdict::Yes(claim)));
+        assert_eq!(rt; verdict, Verdict::Yes(claim));
     }
     Ok(())
 }

@@ -1,7 +1,8 @@
 //! What a plan costs: minutes by type, a fixed amount for each activity, and bands of connections.
 
-use super::{DEAR_TYPE, ONE, THERE, THERE_AND_BACK, ends_so};
+use super::ends_so;
 use std::test::Fail;
+use trial_texts::{DEAR_TYPE, ONE_AT_ARLANDA, THERE, THERE_AND_BACK};
 
 // The rate of a type is weighed against the fixed amount of an aircraft, to the unit.
 #[test]
@@ -78,7 +79,14 @@ fn the_first_band_that_fits_is_paid(rt: HostRuntime) -> Result<(), Fail> {
             "optimal 125\nA1: F1 F2\n",
         ),
     ] {
-        let ends = ends_so(rt.alloc(), THERE_AND_BACK, ONE, bands, 0, printed)?;
+        let ends = ends_so(
+            rt.alloc(),
+            THERE_AND_BACK,
+            ONE_AT_ARLANDA,
+            bands,
+            0,
+            printed,
+        )?;
         assert!(rt; ends, "{bands}");
     }
     Ok(())

@@ -1,11 +1,11 @@
 //! Counters of minutes, landings and days: limits, bases, stops, resets and what an aircraft comes in with.
 
-use super::{ONE, THERE, THERE_AND_BACK, TWO, each_ends_so, ends_so};
+use super::{each_ends_so, ends_so};
 use std::test::Fail;
-
-// A counter of flown minutes of at most two hours, which an hour at Arlanda resets.
-const TWO_HOURS: &str =
-    "[[counter]]\nname = \"fh\"\nkind = \"minutes\"\nlimit = 120\nbases = [\"ARN\"]\nstop = 60\n";
+use trial_texts::{
+    CHECK_IN_OSLO, DAILY_CHECK, FOUR_FLIGHTS, FOUR_TOO_CLOSE, ONE_AT_ARLANDA, THERE,
+    THERE_AND_BACK, THREE_LANDINGS, TWO_AT_ARLANDA, TWO_HOURS, WITH_A_STOP,
+};
 
 // Flown minutes may add up to the limit. A stop at a base of so many minutes sets them to nothing.
 #[test]
@@ -13,33 +13,18 @@ fn a_stop_at_a_base_resets_minutes(rt: HostRuntime) -> Result<(), Fail> {
     let cases = [
         // an hour at Arlanda after two hours in the air
         (
-            "F1,flight,ARN,OSL,2025-03-03T06:00,2025-03-03T07:00,,,,\n\
-F2,flight,OSL,ARN,2025-03-03T07:30,2025-03-03T08:30,,,,\n\
-F3,flight,ARN,OSL,2025-03-03T09:30,2025-03-03T10:30,,,,\n\
-F4,flight,OSL,ARN,2025-03-03T11:00,2025-03-03T12:00,,,,\n",
-            ONE,
+            FOUR_FLIGHTS,
+            ONE_AT_ARLANDA,
             TWO_HOURS,
             0,
             "optimal 240\nA1: F1 F2 F3 F4\n",
         ),
         // a minute less
-        (
-            "F1,flight,ARN,OSL,2025-03-03T06:00,2025-03-03T07:00,,,,\n\
-F2,flight,OSL,ARN,2025-03-03T07:30,2025-03-03T08:30,,,,\n\
-F3,flight,ARN,OSL,2025-03-03T09:29,2025-03-03T10:29,,,,\n\
-F4,flight,OSL,ARN,2025-03-03T11:00,2025-03-03T12:00,,,,\n",
-            ONE,
-            TWO_HOURS,
-            1,
-            "infeasible\n",
-        ),
+        (FOUR_TOO_CLOSE, ONE_AT_ARLANDA, TWO_HOURS, 1, "infeasible\n"),
         // two hours in the air are a minute too many
         (
-            "F1,flight,ARN,OSL,2025-03-03T06:00,2025-03-03T07:00,,,,\n\
-F2,flight,OSL,ARN,2025-03-03T07:30,2025-03-03T08:30,,,,\n\
-F3,flight,ARN,OSL,2025-03-03T09:30,2025-03-03T10:30,,,,\n\
-F4,flight,OSL,ARN,2025-03-03T11:00,2025-03-03T12:00,,,,\n",
-            ONE,
+            FOUR_FLIGHTS,
+            ONE_AT_ARLANDA,
             "[[counter]]\nname = \"fh\"\nkind = \"minutes\"\nlimit = 119\nbases = [\"ARN\"]\nstop = 60\n",
             1,
             "infeasible\n",
@@ -47,21 +32,21 @@ F4,flight,OSL,ARN,2025-03-03T11:00,2025-03-03T12:00,,,,\n",
         // half an hour in Oslo resets where it is a base and long enough
         (
             THERE_AND_BACK,
-            ONE,
+            ONE_AT_ARLANDA,
             "[[counter]]\nname = \"fh\"\nkind = \"minutes\"\nlimit = 60\nbases = [\"OSL\"]\nstop = 30\n",
             0,
             "optimal 120\nA1: F1 F2\n",
         ),
         (
             THERE_AND_BACK,
-            ONE,
+            ONE_AT_ARLANDA,
             "[[counter]]\nname = \"fh\"\nkind = \"minutes\"\nlimit = 60\nbases = [\"OSL\"]\nstop = 31\n",
             1,
             "infeasible\n",
         ),
         (
             THERE_AND_BACK,
-            ONE,
+            ONE_AT_ARLANDA,
             "[[counter]]\nname = \"fh\"\nkind = \"minutes\"\nlimit = 60\nbases = [\"ARN\"]\nstop = 30\n",
             1,
             "infeasible\n",
@@ -69,7 +54,7 @@ F4,flight,OSL,ARN,2025-03-03T11:00,2025-03-03T12:00,,,,\n",
         // the second of two counters is the one that is passed
         (
             THERE_AND_BACK,
-            ONE,
+            ONE_AT_ARLANDA,
             "[[counter]]\nname = \"fh\"\nkind = \"minutes\"\nlimit = 120\nbases = []\nstop = 1\n\
 [[counter]]\nname = \"ldg\"\nkind = \"landings\"\nlimit = 1\nbases = []\nstop = 1\n",
             1,
@@ -149,7 +134,7 @@ fn an_activity_resets_counters(rt: HostRuntime) -> Result<(), Fail> {
             "F1,flight,ARN,OSL,2025-03-03T06:00,2025-03-03T08:00,,,,\n\
 G1,ground,OSL,OSL,2025-03-03T08:00,2025-03-03T08:20,,,,fh\n\
 F2,flight,OSL,ARN,2025-03-03T08:30,2025-03-03T10:30,,,,\n",
-            ONE,
+            ONE_AT_ARLANDA,
             TWO_HOURS,
             0,
             "optimal 240\nA1: F1 G1 F2\n",
@@ -158,7 +143,7 @@ F2,flight,OSL,ARN,2025-03-03T08:30,2025-03-03T10:30,,,,\n",
             "F1,flight,ARN,OSL,2025-03-03T06:00,2025-03-03T08:00,,,,\n\
 G1,ground,OSL,OSL,2025-03-03T08:00,2025-03-03T08:20,,,,\n\
 F2,flight,OSL,ARN,2025-03-03T08:30,2025-03-03T10:30,,,,\n",
-            ONE,
+            ONE_AT_ARLANDA,
             TWO_HOURS,
             1,
             "infeasible\n",
@@ -167,7 +152,7 @@ F2,flight,OSL,ARN,2025-03-03T08:30,2025-03-03T10:30,,,,\n",
         (
             "F1,flight,ARN,OSL,2025-03-03T06:00,2025-03-03T08:01,,,,\n\
 G1,ground,OSL,OSL,2025-03-03T08:01,2025-03-03T08:20,,,,fh\n",
-            ONE,
+            ONE_AT_ARLANDA,
             TWO_HOURS,
             1,
             "infeasible\n",
@@ -182,7 +167,7 @@ fn landings_are_counted(rt: HostRuntime) -> Result<(), Fail> {
     let rules =
         "[[counter]]\nname = \"ldg\"\nkind = \"landings\"\nlimit = 1\nbases = []\nstop = 1\n";
     let cases = [
-        (THERE_AND_BACK, ONE, rules, 1, "infeasible\n"),
+        (THERE_AND_BACK, ONE_AT_ARLANDA, rules, 1, "infeasible\n"),
         (
             THERE_AND_BACK,
             "A1,P,ARN,2025-03-03T05:00,0,,,\nA2,P,OSL,2025-03-03T05:00,0,,,\n",
@@ -194,7 +179,7 @@ fn landings_are_counted(rt: HostRuntime) -> Result<(), Fail> {
             "F1,flight,ARN,OSL,2025-03-03T06:00,2025-03-03T07:00,,,,\n\
 G1,ground,OSL,OSL,2025-03-03T07:00,2025-03-03T08:00,,,,\n\
 G2,ground,OSL,OSL,2025-03-03T08:00,2025-03-03T09:00,,,,\n",
-            ONE,
+            ONE_AT_ARLANDA,
             rules,
             0,
             "optimal 60\nA1: F1 G1 G2\n",
@@ -213,7 +198,7 @@ fn days_go_by_between_flights(rt: HostRuntime) -> Result<(), Fail> {
         (
             "F1,flight,ARN,OSL,2025-03-03T06:00,2025-03-03T07:00,,,,\n\
 F2,flight,OSL,ARN,2025-03-04T04:00,2025-03-04T05:00,,,,\n",
-            ONE,
+            ONE_AT_ARLANDA,
             rules,
             0,
             "optimal 120\nA1: F1 F2\n",
@@ -221,7 +206,7 @@ F2,flight,OSL,ARN,2025-03-04T04:00,2025-03-04T05:00,,,,\n",
         (
             "F1,flight,ARN,OSL,2025-03-03T06:00,2025-03-03T07:00,,,,\n\
 F2,flight,OSL,ARN,2025-03-04T04:01,2025-03-04T05:01,,,,\n",
-            ONE,
+            ONE_AT_ARLANDA,
             rules,
             1,
             "infeasible\n",
@@ -231,7 +216,7 @@ F2,flight,OSL,ARN,2025-03-04T04:01,2025-03-04T05:01,,,,\n",
             "F1,flight,ARN,OSL,2025-03-03T06:00,2025-03-03T07:00,,,,\n\
 F2,flight,OSL,ARN,2025-03-03T07:30,2025-03-03T08:30,,,,\n\
 F3,flight,ARN,OSL,2025-03-06T06:00,2025-03-06T07:00,,,,\n",
-            ONE,
+            ONE_AT_ARLANDA,
             rules,
             0,
             "optimal 180\nA1: F1 F2 F3\n",
@@ -243,22 +228,18 @@ F3,flight,ARN,OSL,2025-03-06T06:00,2025-03-06T07:00,,,,\n",
 // A check on the ground resets the days that an aircraft came in with, before they are compared.
 #[test]
 fn a_check_resets_days(rt: HostRuntime) -> Result<(), Fail> {
-    let records = "G1,ground,OSL,OSL,2025-03-03T10:00,2025-03-03T12:00,,,A1,chk\n\
-F1,flight,OSL,ARN,2025-03-03T12:30,2025-03-03T13:30,,,,\n";
-    let rules =
-        "[[counter]]\nname = \"chk\"\nkind = \"days\"\nlimit = 1\nbases = [\"ARN\"]\nstop = 60\n";
     let cases = [
         (
-            records,
+            CHECK_IN_OSLO,
             "A1,P,OSL,2025-03-03T00:00,7,,,chk=1000\n",
-            rules,
+            DAILY_CHECK,
             0,
             "optimal 74\nA1: G1 F1\n",
         ),
         (
-            records,
+            CHECK_IN_OSLO,
             "A1,P,OSL,2025-03-03T00:00,7,,,chk=10000000\n",
-            rules,
+            DAILY_CHECK,
             0,
             "optimal 74\nA1: G1 F1\n",
         ),
@@ -266,25 +247,13 @@ F1,flight,OSL,ARN,2025-03-03T12:30,2025-03-03T13:30,,,,\n";
     each_ends_so(&rt, rt.alloc(), &cases)
 }
 
-/// Two flights away from Arlanda and home, with G1 there between them.
-pub const WITH_A_STOP: &str = "F1,flight,ARN,OSL,2025-03-03T06:00,2025-03-03T07:00,,,A1,\n\
-F2,flight,OSL,ARN,2025-03-03T07:30,2025-03-03T08:30,,,A1,\n\
-G1,ground,ARN,ARN,2025-03-03T09:00,2025-03-03T09:45,,,,\n\
-F5,flight,ARN,OSL,2025-03-03T10:00,2025-03-03T11:00,,,A1,\n\
-F6,flight,OSL,ARN,2025-03-03T11:30,2025-03-03T12:30,,,A1,\n";
-
-/// At most three landings between two waits of an hour at Arlanda; a wait of an hour is dear.
-pub const THREE_LANDINGS: &str =
-    "[[counter]]\nname = \"ldg\"\nkind = \"landings\"\nlimit = 3\nbases = [\"ARN\"]\nstop = 60\n\
-[[band]]\nupto = 59\ncost = 0\n[[band]]\nupto = 10000000\ncost = 500\n";
-
 // The cheap way to F5 goes through G1, and keeps the counter full: F6 would be the fourth landing. The dear one is taken.
 #[test]
 fn a_dear_stop_empties_a_counter(rt: HostRuntime) -> Result<(), Fail> {
     let ends = ends_so(
         rt.alloc(),
         WITH_A_STOP,
-        TWO,
+        TWO_AT_ARLANDA,
         THREE_LANDINGS,
         0,
         "optimal 740\nA1: F1 F2 F5 F6\nA2: G1\n",

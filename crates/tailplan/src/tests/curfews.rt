@@ -1,7 +1,8 @@
 //! Curfews: windows of local minutes, for starts or for landings, of some types or of all.
 
-use super::{DEAR_TYPE, ONE, THERE, each_ends_so, ends_so};
+use super::{each_ends_so, ends_so};
 use std::test::Fail;
+use trial_texts::{CHEAP_AND_DEAR, DEAR_TYPE, NIGHT, ONE_AT_ARLANDA, THERE};
 
 // F1 starts at ARN at 07:00 and lands at OSL at 08:00, both local.
 #[test]
@@ -51,7 +52,7 @@ fn a_window_closes_an_airport(rt: HostRuntime) -> Result<(), Fail> {
             flown,
         ),
     ] {
-        let ends = ends_so(rt.alloc(), THERE, ONE, curfew, status, printed)?;
+        let ends = ends_so(rt.alloc(), THERE, ONE_AT_ARLANDA, curfew, status, printed)?;
         assert!(rt; ends, "{curfew}");
     }
     Ok(())
@@ -61,34 +62,32 @@ fn a_window_closes_an_airport(rt: HostRuntime) -> Result<(), Fail> {
 #[test]
 fn a_night_has_two_ends(rt: HostRuntime) -> Result<(), Fail> {
     let aircraft = "A1,P,OSL,2025-03-03T00:00,0,,,\n";
-    let rules =
-        "[[curfew]]\nairport = \"ARN\"\nfrom = \"23:00\"\nto = \"06:00\"\ntypes = []\nstart = false\nlanding = true\n";
     let cases = [
         (
             "F1,flight,OSL,ARN,2025-03-03T20:59,2025-03-03T21:59,,,,\n",
             aircraft,
-            rules,
+            NIGHT,
             0,
             "optimal 60\nA1: F1\n",
         ),
         (
             "F1,flight,OSL,ARN,2025-03-03T21:00,2025-03-03T22:00,,,,\n",
             aircraft,
-            rules,
+            NIGHT,
             1,
             "infeasible\n",
         ),
         (
             "F1,flight,OSL,ARN,2025-03-03T03:59,2025-03-03T04:59,,,,\n",
             aircraft,
-            rules,
+            NIGHT,
             1,
             "infeasible\n",
         ),
         (
             "F1,flight,OSL,ARN,2025-03-03T04:00,2025-03-03T05:00,,,,\n",
             aircraft,
-            rules,
+            NIGHT,
             0,
             "optimal 60\nA1: F1\n",
         ),
@@ -108,14 +107,7 @@ fn a_curfew_may_name_types(rt: HostRuntime) -> Result<(), Fail> {
         let curfew = format!(in alloc;
             "{DEAR_TYPE}[[curfew]]\nairport = \"ARN\"\nfrom = \"06:00\"\nto = \"08:00\"\ntypes = [{types}]\nstart = true\nlanding = false\n"
         )?;
-        let ends = ends_so(
-            alloc,
-            THERE,
-            "A1,P,ARN,2025-03-03T05:00,0,,,\nA2,Q,ARN,2025-03-03T05:00,0,,,\n",
-            &curfew,
-            status,
-            printed,
-        )?;
+        let ends = ends_so(alloc, THERE, CHEAP_AND_DEAR, &curfew, status, printed)?;
         assert!(rt; ends, "{types}");
     }
     Ok(())
@@ -152,7 +144,7 @@ fn a_curfew_is_for_flights(rt: HostRuntime) -> Result<(), Fail> {
     let ends = ends_so(
         rt.alloc(),
         "G1,ground,ARN,ARN,2025-03-03T06:00,2025-03-03T07:00,,,,\n",
-        ONE,
+        ONE_AT_ARLANDA,
         "[[curfew]]\nairport = \"ARN\"\nfrom = \"00:00\"\nto = \"23:59\"\ntypes = []\nstart = true\nlanding = true\n",
         0,
         "optimal 0\nA1: G1\n",

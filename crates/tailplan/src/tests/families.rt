@@ -8,7 +8,7 @@ mod place;
 mod plain;
 mod tight;
 
-use super::{is_so, run_on};
+use super::run_on;
 use std::alloc::Global;
 use std::test::Fail;
 
@@ -71,7 +71,7 @@ fn made_tables_may_have_no_plan(rt: HostRuntime) -> Result<(), Fail> {
         (place::TIMETABLE, place::FLEET, place::RULES),
     ] {
         let seen = run_on(rt.alloc(), &[timetable], &[fleet], &[rules])?;
-        assert!(rt; is_so(&seen, 1, "infeasible\n"), "{fleet}");
+        assert!(rt; seen.is(1, "infeasible\n"), "{fleet}");
     }
     Ok(())
 }

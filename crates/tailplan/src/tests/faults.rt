@@ -1,25 +1,14 @@
 //! Reads and writes that fail, and files that aren't there.
 
-use super::{FLEET, ONE, RULES, Seen, THERE, file_of, is_so, seen_of, text_of, usual_files};
+use super::{WORDS, run_failing, run_over, usual_files};
 use std::alloc::Global;
 use std::test::Fail;
-use tail_outside::{MemFile, MemFiles, MemSink};
-
-const WORDS: [&str; 4] = ["tailplan", "t", "f", "r"];
-
-// A run over two flights and one aircraft, where this call of the files and this one of the sink fail.
-fn run_failing(alloc: Global, read: u64, put: u64) -> Result<Seen, Fail> {
-    let files = MemFiles::new(alloc, usual_files(alloc)?, vec![in alloc; read]?)?;
-    let sink = MemSink::new(alloc, vec![in alloc; put]?)?;
-    seen_of(alloc, &WORDS, files, sink)
-}
+use tail_outside::MemFile;
+use trial_texts::{FLEET, ONE_AT_ARLANDA, RULES, THERE, table_files};
 
 // A bad timetable, a good fleet and good rules.
 fn bad_files(alloc: Global) -> Result<Vec<MemFile>, Fail> {
-    let timetable = file_of(alloc, "t", text_of(alloc, &[THERE])?)?;
-    let fleet = file_of(alloc, "f", text_of(alloc, &[FLEET, ONE])?)?;
-    let rules = file_of(alloc, "r", text_of(alloc, &[RULES])?)?;
-    Ok(vec![in alloc; timetable, fleet, rules]?)
+    table_files(alloc, &[THERE], &[FLEET, ONE_AT_ARLANDA], &[RULES])
 }
 
 // A write that fails ends the run with what was printed before it, a read that fails with nothing printed. Each table
@@ -38,8 +27,9 @@ fn faults_end_a_run(rt: HostRuntime) -> Result<(), Fail> {
         (7, 0, 0, "optimal 120\nA1: F1 F2\n"),
         (6, 1, 5, ""),
     ] {
-        let seen = run_failing(rt.alloc(), read, put)?;
-        assert!(rt; is_so(&seen, status, printed), "{read} {put}");
+        let files = usual_files(rt.alloc())?;
+        let seen = run_failing(rt.alloc(), &WORDS, files, &[read], &[put])?;
+        assert!(rt; seen.is(status, printed), "{read} {put}");
     }
     Ok(())
 }
@@ -52,10 +42,8 @@ fn a_missing_file_ends_a_run(rt: HostRuntime) -> Result<(), Fail> {
         ["tailplan", "t", "none", "r"],
         ["tailplan", "t", "f", "none"],
     ] {
-        let files = MemFiles::new(rt.alloc(), usual_files(rt.alloc())?, Vec::new(rt.alloc()))?;
-        let sink = MemSink::new(rt.alloc(), Vec::new(rt.alloc()))?;
-        let seen = seen_of(rt.alloc(), &words, files, sink)?;
-        assert!(rt; is_so(&seen, 5, ""), "{words:?}");
+        let seen = run_over(rt.alloc(), &words, usual_files(rt.alloc())?)?;
+        assert!(rt; seen.is(5, ""), "{words:?}");
     }
     Ok(())
 }
@@ -64,10 +52,9 @@ fn a_missing_file_ends_a_run(rt: HostRuntime) -> Result<(), Fail> {
 #[test]
 fn tables_are_read_before_they_are_judged(rt: HostRuntime) -> Result<(), Fail> {
     for (rules, status, printed) in [("none", 5, ""), ("r", 3, "refused 3 timetable 1\n")] {
-        let files = MemFiles::new(rt.alloc(), bad_files(rt.alloc())?, Vec::new(rt.alloc()))?;
-        let sink = MemSink::new(rt.alloc(), Vec::new(rt.alloc()))?;
-        let seen = seen_of(rt.alloc(), &["tailplan", "t", "f", rules], files, sink)?;
-        assert!(rt; is_so(&seen, status, printed), "{rules}");
+        let files = bad_files(rt.alloc())?;
+        let seen = run_over(rt.alloc(), &["tailplan", "t", "f", rules], files)?;
+        assert!(rt; seen.is(status, printed), "{rules}");
     }
     Ok(())
 }
@@ -75,9 +62,7 @@ fn tables_are_read_before_they_are_judged(rt: HostRuntime) -> Result<(), Fail> {
 // A refusal that can't be written is status 6, with nothing printed.
 #[test]
 fn a_refusal_may_fail(rt: HostRuntime) -> Result<(), Fail> {
-    let files = MemFiles::new(rt.alloc(), bad_files(rt.alloc())?, Vec::new(rt.alloc()))?;
-    let sink = MemSink::new(rt.alloc(), vec![in rt.alloc(); 1]?)?;
-    let seen = seen_of(rt.alloc(), &WORDS, files, sink)?;
-    assert!(rt; is_so(&seen, 6, ""));
+    let seen = run_failing(rt.alloc(), &WORDS, bad_files(rt.alloc())?, &[], &[1])?;
+    assert!(rt; seen.is(6, ""));
     Ok(())
 }

@@ -1,13 +1,10 @@
 //! Limits of nodes: what is printed where the search counts no more, and where it ends before.
 
-use super::{DEAR_TYPE, FLEET, ONE, RULES, THERE, TIMETABLE, is_so, run_with};
+use super::run_with;
 use std::test::Fail;
-
-// Two flights at once, of which the longer is for the cheap aircraft.
-const AT_ONCE: &str = "F1,flight,ARN,OSL,2025-03-03T06:00,2025-03-03T07:00,,,,\n\
-F2,flight,ARN,OSL,2025-03-03T06:00,2025-03-03T08:00,,,,\n";
-
-const CHEAP_AND_DEAR: &str = "A1,P,ARN,2025-03-03T05:00,0,,,\nA2,Q,ARN,2025-03-03T05:00,0,,,\n";
+use trial_texts::{
+    AT_ONCE, CHEAP_AND_DEAR, DEAR_TYPE, FLEET, ONE_AT_ARLANDA, RULES, THERE, TIMETABLE,
+};
 
 // No node is counted: no legal plan costs less than nothing, and none was found.
 #[test]
@@ -19,7 +16,7 @@ fn no_node_leaves_a_bound(rt: HostRuntime) -> Result<(), Fail> {
         &[FLEET, CHEAP_AND_DEAR],
         &[RULES, DEAR_TYPE],
     )?;
-    assert!(rt; is_so(&seen, 4, "limit 0 -\n"));
+    assert!(rt; seen.is(4, "limit 0 -\n"));
     Ok(())
 }
 
@@ -38,7 +35,7 @@ fn a_wide_limit_leaves_the_plan(rt: HostRuntime) -> Result<(), Fail> {
             &[FLEET, CHEAP_AND_DEAR],
             &[RULES, DEAR_TYPE],
         )?;
-        assert!(rt; is_so(&seen, 0, "optimal 240\nA1: F2\nA2: F1\n"));
+        assert!(rt; seen.is(0, "optimal 240\nA1: F2\nA2: F1\n"));
     }
     Ok(())
 }
@@ -53,7 +50,7 @@ fn one_node_finds_a_hole(rt: HostRuntime) -> Result<(), Fail> {
         &[FLEET],
         &[RULES],
     )?;
-    assert!(rt; is_so(&seen, 1, "infeasible\n"));
+    assert!(rt; seen.is(1, "infeasible\n"));
     Ok(())
 }
 
@@ -64,9 +61,9 @@ fn a_limit_leaves_refusals(rt: HostRuntime) -> Result<(), Fail> {
         rt.alloc(),
         &["tailplan", "t", "f", "r", "--nodes", "0"],
         &[THERE],
-        &[FLEET, ONE],
+        &[FLEET, ONE_AT_ARLANDA],
         &[RULES],
     )?;
-    assert!(rt; is_so(&seen, 3, "refused 3 timetable 1\n"));
+    assert!(rt; seen.is(3, "refused 3 timetable 1\n"));
     Ok(())
 }

@@ -1,12 +1,8 @@
 //! Which activity may come after which: places, turns, and time on the ground.
 
-use super::{ONE, THERE, THERE_AND_BACK, ends_so, ends_under};
+use super::{ends_so, ends_under};
 use std::test::Fail;
-
-// The usual airports, and a type whose turn is a minute longer.
-const LONGER_TURN: &str = "[[type]]\nname = \"P\"\nrate = 1\nturn = 31\n\
-[[airport]]\nname = \"ARN\"\noffset = 60\nturn = 20\n\
-[[airport]]\nname = \"OSL\"\noffset = 60\nturn = 20\n";
+use trial_texts::{LONGER_TURN, ONE_AT_ARLANDA, THERE, THERE_AND_BACK};
 
 // Oslo asks for more time than the type does.
 const SLOW_OSLO: &str = "[[type]]\nname = \"P\"\nrate = 1\nturn = 30\n\
@@ -38,7 +34,7 @@ fn a_turn_is_the_longer_of_two(rt: HostRuntime) -> Result<(), Fail> {
         (BACK_AT_ONCE, SLOW_ARLANDA, 0, "optimal 120\nA1: F1 F2\n"),
         (BACK_AT_ONCE, SLOW_OSLO, 1, "infeasible\n"),
     ] {
-        let ends = ends_under(rt.alloc(), records, ONE, rules, status, printed)?;
+        let ends = ends_under(rt.alloc(), records, ONE_AT_ARLANDA, rules, status, printed)?;
         assert!(rt; ends, "{records}{rules}");
     }
     Ok(())
@@ -60,7 +56,7 @@ fn a_route_begins_where_the_aircraft_is(rt: HostRuntime) -> Result<(), Fail> {
         (
             "F1,flight,ARN,OSL,2025-03-03T06:00,2025-03-03T07:00,,,,\n\
 F2,flight,ARN,OSL,2025-03-03T08:30,2025-03-03T09:30,,,,\n",
-            ONE,
+            ONE_AT_ARLANDA,
             1,
             "infeasible\n",
         ),
@@ -111,7 +107,7 @@ G1,ground,ARN,ARN,2025-03-03T05:30,2025-03-03T06:30,,,,\n",
             "infeasible\n",
         ),
     ] {
-        let ends = ends_so(rt.alloc(), records, ONE, "", status, printed)?;
+        let ends = ends_so(rt.alloc(), records, ONE_AT_ARLANDA, "", status, printed)?;
         assert!(rt; ends, "{records}");
     }
     Ok(())

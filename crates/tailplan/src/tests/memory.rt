@@ -1,16 +1,15 @@
 //! Runs with a certificate for which memory may run out. A test here holds where any one allocation fails, and where none
 //! does; `tests/each_allocation` runs it with each of them failing in turn.
 
-use super::certificates::{
-    BOUNDED, CERTIFIED, Left, SIDE_BY_SIDE, TWO_TYPES, files_with_old, left_by,
-};
-use super::counters::{THREE_LANDINGS, WITH_A_STOP};
+use super::certificates::{BOUNDED, CERTIFIED, Left, files_with_old, left_by};
 use super::*;
-use book_maker::read_book;
 use cert_checker::{Verdict, judge};
 use run_frame::NO_MEMORY;
 use std::process::{ExitCode, Termination};
 use tail_book::Claim;
+use trial_texts::{
+    AT_ONCE, CHEAP_AND_DEAR, DEAR_TYPE, THREE_LANDINGS, TWO_AT_ARLANDA, WITH_A_STOP,
+};
 
 /// A run's words, its records, aircraft and rules, the status and text that it ends with, and what is claimed then.
 #[derive(Clone, Copy)]
@@ -32,13 +31,13 @@ fn left_after(alloc: Global, asked: &Asked<'_>) -> Result<Left, Fail> {
 
 // What the checker says of a text as a certificate of the tables.
 fn judged(alloc: Global, asked: &Asked<'_>, cert: &[u8]) -> Result<Verdict, Fail> {
-    let timetable = text_of(alloc, &[TIMETABLE, asked.records])?;
-    let fleet = text_of(alloc, &[FLEET, asked.aircraft])?;
-    let rules = text_of(alloc, &[RULES, asked.rules])?;
-    match read_book(alloc, &timetable, &fleet, &rules) {
-        Ok(book) => Ok(judge(alloc, &book, cert)?),
-        Err(_) => Err(Fail::new("no book")),
-    }
+    let book = book_of(
+        alloc,
+        &[TIMETABLE, asked.records],
+        &[FLEET, asked.aircraft],
+        &[RULES, asked.rules],
+    )?;
+    Ok(judge(alloc, &book, cert)?)
 }
 
 // Whether a run whose memory ran out left no more than it may, beside the same run with ample memory: a front of what is
@@ -58,19 +57,13 @@ fn ends_as_it_may(rt: &impl Abort, alloc: Global, asked: &Asked<'_>) -> Result<(
     } else {
         (&first, &second)
     };
-    assert!(rt;
-        is_so(&ample.seen, asked.status, asked.printed),
-        "{ample:?}"
-    );
+    assert!(rt; ample.seen.is(asked.status, asked.printed), "{ample:?}");
     let verdict = judged(alloc, asked, &ample.cert)?;
     assert_eq!(rt; verdict, Verdict::Yes(asked.claim));
     if other.seen.status == NO_MEMORY.0 {
         assert!(rt; leaves_a_front(other, ample, &old), "{other:?}");
     } else {
-        assert!(rt;
-            is_so(&other.seen, asked.status, asked.printed),
-            "{other:?}"
-        );
+        assert!(rt; other.seen.is(asked.status, asked.printed), "{other:?}");
         assert!(rt; other.cert.as_slice() == ample.cert.as_slice(), "{other:?}");
     }
     Ok(())
@@ -80,8 +73,8 @@ fn ends_as_it_may(rt: &impl Abort, alloc: Global, asked: &Asked<'_>) -> Result<(
 fn each_ends_as_it_may(rt: &impl Abort, alloc: Global) -> Result<(), Fail> {
     let crossed = Asked {
         words: CERTIFIED,
-        records: SIDE_BY_SIDE,
-        aircraft: TWO_TYPES,
+        records: AT_ONCE,
+        aircraft: CHEAP_AND_DEAR,
         rules: DEAR_TYPE,
         status: 0,
         printed: "optimal 240\nA1: F2\nA2: F1\n",
@@ -90,7 +83,7 @@ fn each_ends_as_it_may(rt: &impl Abort, alloc: Global) -> Result<(), Fail> {
     let stopped = Asked {
         words: CERTIFIED,
         records: WITH_A_STOP,
-        aircraft: TWO,
+        aircraft: TWO_AT_ARLANDA,
         rules: THREE_LANDINGS,
         status: 0,
         printed: "optimal 740\nA1: F1 F2 F5 F6\nA2: G1\n",

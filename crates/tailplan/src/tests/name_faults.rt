@@ -93,7 +93,7 @@ fn prints(alloc: Global, first: Fault<'_>, second: Fault<'_>, printed: &str) -> 
     let fleet = with_both(alloc, b'f', AIRCRAFT, first, second)?;
     let rules = with_both(alloc, b'r', ENTRIES, first, second)?;
     let seen = run_on(alloc, &[&timetable], &[&fleet], &[&rules])?;
-    Ok(seen.status == 3 && seen.printed.as_slice() == printed.as_bytes())
+    Ok(seen.is(3, printed))
 }
 
 // The faults in the order in which they are looked at: of each and the next one the first is refused.

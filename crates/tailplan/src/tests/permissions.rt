@@ -1,7 +1,8 @@
 //! Who may fly what: types, tags, avoided airports and preassignment.
 
-use super::{DEAR_TYPE, each_ends_so};
+use super::each_ends_so;
 use std::test::Fail;
+use trial_texts::DEAR_TYPE;
 
 // A cheap aircraft and a dear one.
 const CHEAP_AND_DEAR: &str = "A1,P,ARN,2025-03-03T05:00,0,,,\nA2,Q,ARN,2025-03-03T05:00,0,,,\n";

@@ -1,7 +1,11 @@
 //! Least plans: what is flown by whom, in which order, and what is printed of it.
 
-use super::{DEAR_TYPE, ONE, THERE, THERE_AND_BACK, TWO, ends_so};
+use super::ends_so;
 use std::test::Fail;
+use trial_texts::{
+    AT_ONCE, CHEAP_AND_DEAR, DEAR_TYPE, ONE_AT_ARLANDA, ONE_EACH, THERE, THERE_AND_BACK,
+    TWO_AT_ARLANDA,
+};
 
 // Ten flights over Arlanda, with half an hour between each two.
 const TEN_AT_ARLANDA: &str = "F0,flight,ARN,ARN,2025-03-03T06:00,2025-03-03T07:00,,,,\n\
@@ -21,7 +25,7 @@ fn answers_with_ample_memory(rt: HostRuntime) -> Result<(), Fail> {
     let ends = ends_so(
         rt.alloc(),
         THERE_AND_BACK,
-        ONE,
+        ONE_AT_ARLANDA,
         "",
         0,
         "optimal 120\nA1: F1 F2\n",
@@ -35,9 +39,8 @@ fn answers_with_ample_memory(rt: HostRuntime) -> Result<(), Fail> {
 fn greedy_is_not_least(rt: HostRuntime) -> Result<(), Fail> {
     let ends = ends_so(
         rt.alloc(),
-        "F1,flight,ARN,OSL,2025-03-03T06:00,2025-03-03T07:00,,,,\n\
-F2,flight,ARN,OSL,2025-03-03T06:00,2025-03-03T08:00,,,,\n",
-        "A1,P,ARN,2025-03-03T05:00,0,,,\nA2,Q,ARN,2025-03-03T05:00,0,,,\n",
+        AT_ONCE,
+        CHEAP_AND_DEAR,
         DEAR_TYPE,
         0,
         "optimal 240\nA1: F2\nA2: F1\n",
@@ -50,7 +53,7 @@ F2,flight,ARN,OSL,2025-03-03T06:00,2025-03-03T08:00,,,,\n",
 #[test]
 fn empty_tables_have_answers(rt: HostRuntime) -> Result<(), Fail> {
     for (records, aircraft, status, printed) in [
-        ("", TWO, 0, "optimal 0\nA1:\nA2:\n"),
+        ("", TWO_AT_ARLANDA, 0, "optimal 0\nA1:\nA2:\n"),
         ("", "", 0, "optimal 0\n"),
         (THERE, "", 1, "infeasible\n"),
     ] {
@@ -64,17 +67,12 @@ fn empty_tables_have_answers(rt: HostRuntime) -> Result<(), Fail> {
 #[test]
 fn the_order_of_a_table_is_free(rt: HostRuntime) -> Result<(), Fail> {
     for (records, aircraft, printed) in [
-        (
-            "FB,flight,ARN,OSL,2025-03-03T06:00,2025-03-03T07:00,,,A1,\n\
-FA,flight,ARN,OSL,2025-03-03T06:00,2025-03-03T07:00,,,A2,\n",
-            TWO,
-            "optimal 120\nA1: FB\nA2: FA\n",
-        ),
+        (ONE_EACH, TWO_AT_ARLANDA, "optimal 120\nA1: FB\nA2: FA\n"),
         (
             "F3,flight,ARN,OSL,2025-03-03T09:00,2025-03-03T11:00,,,,\n\
 F1,flight,ARN,OSL,2025-03-03T06:00,2025-03-03T07:00,,,,\n\
 F2,flight,OSL,ARN,2025-03-03T07:30,2025-03-03T08:30,,,,\n",
-            ONE,
+            ONE_AT_ARLANDA,
             "optimal 240\nA1: F1 F2 F3\n",
         ),
         (
@@ -133,7 +131,7 @@ fn eleven_flights_at_once_need_more_than_one(rt: HostRuntime) -> Result<(), Fail
         records.push_str(name)?;
         records.push_str(",flight,ARN,OSL,2025-03-03T06:00,2025-03-03T07:00,,,,\n")?;
     }
-    let ends = ends_so(rt.alloc(), &records, ONE, "", 1, "infeasible\n")?;
+    let ends = ends_so(rt.alloc(), &records, ONE_AT_ARLANDA, "", 1, "infeasible\n")?;
     assert!(rt; ends);
     Ok(())
 }
@@ -162,19 +160,19 @@ fn the_calendar_has_these_moments(rt: HostRuntime) -> Result<(), Fail> {
         ),
         (
             "F1,flight,ARN,OSL,2100-02-28T23:00,2100-02-29T00:00,,,,\n",
-            ONE,
+            ONE_AT_ARLANDA,
             3,
             "refused 6 timetable 2\n",
         ),
         (
             "F1,flight,ARN,OSL,2025-03-03T23:00,2025-03-03T24:00,,,,\n",
-            ONE,
+            ONE_AT_ARLANDA,
             3,
             "refused 6 timetable 2\n",
         ),
         (
             "F1,flight,ARN,OSL,2025-3-03T06:00,2025-03-03T07:00,,,,\n",
-            ONE,
+            ONE_AT_ARLANDA,
             3,
             "refused 6 timetable 2\n",
         ),

@@ -1,13 +1,11 @@
 //! Refusals: each code at its place, and of two faults the one that is looked at first.
 
-use super::{
-    FLEET, ONE, RULES, THERE, THERE_AND_BACK, TIMETABLE, ends_so, ends_under, files_of, is_so,
-    run_on, run_over, text_of,
-};
+use super::{WORDS, ends_so, ends_under, run_on, run_over};
 use std::alloc::Global;
 use std::test::Fail;
-
-const WORDS: [&str; 4] = ["tailplan", "t", "f", "r"];
+use trial_texts::{
+    FLEET, ONE_AT_ARLANDA, RULES, THERE, THERE_AND_BACK, TIMETABLE, files_holding, text_of,
+};
 
 const ARLANDA_AGAIN: &str = "[[airport]]\nname = \"ARN\"\noffset = 0\nturn = 0\n";
 
@@ -57,7 +55,7 @@ F1,flight,OSL,ARN,2025-03-03T07:30,2025-03-03T08:30,,,,\n",
             "refused 11 timetable 3\n",
         ),
     ] {
-        let ends = ends_so(rt.alloc(), records, ONE, "", 3, printed)?;
+        let ends = ends_so(rt.alloc(), records, ONE_AT_ARLANDA, "", 3, printed)?;
         assert!(rt; ends, "{records}");
     }
     Ok(())
@@ -83,7 +81,14 @@ fn the_rules_are_refused_at_their_place(rt: HostRuntime) -> Result<(), Fail> {
             "refused 9 rules 1\n",
         ),
     ] {
-        let ends = ends_under(rt.alloc(), THERE_AND_BACK, ONE, rules, 3, printed)?;
+        let ends = ends_under(
+            rt.alloc(),
+            THERE_AND_BACK,
+            ONE_AT_ARLANDA,
+            rules,
+            3,
+            printed,
+        )?;
         assert!(rt; ends, "{rules}");
     }
     Ok(())
@@ -95,10 +100,10 @@ fn names_are_refused_where_they_stand(rt: HostRuntime) -> Result<(), Fail> {
     let unknown = "F1,flight,XXX,OSL,2025-03-03T06:00,2025-03-03T07:00,,,,\n";
     let twice = "A1,P,ARN,2025-03-03T05:00,0,,,\nA1,P,ARN,2025-03-03T05:00,0,,,\n";
     for (records, aircraft, rules, printed) in [
-        (THERE, ONE, ARLANDA_AGAIN, "refused 11 rules 4\n"),
+        (THERE, ONE_AT_ARLANDA, ARLANDA_AGAIN, "refused 11 rules 4\n"),
         (
             THERE,
-            ONE,
+            ONE_AT_ARLANDA,
             "[[curfew]]\nairport = \"XXX\"\nfrom = \"00:00\"\nto = \"01:00\"\ntypes = []\nstart = true\nlanding = true\n",
             "refused 12 rules 4\n",
         ),
@@ -115,17 +120,17 @@ fn names_are_refused_where_they_stand(rt: HostRuntime) -> Result<(), Fail> {
             "",
             "refused 12 fleet 2\n",
         ),
-        (unknown, ONE, "", "refused 12 timetable 2\n"),
+        (unknown, ONE_AT_ARLANDA, "", "refused 12 timetable 2\n"),
         (
             "F1,flight,ARN,OSL,2025-03-03T06:00,2025-03-03T07:00,,,A9,\n",
-            ONE,
+            ONE_AT_ARLANDA,
             "",
             "refused 12 timetable 2\n",
         ),
         (
             "F1,flight,ARN,OSL,2025-03-03T06:00,2025-03-03T07:00,,,,\n\
 F1,flight,XXX,OSL,2025-03-03T06:00,2025-03-03T07:00,,,,\n",
-            ONE,
+            ONE_AT_ARLANDA,
             "",
             "refused 11 timetable 3\n",
         ),
@@ -157,7 +162,12 @@ fn tables_are_judged_in_their_order(rt: HostRuntime) -> Result<(), Fail> {
             "refused 5 timetable 2\n",
         ),
         (THERE, "A1,P,ARN\n", "[[type", "refused 4 fleet 2\n"),
-        (bad_record, ONE, "[[type", "refused 5 timetable 2\n"),
+        (
+            bad_record,
+            ONE_AT_ARLANDA,
+            "[[type",
+            "refused 5 timetable 2\n",
+        ),
         // a table by itself comes before the names of all
         (
             "F1,flight,XXX,OSL,2025-03-03T06:00,2025-03-03T07:00,,,,\n",
@@ -188,7 +198,7 @@ fn a_header_is_needed(rt: HostRuntime) -> Result<(), Fail> {
         (TIMETABLE, FLEET, "", 0, "optimal 0\n"),
     ] {
         let seen = run_on(rt.alloc(), &[timetable], &[fleet], &[rules])?;
-        assert!(rt; is_so(&seen, status, printed), "{printed}");
+        assert!(rt; seen.is(status, printed), "{printed}");
     }
     Ok(())
 }
@@ -201,10 +211,11 @@ fn a_table_may_be_too_big(rt: HostRuntime) -> Result<(), Fail> {
     for _ in 0..256 {
         big.extend_from_slice(&piece)?;
     }
-    let fleet = text_of(rt.alloc(), &[FLEET, ONE])?;
+    let fleet = text_of(rt.alloc(), &[FLEET, ONE_AT_ARLANDA])?;
     let rules = text_of(rt.alloc(), &[RULES])?;
-    let seen = run_over(rt.alloc(), &WORDS, files_of(rt.alloc(), big, fleet, rules)?)?;
-    assert!(rt; is_so(&seen, 3, "refused 1 timetable 0\n"));
+    let files = files_holding(rt.alloc(), big, fleet, rules)?;
+    let seen = run_over(rt.alloc(), &WORDS, files)?;
+    assert!(rt; seen.is(3, "refused 1 timetable 0\n"));
     Ok(())
 }
 
@@ -212,12 +223,12 @@ fn a_table_may_be_too_big(rt: HostRuntime) -> Result<(), Fail> {
 #[test]
 fn a_table_is_text(rt: HostRuntime) -> Result<(), Fail> {
     let timetable = text_of(rt.alloc(), &[TIMETABLE, THERE])?;
-    let mut fleet = text_of(rt.alloc(), &[FLEET, ONE])?;
+    let mut fleet = text_of(rt.alloc(), &[FLEET, ONE_AT_ARLANDA])?;
     fleet.push(0xff)?;
     let rules = text_of(rt.alloc(), &[RULES])?;
-    let files = files_of(rt.alloc(), timetable, fleet, rules)?;
+    let files = files_holding(rt.alloc(), timetable, fleet, rules)?;
     let seen = run_over(rt.alloc(), &WORDS, files)?;
-    assert!(rt; is_so(&seen, 3, "refused 2 fleet 0\n"));
+    assert!(rt; seen.is(3, "refused 2 fleet 0\n"));
     Ok(())
 }
 
@@ -240,7 +251,7 @@ fn a_timetable_may_be_too_long(rt: HostRuntime) -> Result<(), Fail> {
     ] {
         let records = flights(rt.alloc(), count)?;
         let seen = run_on(rt.alloc(), &[&records], &[FLEET], &[RULES])?;
-        assert!(rt; is_so(&seen, status, printed), "{count}");
+        assert!(rt; seen.is(status, printed), "{count}");
     }
     Ok(())
 }

@@ -1,14 +1,15 @@
 //! Runs over files and a sink that took their room at once.
 
-use super::{THERE_AND_BACK, TIMETABLE, text_of, usual_files, words_of};
+use super::{WORDS, usual_files};
 use crate::run::solve_run;
 use std::test::Fail;
 use tail_outside::{Files, SureFiles, SureSink};
+use trial_texts::{THERE_AND_BACK, TIMETABLE, text_of, words_of};
 
 // One byte less of room drops the line that passes it.
 #[test]
 fn a_report_fits_its_room(rt: HostRuntime) -> Result<(), Fail> {
-    let words = words_of(rt.alloc(), &["tailplan", "t", "f", "r"])?;
+    let words = words_of(rt.alloc(), &WORDS)?;
     for (room, printed) in [
         (64, "optimal 120\nA1: F1 F2\n"),
         (22, "optimal 120\nA1: F1 F2\n"),
@@ -26,7 +27,7 @@ fn a_report_fits_its_room(rt: HostRuntime) -> Result<(), Fail> {
 // A timetable that is written into its room is read from there; one byte less of room drops it.
 #[test]
 fn a_timetable_fits_its_room(rt: HostRuntime) -> Result<(), Fail> {
-    let words = words_of(rt.alloc(), &["tailplan", "t", "f", "r"])?;
+    let words = words_of(rt.alloc(), &WORDS)?;
     let text = text_of(rt.alloc(), &[TIMETABLE, THERE_AND_BACK])?;
     for (room, status, printed) in [
         (text.len(), 0, "optimal 120\nA1: F1 F2\n"),

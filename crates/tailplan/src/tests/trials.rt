@@ -1,12 +1,8 @@
 //! Trials: the tables of a seed, planned, certified and judged in memory.
 
-use super::{
-    FLEET, ONE, RULES, Seen, THERE_AND_BACK, TIMETABLE, file_of, is_so, run_over, seen_of, text_of,
-    usual_files,
-};
+use super::{USAGE, book_of, run_failing, run_over, usual_files};
 use crate::run::solve_run;
 use crate::trial::{Checker, Judge, Tried, is_accepted, run_trial};
-use book_maker::read_book;
 use branch_tree::Limit;
 use cert_checker::{Verdict, judge};
 use certified_search::certified_search;
@@ -16,8 +12,9 @@ use std::process::Abort;
 use std::test::Fail;
 use tail_book::{Book, Claim, CostTable, Memory, Outcome};
 use tail_outside::{MemFiles, MemSink};
-
-const USAGE: &str = "usage: tailplan TIMETABLE FLEET RULES [--nodes N] [--cert FILE]\n";
+use trial_texts::{
+    FLEET, ONE_AT_ARLANDA, RULES, Seen, THERE_AND_BACK, TIMETABLE, file_of, text_of,
+};
 
 const PRINTED: &str = "trial 1 activities 120 aircraft 8\noptimal 21418\ncheck yes\n";
 
@@ -63,14 +60,7 @@ fn trials_cost_what_was_made(rt: HostRuntime) -> Result<(), Fail> {
     Ok(())
 }
 
-// A trial of which this call of the sink fails, over files of which the first call would.
-fn trial_failing(alloc: Global, put: u64) -> Result<Seen, Fail> {
-    let files = MemFiles::new(alloc, usual_files(alloc)?, vec![in alloc; 1]?)?;
-    let sink = MemSink::new(alloc, vec![in alloc; put]?)?;
-    seen_of(alloc, &["tailplan", "trial", "1"], files, sink)
-}
-
-// Each line is one call, no file is touched, and a write that fails ends the trial.
+// Each line is one call, and a write that fails ends the trial. No file is touched: the first call of one would fail.
 #[test]
 fn a_failed_write_ends_a_trial(rt: HostRuntime) -> Result<(), Fail> {
     for (put, status, printed) in [
@@ -79,8 +69,9 @@ fn a_failed_write_ends_a_trial(rt: HostRuntime) -> Result<(), Fail> {
         (3, 6, "trial 1 activities 120 aircraft 8\noptimal 21418\n"),
         (4, 0, PRINTED),
     ] {
-        let seen = trial_failing(rt.alloc(), put)?;
-        assert!(rt; is_so(&seen, status, printed), "{put}");
+        let (words, files) = (["tailplan", "trial", "1"], usual_files(rt.alloc())?);
+        let seen = run_failing(rt.alloc(), &words, files, &[1], &[put])?;
+        assert!(rt; seen.is(status, printed), "{put}");
     }
     Ok(())
 }
@@ -110,7 +101,7 @@ fn is_whole(rt: &impl Abort, alloc: Global) -> bool {
         assert!(rt; PRINTED.as_bytes().starts_with(&seen.printed), "{seen:?}");
         return false;
     }
-    assert!(rt; is_so(&seen, 0, PRINTED), "{seen:?}");
+    assert!(rt; seen.is(0, PRINTED), "{seen:?}");
     true
 }
 
@@ -132,11 +123,11 @@ fn a_timetable_may_be_called_trial(rt: HostRuntime) -> Result<(), Fail> {
         ("trial", 2, USAGE),
     ] {
         let timetable = file_of(alloc, name, text_of(alloc, &[TIMETABLE, THERE_AND_BACK])?)?;
-        let fleet = file_of(alloc, "f", text_of(alloc, &[FLEET, ONE])?)?;
+        let fleet = file_of(alloc, "f", text_of(alloc, &[FLEET, ONE_AT_ARLANDA])?)?;
         let rules = file_of(alloc, "r", text_of(alloc, &[RULES])?)?;
         let files = vec![in alloc; timetable, fleet, rules]?;
         let seen = run_over(alloc, &["tailplan", name, "f", "r"], files)?;
-        assert!(rt; is_so(&seen, status, printed), "{name}");
+        assert!(rt; seen.is(status, printed), "{name}");
     }
     Ok(())
 }
@@ -151,7 +142,7 @@ fn other_seeds_are_refused(rt: HostRuntime) -> Result<(), Fail> {
         &["tailplan", "trial", "1", "--nodes", "5"],
     ] {
         let seen = run_over(rt.alloc(), words, usual_files(rt.alloc())?)?;
-        assert!(rt; is_so(&seen, 2, USAGE), "{words:?}");
+        assert!(rt; seen.is(2, USAGE), "{words:?}");
     }
     Ok(())
 }
@@ -191,21 +182,16 @@ fn the_certificate_of_a_trial_is_judged(rt: HostRuntime) -> Result<(), Fail> {
     Ok(())
 }
 
-fn usual_book(alloc: Global) -> Result<Book, Fail> {
-    let timetable = text_of(alloc, &[TIMETABLE, THERE_AND_BACK])?;
-    let fleet = text_of(alloc, &[FLEET, ONE])?;
-    let rules = text_of(alloc, &[RULES])?;
-    match read_book(alloc, &timetable, &fleet, &rules) {
-        Ok(book) => Ok(book),
-        Err(_) => Err(Fail::new("no book")),
-    }
-}
-
 // The certificate itself is accepted, and no shorter one is: the checker has read it to its end.
 #[test]
 fn damaged_certificates_are_not_accepted(rt: HostRuntime) -> Result<(), Fail> {
     let alloc = rt.alloc();
-    let book = usual_book(alloc)?;
+    let book = book_of(
+        alloc,
+        &[TIMETABLE, THERE_AND_BACK],
+        &[FLEET, ONE_AT_ARLANDA],
+        &[RULES],
+    )?;
     let table = CostTable::of(alloc, &book)?;
     let sink = MemSink::new(alloc, Vec::new(alloc))?;
     let done = certified_search(alloc, &book, &table, Limit::Nodes(50), sink);

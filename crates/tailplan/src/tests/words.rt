@@ -1,20 +1,18 @@
 //! The words of a run: which are taken, and what is printed for others.
 
-use super::{Seen, is_so, run_over, text_of, usual_files};
-use crate::run::solve_run;
+use super::{USAGE, run_failing, run_over, usual_files};
 use std::alloc::Global;
 use std::test::Fail;
-use tail_outside::{MemFile, MemFiles, MemSink};
-
-const USAGE: &str = "usage: tailplan TIMETABLE FLEET RULES [--nodes N] [--cert FILE]\n";
+use tail_outside::MemFile;
+use trial_texts::{THERE_AND_BACK, TIMETABLE, file_of, text_of};
 
 const PLANNED: &str = "optimal 120\nA1: F1 F2\n";
 
 // The usual tables, and the timetable under a second name too.
 fn files_with(alloc: Global, name: &str) -> Result<Vec<MemFile>, Fail> {
     let mut files = usual_files(alloc)?;
-    let table = text_of(alloc, &[super::TIMETABLE, super::THERE_AND_BACK])?;
-    files.push(super::file_of(alloc, name, table)?)?;
+    let table = text_of(alloc, &[TIMETABLE, THERE_AND_BACK])?;
+    files.push(file_of(alloc, name, table)?)?;
     Ok(files)
 }
 
@@ -41,7 +39,7 @@ fn other_words_are_refused(rt: HostRuntime) -> Result<(), Fail> {
         &["tailplan", "t", "f", "--"],
     ] {
         let seen = run_over(rt.alloc(), words, Vec::new(rt.alloc()))?;
-        assert!(rt; is_so(&seen, 2, USAGE), "{words:?}");
+        assert!(rt; seen.is(2, USAGE), "{words:?}");
     }
     Ok(())
 }
@@ -57,7 +55,7 @@ fn three_names_are_taken(rt: HostRuntime) -> Result<(), Fail> {
         &["tailplan", "--", "-t", "f", "r"],
     ] {
         let seen = run_over(rt.alloc(), words, files_with(rt.alloc(), "-t")?)?;
-        assert!(rt; is_so(&seen, 0, PLANNED), "{words:?}");
+        assert!(rt; seen.is(0, PLANNED), "{words:?}");
     }
     Ok(())
 }
@@ -71,7 +69,7 @@ fn each_name_has_its_place(rt: HostRuntime) -> Result<(), Fail> {
         (["tailplan", "t", "f", "f"], "refused 13 rules 0\n"),
     ] {
         let seen = run_over(rt.alloc(), &words, usual_files(rt.alloc())?)?;
-        assert!(rt; is_so(&seen, 3, printed), "{words:?}");
+        assert!(rt; seen.is(3, printed), "{words:?}");
     }
     Ok(())
 }
@@ -79,14 +77,8 @@ fn each_name_has_its_place(rt: HostRuntime) -> Result<(), Fail> {
 // A usage line that can't be written is status 6, with nothing printed.
 #[test]
 fn a_usage_line_may_fail(rt: HostRuntime) -> Result<(), Fail> {
-    let files = MemFiles::new(rt.alloc(), Vec::new(rt.alloc()), Vec::new(rt.alloc()))?;
-    let mut sink = MemSink::new(rt.alloc(), vec![in rt.alloc(); 1]?)?;
-    let words = super::words_of(rt.alloc(), &["tailplan", "t"])?;
-    let ran = solve_run(rt.alloc(), &words, files, &mut sink);
-    let seen = Seen {
-        status: ran.status.0,
-        printed: sink.bytes().to_vec(rt.alloc())?,
-    };
-    assert!(rt; is_so(&seen, 6, ""));
+    let files = Vec::new(rt.alloc());
+    let seen = run_failing(rt.alloc(), &["tailplan", "t"], files, &[], &[1])?;
+    assert!(rt; seen.is(6, ""));
     Ok(())
 }

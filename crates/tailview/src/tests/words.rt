@@ -3,7 +3,7 @@
 use super::fixtures::run_failing;
 use std::alloc::Global;
 use std::test::Fail;
-use trial_texts::{LEGAL, Seen, files_of};
+use trial_texts::{LEGAL, MISPLACED, Seen, files_of};
 
 fn run_as(alloc: Global, words: &[&str]) -> Result<Seen, Fail> {
     run_failing(alloc, words, files_of(alloc, LEGAL)?, &[], &[])
@@ -42,32 +42,17 @@ fn other_words_are_refused(rt: HostRuntime) -> Result<(), Fail> {
 // The option stands anywhere, and each name is that of its own file.
 #[test]
 fn names_are_taken_in_their_places(rt: HostRuntime) -> Result<(), Fail> {
-    for (words, status, printed) in [
-        (["tailview", "t", "f", "r", "--plan", "p"], 0, ">cost 120<"),
-        (["tailview", "--plan", "p", "t", "f", "r"], 0, ">cost 120<"),
-        (
-            ["tailview", "f", "t", "r", "--plan", "p"],
-            3,
-            "refused 3 timetable 1\n",
-        ),
-        (
-            ["tailview", "t", "r", "f", "--plan", "p"],
-            3,
-            "refused 3 fleet 1\n",
-        ),
-        (
-            ["tailview", "t", "f", "p", "--plan", "r"],
-            3,
-            "refused 13 rules 0\n",
-        ),
-        (
-            ["tailview", "t", "f", "r", "--plan", "r"],
-            3,
-            "refused 3 plan 1\n",
-        ),
+    for words in [
+        ["tailview", "t", "f", "r", "--plan", "p"],
+        ["tailview", "--plan", "p", "t", "f", "r"],
     ] {
         let seen = run_as(rt.alloc(), &words)?;
-        assert!(rt; seen.has(status, printed), "{words:?}");
+        assert!(rt; seen.has(0, ">cost 120<"), "{words:?}");
+    }
+    for (timetable, fleet, rules, plan, printed) in MISPLACED {
+        let words = ["tailview", timetable, fleet, rules, "--plan", plan];
+        let seen = run_as(rt.alloc(), &words)?;
+        assert!(rt; seen.is(3, printed), "{words:?}");
     }
     Ok(())
 }

@@ -7,22 +7,22 @@ use Rattle.tree_tests.proofs.covering.goes_on.Goals as goal
 
 pub returns-then-not-is_met : goal.returns-then-not-is_met
 returns-then-not-is_met c =
-    let book = c.args.book.now in
+    let book = c.args.leaf.now.book.now in
     let items = c.ways-b-items.result.now in
     let are = c.ways-b-items.ensures in
     let here : c.loop-b.b-index < length items = omega arith in
     let lt : slice_index_or items c.loop-b.b-index 0 < activities book =
     subst (λ (xs : List ℕ). slice_index_or xs c.loop-b.b-index 0 < activities book) (sym are)
-    (c.ways_are_of_book.ensures book c.args.k c.args.from c.loop-b.b-index 0 (subst (λ (xs : List ℕ). c.loop-b.b-index < length xs) are here)) in
-    sym (goes_on_not book c.args.marks.now.facts c.args.k c.args.duals.now c.args.family.now c.args.from c.args.weight c.args.counters.now
+    (c.ways_are_of_book.ensures book c.args.leaf.now.k c.args.from c.loop-b.b-index 0 (subst (λ (xs : List ℕ). c.loop-b.b-index < length xs) are here)) in
+    sym (goes_on_not book c.args.leaf.now.marks.now.facts c.args.leaf.now.k c.args.leaf.now.duals.now c.args.leaf.now.family.now c.args.from c.args.weight c.args.counters.now
     (slice_index_or items c.loop-b.b-index 0) lt
-    (subst (λ (z : ℤ). met book c.args.marks.now.facts c.args.k c.args.duals.now c.args.family.now c.args.from z c.args.counters.now (slice_index_or items c.loop-b.b-index 0) ≡ false)
+    (subst (λ (z : ℤ). met book c.args.leaf.now.marks.now.facts c.args.leaf.now.k c.args.leaf.now.duals.now c.args.leaf.now.family.now c.args.from z c.args.counters.now (slice_index_or items c.loop-b.b-index 0) ≡ false)
     (to_z-of_z _ c.args.weight c.ranges.weight) (sym c.if-not-is_met.ensures)))
 
 pub returns : goal.returns
 returns c =
     let items = c.ways-b-items.result.now in
-    sym (goes_on_by c.args.book.now c.args.marks.now.facts c.args.k c.args.duals.now c.args.family.now c.args.from c.args.weight c.args.counters.now
-    c.ways_are_all.ensures c.requires.aircraft items c.ways-b-items.ensures
-    (λ i lt. subst (λ (z : ℤ). met c.args.book.now c.args.marks.now.facts c.args.k c.args.duals.now c.args.family.now c.args.from z c.args.counters.now (slice_index_or items i 0) ≡ true)
+    sym (goes_on_by c.args.leaf.now.book.now c.args.leaf.now.marks.now.facts c.args.leaf.now.k c.args.leaf.now.duals.now c.args.leaf.now.family.now c.args.from c.args.weight c.args.counters.now
+    c.ways_are_all.ensures c.requires.leaf.aircraft items c.ways-b-items.ensures
+    (λ i lt. subst (λ (z : ℤ). met c.args.leaf.now.book.now c.args.leaf.now.marks.now.facts c.args.leaf.now.k c.args.leaf.now.duals.now c.args.leaf.now.family.now c.args.from z c.args.counters.now (slice_index_or items i 0) ≡ true)
     (to_z-of_z _ c.args.weight c.ranges.weight) (c.loop-b.invariant i (omega (arith, lt)))))

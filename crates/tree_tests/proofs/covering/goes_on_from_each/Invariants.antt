@@ -8,5 +8,5 @@ use Rattle.tree_tests.proofs.covering.goes_on_from_each.Given as goal
 -- the labels from i on decide
 abbrev pub invariant-loop-i : goal.invariant-loop-i
 invariant-loop-i l =
-    list_all (λ label. goes_on (costs_of l.book) l.book l.marks.facts l.k l.duals l.family (After label.at) label.weight label.counters) l.family
-    ≡ list_all (λ label. goes_on (costs_of l.book) l.book l.marks.facts l.k l.duals l.family (After label.at) label.weight label.counters) (drop l.i l.family)
+    list_all (λ label. goes_on (costs_of l.leaf.book.now) l.leaf.book.now l.leaf.marks.now.facts l.leaf.k l.leaf.duals.now l.leaf.family.now (After label.at) label.weight label.counters) l.leaf.family.now
+    ≡ list_all (λ label. goes_on (costs_of l.leaf.book.now) l.leaf.book.now l.leaf.marks.now.facts l.leaf.k l.leaf.duals.now l.leaf.family.now (After label.at) label.weight label.counters) (drop l.i l.leaf.family.now)

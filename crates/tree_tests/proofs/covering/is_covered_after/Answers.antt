@@ -14,6 +14,6 @@ returns c =
     let back : to_z w128 (of_z w128 c.weight_after-after.result) ≡ c.weight_after-after.result = to_z-of_z w128 c.weight_after-after.result (search rules) in
     let read : to_z w64 (of_z w64 c.args.weight) ≡ c.args.weight = to_z-of_z w64 c.args.weight c.ranges.weight in
     let is = back ∙ c.weight_after-after.ensures
-    ∙ ap (λ (t : CostTableSeen). to_z w64 (of_z w64 c.args.weight) +ℤ arc_weight t c.args.book.now c.args.k c.args.duals.now c.args.from c.args.b) c.requires.means.costs
-    ∙ ap (λ (z : ℤ). z +ℤ arc_weight (costs_of c.args.book.now) c.args.book.now c.args.k c.args.duals.now c.args.from c.args.b) read in
-    c.is_covered.ensures ∙ ap (λ (z : ℤ). is_covered_by c.args.family.now (record { at = c.args.b; weight = z; counters = c.args.values.now })) is
+    ∙ ap (λ (t : CostTableSeen). to_z w64 (of_z w64 c.args.weight) +ℤ arc_weight t c.args.leaf.now.book.now c.args.leaf.now.k c.args.leaf.now.duals.now c.args.from c.args.b) c.requires.leaf.means.costs
+    ∙ ap (λ (z : ℤ). z +ℤ arc_weight (costs_of c.args.leaf.now.book.now) c.args.leaf.now.book.now c.args.leaf.now.k c.args.leaf.now.duals.now c.args.from c.args.b) read in
+    c.is_covered.ensures ∙ ap (λ (z : ℤ). is_covered_by c.args.leaf.now.family.now (record { at = c.args.b; weight = z; counters = c.args.values.now })) is
