@@ -1,7 +1,6 @@
 -- What buckets bound that are done as far as a limit: along a legal route that fits and weighs no more, a row covers the route's
 -- label at each activity, since whatever was left out is past the limit. So at its end an end of the store is no heavier.
-use Rattle.std.proofs.Common.{◌≡◌, ℕ, ℤ, pos, ◌+ℤ◌, ◌-ℤ◌, ◌≤ℤ◌, ◌<ℤ◌, ◌^◌, ◌<◌, ◌⊎◌, inl, inr, arith, refl, List, [], ◌∷◌, length, Option, None, Some, sym, ◌∙◌, ap, subst}
-use Rattle.std.specs.List.{Contains}
+use Rattle.std.proofs.Common.{◌≡◌, ℕ, ℤ, pos, ◌+ℤ◌, ◌≤ℤ◌, ◌<ℤ◌, ◌<◌, ◌⊎◌, inl, inr, arith, refl, List, [], ◌∷◌, Option, None, Some, sym, ◌∙◌, ap, subst}
 use Rattle.std.proofs.lemmas.Int.{ints}
 use Rattle.tail_book.specs.Seen.{BookSeen}
 use Rattle.tail_book.specs.inside.Seen.{CostTableSeen}
@@ -10,25 +9,20 @@ use Rattle.tail_book.specs.declared.place.Place.TheVariants.{Carry, After}
 use Rattle.tail_book.specs.Lookup.{activities, aircraft, carry_of, no_tail}
 use Rattle.tail_book.specs.Counters.{step}
 use Rattle.tail_book.specs.Route.{IsLegalFrom, IsLegalRoute}
-use Rattle.tail_book.specs.inside.CostTable.{IsCostTable, IsTableFor}
 use Rattle.tail_book.specs.inside.Order.{EachAtMost, EachAtMostItself, EachAtMostChains, StepsKeepOrder, LowerStaysWithin}
 use Rattle.tail_book.specs.inside.Sound.{IsBook}
 use Rattle.maint_counters.specs.inside.Counts.{AreCounts}
 use Rattle.branch_marks.specs.declared.fact.Fact.{Fact}
 use Rattle.branch_marks.specs.inside.Fitting.{FitsIsUsableToItsEnd}
 use Rattle.branch_marks.specs.Marks.{Fits, FitsFrom, MayEnd}
-use Rattle.branch_marks.specs.Settled.{AreDuals}
 use Rattle.branch_marks.specs.Weights.{arc_weight, weight, weight_from, WeightIsAlong, IsRouteOfWeight}
 use Rattle.label_store.specs.Seen.{StoreSeen}
 use Rattle.label_store.specs.Buckets.{row_at}
-use Rattle.label_store.specs.Store.{bucket_of, IsStore}
 use Rattle.pricing.specs.Rows.{weight_of, counters_of, route_to}
 use Rattle.pricing.specs.inside.Truth.{first_row, IsTrueAt, AreTrue, IsKept}
 use Rattle.route_search.specs.declared.end.End.{End}
 use Rattle.route_search.specs.declared.end.Ends.{Ends}
-use Rattle.route_search.specs.declared.found.Found.{Found}
 use Rattle.route_search.specs.declared.found.Found.TheVariants.{Best, NoneWithin}
-use Rattle.route_search.specs.Found.{IsFoundWithin}
 use Rattle.route_search.specs.inside.Completion.{IsSmall}
 use Rattle.route_search.specs.inside.Ends.{IsAtMost, IsLimit, AreEnds}
 use Rattle.route_search.specs.inside.Laws.{BestOrNoneWithin, FittingRestsAreSmall, IsClamped, ClampedCutsFindTheSame}

@@ -1,6 +1,6 @@
 -- Completions: of the rests that begin with an activity the least is what the link adds and the least behind that activity, and
 -- with one activity more to begin with the least is the lesser of the two.
-use Rattle.std.proofs.Common.{◌≡◌, ℕ, ℤ, pos, ◌+ℤ◌, ◌≤ℤ◌, ◌+◌, ◌<◌, arith, refl, inl, inr, ◌⊎◌, Bool, true, false, cond, List, [], ◌∷◌, length, Option, None, Some, sym, ◌∙◌, ap, subst}
+use Rattle.std.proofs.Common.{◌≡◌, ℕ, ℤ, ◌+ℤ◌, ◌≤ℤ◌, ◌+◌, ◌<◌, arith, refl, inl, inr, ◌⊎◌, Bool, true, false, cond, List, [], ◌∷◌, Option, None, Some, sym, ◌∙◌, ap, subst}
 use Rattle.std.specs.Prelude.{slice_index_or, int_lt}
 use Rattle.std.specs.Int.{int_min}
 use Rattle.std.proofs.lemmas.Bool.{cases_lt}

@@ -5,7 +5,7 @@ use Rattle.std.specs.List.{Contains}
 use Rattle.std.proofs.lemmas.Bool.{cases_lt}
 use Rattle.std.proofs.lemmas.Int.{ints}
 use Rattle.tail_book.specs.Seen.{BookSeen}
-use Rattle.tail_book.specs.declared.place.Place.TheVariants.{Carry, After}
+use Rattle.tail_book.specs.declared.place.Place.TheVariants.{After}
 use Rattle.branch_marks.specs.declared.fact.Fact.{Fact}
 use Rattle.branch_marks.specs.Marks.{MayEnd}
 use Rattle.label_store.specs.Seen.{StoreSeen}

@@ -1,5 +1,5 @@
 -- Stores that grow: what was tried stays tried, and buckets that are done, with their rows, stay as they were.
-use Rattle.std.proofs.Common.{◌≡◌, ℕ, ℤ, ◌+ℤ◌, ◌-ℤ◌, ◌≤ℤ◌, ◌<ℤ◌, suc, ◌+◌, ◌<◌, ◌≤◌, ◌⊎◌, arith, refl, inl, inr, List, [], ◌∷◌, length, get_or, Option, None, Some, sym, ◌∙◌, ap, subst}
+use Rattle.std.proofs.Common.{◌≡◌, ℕ, ℤ, ◌+ℤ◌, ◌-ℤ◌, ◌≤ℤ◌, ◌<ℤ◌, suc, ◌+◌, ◌<◌, ◌≤◌, arith, refl, inl, inr, List, ◌∷◌, length, get_or, sym, ◌∙◌, subst}
 use Rattle.std.specs.Prelude.{pos}
 use Rattle.std.specs.List.{Contains}
 use Rattle.std.proofs.lemmas.Bool.{cases_lt}
@@ -19,7 +19,7 @@ use Rattle.pricing.specs.Rows.{weight_of}
 use Rattle.pricing.specs.inside.Truth.{first_row, row_after}
 use Rattle.route_search.specs.declared.completion.Way.{Way}
 use Rattle.route_search.specs.inside.Completion.{IsWay}
-use Rattle.route_search.specs.inside.Reach.{IsPast, IsTried, GoesOn, AreTried, IsDone, AreDone, Grows, IsAsWide}
+use Rattle.route_search.specs.inside.Reach.{IsPast, IsTried, AreTried, IsDone, AreDone, Grows, IsAsWide}
 
 pub Grows-refl : (m : ℕ) (store : StoreSeen) → Grows m store store
 Grows-refl m store = record {

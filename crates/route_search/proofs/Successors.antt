@@ -1,5 +1,5 @@
 -- The row of successors as a list by places: each is of the book and behind its activity, and each that is linked stands at a place.
-use Rattle.std.proofs.Common.{◌≡◌, ℕ, ◌<◌, true, arith, refl, List, length, get_or, sym, ◌∙◌, ap, subst}
+use Rattle.std.proofs.Common.{◌≡◌, ℕ, ◌<◌, true, refl, List, length, get_or, sym, ◌∙◌, ap, subst}
 use Rattle.std.specs.Prelude.{nat_eq}
 use Rattle.std.proofs.lemmas.Bool.{eqb-true, eq-eqb}
 use Rattle.std.proofs.lemmas.List.{get_or_default}

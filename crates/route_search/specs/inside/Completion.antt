@@ -1,5 +1,5 @@
 -- What can still come behind a place to an end that the marks allow, counters aside, and the least that it weighs.
-use Rattle.std.specs.Prelude.{◌≡◌, ℕ, ℤ, pos, ◌^◌, ◌-ℤ◌, ◌+ℤ◌, ◌<◌, ◌≤◌, ◌≤ℤ◌, ◌+◌, ⊤, List, [], ◌∷◌, length, Option, None, Some, slice_index_or}
+use Rattle.std.specs.Prelude.{◌≡◌, ℕ, ℤ, pos, ◌^◌, ◌-ℤ◌, ◌+ℤ◌, ◌<◌, ◌≤◌, ◌≤ℤ◌, ⊤, List, [], ◌∷◌, length, Option, None, Some, slice_index_or}
 use Rattle.std.specs.Int.{int_min}
 use Rattle.tail_book.specs.Seen.{BookSeen}
 use Rattle.tail_book.specs.inside.Seen.{CostTableSeen}

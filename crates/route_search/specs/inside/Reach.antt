@@ -1,5 +1,5 @@
 -- Rows as they come: what was tried on the way from a place, as far as a limit.
-use Rattle.std.specs.Prelude.{◌≡◌, ℕ, ℤ, suc, ◌+ℤ◌, ◌<ℤ◌, ◌<◌, ◌⊎◌, List, length, Contains, slice_index_or}
+use Rattle.std.specs.Prelude.{◌≡◌, ℕ, ℤ, suc, ◌+ℤ◌, ◌<ℤ◌, ◌<◌, ◌⊎◌, List, length, Contains}
 use Rattle.tail_book.specs.Seen.{BookSeen}
 use Rattle.tail_book.specs.inside.Seen.{CostTableSeen}
 use Rattle.tail_book.specs.declared.place.Place.{Place}

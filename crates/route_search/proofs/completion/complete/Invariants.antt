@@ -1,4 +1,4 @@
-use Rattle.std.proofs.Common.{◌≡◌, ◌-◌, ◌≤◌, ℕ, ◌+◌, ◌<◌, length, get_or}
+use Rattle.std.proofs.Common.{◌≡◌, ◌≤◌, ℕ, ◌+◌, ◌<◌, length}
 use Rattle.std.specs.Prelude.{None, slice_index_or}
 use Rattle.tail_book.specs.Lookup.{activities}
 use Rattle.route_search.specs.inside.Completion.{IsBehind}

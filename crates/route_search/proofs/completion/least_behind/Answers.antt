@@ -1,6 +1,6 @@
-use Rattle.std.proofs.Common.{◌≡◌, ◌<◌, ◌+◌, ℕ, Option, ℤ, arith, length, get_or, ap, sym, ◌∙◌, subst}
+use Rattle.std.proofs.Common.{◌+◌, arith, get_or, ap, sym, ◌∙◌, subst}
 use Rattle.tail_book.specs.declared.place.Place.TheVariants.{After}
-use Rattle.route_search.specs.inside.Completion.{IsLeastAmong, lesser, least_of}
+use Rattle.route_search.specs.inside.Completion.{IsLeastAmong, lesser}
 use Rattle.route_search.proofs.Completions.{among_one_more, among_all}
 use Rattle.route_search.proofs.Successors.{successor, place_of_successor}
 use Rattle.route_search.proofs.completion.least_behind.Goals as goal

@@ -1,4 +1,4 @@
-use Rattle.std.proofs.Common.{◌≡◌, ◌<◌, ◌∙◌, ℕ, ℤ, List, Option, Some, arith, length, get_or, ap, sym, subst}
+use Rattle.std.proofs.Common.{◌≡◌, ◌<◌, ◌∙◌, ℕ, Some, arith, length, get_or, sym, subst}
 use Rattle.std.specs.Prelude.{◌≤ℤ◌}
 use Rattle.std.proofs.lemmas.List.{get_or_default}
 use Rattle.label_store.specs.Buckets.{row_at}
@@ -7,7 +7,7 @@ use Rattle.pricing.specs.Rows.{weight_of}
 use Rattle.route_search.specs.declared.end.End.{End}
 use Rattle.route_search.specs.inside.Completion.{IsSmall}
 use Rattle.route_search.specs.inside.Ends.{IsEnd, IsAtMost}
-use Rattle.route_search.proofs.Ending.{end_at_row, best_one_more, here_one_more, heavier_trans, heavier_refl}
+use Rattle.route_search.proofs.Ending.{end_at_row, best_one_more, here_one_more, heavier_trans}
 use Rattle.route_search.proofs.end.with_rows.Goals as goal
 
 -- a true row weighs little

@@ -1,4 +1,4 @@
-use Rattle.std.proofs.Common.{◌≡◌, ◌<◌, ◌∙◌, ◌+◌, ℕ, ℤ, w64, to_z, of_z, arith, inl, inr, length, get_or, subst}
+use Rattle.std.proofs.Common.{◌<◌, ◌∙◌, ℕ, ℤ, w64, to_z, of_z, arith, subst}
 use Rattle.std.proofs.lemmas.Int.{to_z-of_z}
 use Rattle.tail_book.specs.declared.place.Place.TheVariants.{Carry}
 use Rattle.branch_marks.specs.Marks.{IsUsable}

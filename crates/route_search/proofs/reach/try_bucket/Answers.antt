@@ -5,7 +5,7 @@ use Rattle.tail_book.specs.declared.place.Place.TheVariants.{After}
 use Rattle.label_store.specs.Buckets.{row_at}
 use Rattle.label_store.specs.Store.{bucket_of, IsRowOf}
 use Rattle.route_search.specs.inside.Reach.{IsTried}
-use Rattle.route_search.proofs.Growing.{Grows-refl, Grows-trans, wide_refl, wide_trans, tried_one_more, row_of_bucket}
+use Rattle.route_search.proofs.Growing.{Grows-trans, wide_trans, tried_one_more}
 use Rattle.route_search.proofs.reach.try_bucket.Goals as goal
 
 -- the row at place i is of the store, and has its node

@@ -1,4 +1,4 @@
-use Rattle.std.proofs.Common.{◌≡◌, ℤ, List, rules, subst}
+use Rattle.std.proofs.Common.{ℤ, List, rules, subst}
 use Rattle.std.proofs.lemmas.Result.{IfOk-weaker}
 use Rattle.tail_book.specs.declared.place.Place.TheVariants.{Carry}
 use Rattle.route_search.specs.inside.Reach.{IsTried}

@@ -1,9 +1,7 @@
-use Rattle.std.proofs.Common.{◌≡◌, ◌∙◌, ◌<ℤ◌, ℕ, ℤ, List, rules, arith, w64, to_z, of_z, FitsSigned, ap, sym, subst}
+use Rattle.std.proofs.Common.{◌∙◌, ◌<ℤ◌, ℤ, List, rules, subst}
 use Rattle.std.proofs.lemmas.Result.{IfOk-weaker}
-use Rattle.std.proofs.lemmas.Int.{ints}
 use Rattle.tail_book.specs.declared.place.Place.TheVariants.{After}
 use Rattle.label_store.specs.Buckets.{row_at}
-use Rattle.pricing.specs.Rows.{weight_of}
 use Rattle.route_search.specs.inside.Reach.{IsTried}
 use Rattle.route_search.proofs.Growing.{past_on_way}
 use Rattle.route_search.proofs.reach.try_kept.Goals as goal

@@ -1,4 +1,4 @@
-use Rattle.std.proofs.Common.{◌≡◌, ◌<◌, ◌∙◌, ℕ, ℤ, suc, w64, to_z, of_z, arith, length, get_or, subst}
+use Rattle.std.proofs.Common.{◌<◌, ◌∙◌, ℕ, ℤ, suc, w64, to_z, of_z, arith, length, get_or, subst}
 use Rattle.std.proofs.lemmas.Int.{to_z-of_z}
 use Rattle.route_search.specs.inside.Reach.{AreTried, IsDone}
 use Rattle.route_search.proofs.Growing.{Grows-trans, wide_trans, reached_one_more, reached_here, done}

@@ -1,4 +1,4 @@
-use Rattle.std.proofs.Common.{◌≡◌, ◌∙◌, ◌≤ℤ◌, ℕ, ℤ, List, [], Option, w64, to_z, of_z, FitsSigned, rules, ap, sym, subst, length}
+use Rattle.std.proofs.Common.{◌∙◌, ◌≤ℤ◌, ℕ, ℤ, List, [], Option, w64, to_z, of_z, FitsSigned, rules, ap, sym, subst, length}
 use Rattle.std.proofs.lemmas.Int.{to_z-of_z}
 use Rattle.std.proofs.lemmas.List.{length-replicate}
 use Rattle.branch_marks.specs.Weights.{IsLeastWeight, IsRouteOfWeight}

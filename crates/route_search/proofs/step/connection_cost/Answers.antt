@@ -1,4 +1,4 @@
-use Rattle.std.proofs.Common.{◌≡◌, ◌∙◌, ap, sym}
+use Rattle.std.proofs.Common.{◌∙◌, ap, sym}
 use Rattle.tail_book.specs.inside.Seen.{CostTableSeen}
 use Rattle.route_search.proofs.step.connection_cost.Goals as goal
 

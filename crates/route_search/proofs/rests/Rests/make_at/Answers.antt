@@ -1,4 +1,4 @@
-use Rattle.std.proofs.Common.{◌<◌, arith}
+use Rattle.std.proofs.Common.{arith}
 use Rattle.route_search.proofs.Successors.{successor}
 use Rattle.route_search.proofs.rests.Rests.make_at.Goals as goal
 
