@@ -185,6 +185,43 @@ impl Columns {
         Ok(())
     }
 
+    /// Begins with the routes of a plan that fit the marks.
+    pub fn begin_with(
+        &mut self,
+        alloc: Global,
+        problem: &Problem,
+        marks: &Marks,
+        routes: &[Route],
+    ) -> Result<(), Memory>
+        requires problem { IsProblem problem.now }
+        requires marks { AreMarksOf problem.now.book.now marks.now }
+        requires columns { AreColumns problem.now self.old }
+        ensures columns { AreColumns problem.now self.new }
+    {
+        self.pool = Pool::new(alloc)?;
+        self.add_plan(alloc, problem, marks, routes)
+    }
+
+    /// Adds the routes of a plan that fit the marks.
+    pub fn add_plan(
+        &mut self,
+        alloc: Global,
+        problem: &Problem,
+        marks: &Marks,
+        routes: &[Route],
+    ) -> Result<(), Memory>
+        requires problem { IsProblem problem.now }
+        requires marks { AreMarksOf problem.now.book.now marks.now }
+        requires columns { AreColumns problem.now self.old }
+        ensures columns { AreColumns problem.now self.new }
+    {
+        for k in 0..routes.len() {
+            let (number, route) = ((k % (1 << 32)) as u32, &routes[k]);
+            self.add(alloc, problem, marks, number, &route.0)?;
+        }
+        Ok(())
+    }
+
     /// Keeps only what fits the marks and is no more than so much heavier than the lightest of its aircraft.
     pub fn keep(
         &mut self,

@@ -1,10 +1,7 @@
-//! The finder: dives at one temperature after the other, until one leaves nothing out, and else repairs of the fullest plan.
+//! The finder: dives at one temperature after the other, until one leaves nothing out, and else repairs of the fullest plan. A plan
+//! that leaves nothing out is then made cheaper.
 
-ghost use Rattle.std.specs.Prelude.{◌≡◌, ◌<◌, ℕ, All, IfOk, IfSome, IsTrue};
-ghost use Rattle.tail_book.specs.Lookup.{aircraft};
-ghost use Rattle.tail_book.specs.Plan.{route_of};
-ghost use Rattle.tail_book.specs.inside.CostTable.{IsTableFor};
-ghost use Rattle.branch_marks.specs.Marks.{Fits};
+ghost use Rattle.std.specs.Prelude.{◌≡◌, All, IfOk, IfSome};
 ghost use Rattle.branch_marks.specs.Pool.{IsFittingEntry};
 ghost use Rattle.branch_marks.specs.Settled.{AreDuals};
 ghost use Rattle.branch_marks.specs.inside.MarkTables.{AreMarksOf};
@@ -14,18 +11,19 @@ ghost use Rattle.plan_finder.specs.Finding.{IsFittingPlan};
 ghost use Rattle.plan_finder.specs.Problem.{IsProblem};
 
 use crate::columns::{Columns, add_judged};
+use crate::judging::judge;
+use crate::ladder::cheapen;
 use crate::problem::Problem;
-use crate::repairing::{Ground, repair};
+use crate::ground::Ground;
+use crate::repairing::repair;
 use crate::soft_dive::soft_dive;
 use crate::soft_plan::SoftPlan;
 use crate::weights::copy_of;
 use branch_marks::Marks;
-use plan_audit::audit_plan;
 use pool_plans::Found;
 use restricted_master::Pool;
 use std::alloc::Global;
-use tail_book::laws::every_book_is_sound;
-use tail_book::{Duals, Memory, Plan, Route};
+use tail_book::{Duals, Memory, Route};
 
 /// What is sought: a plan that fits the marks. Duals near the best ones suggest where.
 #[derive(Clone, Copy)]
@@ -37,46 +35,7 @@ pub struct Sought<'a> {
 }
 
 // Dives are made at these temperatures, in thousandths of a cost unit.
-const TEMPERATURES: [i64; 3] = [3000, 10_000, 1000];
-
-// Whether the route of each aircraft fits the marks.
-fn all_fit(problem: &Problem, marks: &Marks, routes: &[Route]) -> bool
-    requires marks { AreMarksOf problem.now.book.now marks.now }
-    ensures { IsTrue result → (k : ℕ) → k < aircraft problem.now.book.now → Fits problem.now.book.now marks.now.facts k (route_of routes.now k) }
-{
-    let book = problem.book;
-    every_book_is_sound(book);
-    for k in 0..book.tails.len() as u32 {
-        let Some(route) = routes.get(k as usize) else {
-            return false;
-        };
-        if !marks.fits(book, k, &route.0) {
-            return false;
-        }
-    }
-    true
-}
-
-// Routes as a plan with its cost, where they are a legal one that fits.
-fn judge(
-    alloc: Global,
-    problem: &Problem,
-    marks: &Marks,
-    routes: Vec<Route>,
-) -> Result<Option<Found>, Memory>
-    requires problem { IsProblem problem.now }
-    requires marks { AreMarksOf problem.now.book.now marks.now }
-    ensures { IfOk result (λ found. IfSome found (λ plan. IsFittingPlan problem.now.table.now problem.now.book.now marks.now.facts plan.cost plan.plan)) }
-{
-    let plan = Plan(routes);
-    if !all_fit(problem, marks, &plan.0) {
-        return Ok(None);
-    }
-    match audit_plan(alloc, problem.book, problem.table, &plan)? {
-        Some(cost) => Ok(Some(Found { plan, cost })),
-        None => Ok(None),
-    }
-}
+const TEMPERATURES: [i64; 4] = [3000, 10_000, 5000, 1000];
 
 // A dive from the duals, which stay as they are.
 fn dived(
@@ -140,7 +99,7 @@ fn fullest(
     Ok(best)
 }
 
-// A plan by dives, and repairs of what the fullest one leaves out.
+// A plan by dives, and repairs of what the fullest one leaves out. It is made cheaper as far as that goes.
 fn repaired(
     alloc: Global,
     problem: &Problem,
@@ -162,7 +121,10 @@ fn repaired(
     if plan.count_left() > 0 {
         return Ok(None);
     }
-    judge(alloc, problem, marks, plan.routes)
+    match judge(alloc, problem, marks, plan.routes)? {
+        Some(found) => Ok(Some(cheapen(alloc, problem, columns, &ground, found)?)),
+        None => Ok(None),
+    }
 }
 
 // Adds the routes of a plan to a pool.

@@ -2,10 +2,12 @@
 //!
 //! Only facts are added, to a copy of the marks: none of them copies a table.
 
+ghost use Rattle.std.specs.Prelude.{IfOk};
 ghost use Rattle.branch_marks.specs.inside.MarkTables.{AreMarksOf};
 
+use crate::problem::Problem;
 use branch_marks::{Fact, Marks};
-use tail_book::{Book, Memory};
+use tail_book::{Book, Memory, Route};
 
 // Adds a fact, if its numbers are of the book.
 fn add(book: &Book, marks: &mut Marks, fact: Fact) -> Result<(), Memory>
@@ -85,4 +87,43 @@ pub fn fix_outside(
         before = Some(a);
     }
     Ok(())
+}
+
+/// The marks that hold a plan outside a stretch of activities.
+pub fn marks_outside(
+    problem: &Problem,
+    marks: &Marks,
+    routes: &[Route],
+    from: u32,
+    to: u32,
+) -> Result<Marks, Memory>
+    requires { AreMarksOf problem.now.book.now marks.now }
+    ensures { IfOk result (AreMarksOf problem.now.book.now) }
+{
+    let mut held = marks.copy()?;
+    for k in 0..routes.len() {
+        let (number, route) = ((k % (1 << 32)) as u32, &routes[k]);
+        fix_outside(problem.book, &mut held, number, &route.0, from, to)?;
+    }
+    Ok(held)
+}
+
+/// The marks that hold the routes of the aircraft that keep theirs.
+pub fn marks_beside(
+    problem: &Problem,
+    marks: &Marks,
+    routes: &[Route],
+    kept: &[bool],
+) -> Result<Marks, Memory>
+    requires { AreMarksOf problem.now.book.now marks.now }
+    ensures { IfOk result (AreMarksOf problem.now.book.now) }
+{
+    let mut held = marks.copy()?;
+    for k in 0..routes.len().min(kept.len()) {
+        if kept[k] {
+            let (number, route) = ((k % (1 << 32)) as u32, &routes[k]);
+            fix(problem.book, &mut held, number, &route.0)?;
+        }
+    }
+    Ok(held)
 }

@@ -2,19 +2,25 @@
 //!
 //! Costs are whole numbers, so a plan within less than a cost unit of a bound ends a search. A dive that cannot fail fixes routes
 //! one after the other, at duals near the best ones, and may leave activities out. What it leaves out is put in by planning
-//! stretches of time around it again.
+//! stretches of time around it again. What leaves nothing out is made cheaper by planning parts of it again, from small ones to
+//! large ones.
 #![tactic(auto)]
 
 mod columns;
 mod finding;
 mod fixing;
+mod ground;
+mod judging;
+mod ladder;
 mod leads;
 mod neighbourhood;
 mod problem;
 mod repairing;
 mod soft_dive;
 mod soft_plan;
+mod standing;
 mod weights;
+mod window;
 
 pub use finding::{Sought, find_by_dives};
 pub use problem::Problem;

@@ -34,11 +34,12 @@ const HOTTEST: i128 = 15_000;
 
 const COLDEST: i128 = 100;
 
-/// What is planned again: what the marks leave free, without what is still left out.
+/// What is planned again: what the marks leave free, without what is still left out, by all aircraft that do not keep their route.
 #[derive(Clone, Copy)]
 pub struct Neighbourhood<'a> {
     pub marks: &'a Marks,
     pub left_out: &'a [bool],
+    pub kept: &'a [bool],
     /// What a plan has to undercut, in cost units.
     pub target: u64,
 }
@@ -59,8 +60,8 @@ fn sum_of(duals: &[i64], left_out: &[bool]) -> i128 {
     sum
 }
 
-// How far a sum lies below a plan that is a cost unit cheaper than a target, in thousandths of a cost unit.
-fn room_for(sum: i128, target: u64) -> i128 {
+/// How far a sum lies below a plan that is a cost unit cheaper than a target, in thousandths of a cost unit.
+pub fn room_for(sum: i128, target: u64) -> i128 {
     i128::from(target.saturating_sub(1))
         .saturating_mul(i128::from(COST_UNIT))
         .saturating_sub(sum)
@@ -72,9 +73,46 @@ fn temperature_for(room: i128, aircraft: usize) -> i64 {
     (room / parts).clamp(COLDEST, HOTTEST) as i64
 }
 
+// How many of so many aircraft do not keep their route.
+fn count_free(kept: &[bool], aircraft: usize) -> usize {
+    let mut free = aircraft;
+    for is_kept in kept {
+        if *is_kept {
+            free = free.saturating_sub(1);
+        }
+    }
+    free
+}
+
 impl Columns {
-    // The Lagrangian sum of a neighbourhood under duals. Nothing where an aircraft has no route.
-    fn weigh(
+    // The least weight of an aircraft in a neighbourhood, of which its lightest route in the pool has this one. Who keeps a route
+    // has no other.
+    fn weigh_one(
+        &mut self,
+        alloc: Global,
+        problem: &Problem,
+        near: &Neighbourhood,
+        duals: &Duals,
+        k: u32,
+        low: i64,
+        slack: u32,
+    ) -> Result<Option<i64>, Memory>
+        requires problem { IsProblem problem.now }
+        requires marks { AreMarksOf problem.now.book.now near.now.marks.now }
+        requires duals { AreDuals problem.now.table.now problem.now.book.now duals.now.values }
+        requires aircraft { k < aircraft problem.now.book.now }
+        requires columns { AreColumns problem.now self.old }
+        ensures columns { AreColumns problem.now self.new }
+    {
+        if near.kept.get(k as usize).copied().unwrap_or(false) {
+            return Ok(Some(low));
+        }
+        let (marks, cut) = (near.marks, low.saturating_add(i64::from(slack)));
+        self.price(alloc, problem, marks, duals, k, cut, slack)
+    }
+
+    /// The Lagrangian sum of a neighbourhood under duals. Nothing where an aircraft has no route.
+    pub fn weigh(
         &mut self,
         alloc: Global,
         problem: &Problem,
@@ -88,13 +126,13 @@ impl Columns {
         requires columns { AreColumns problem.now self.old }
         ensures columns { AreColumns problem.now self.new }
     {
-        let (book, marks) = (problem.book, near.marks);
+        let book = problem.book;
         every_book_is_sound(book);
         let weights = Weights::of(alloc, &self.pool, &duals.values, book.tails.len())?;
         let mut sum = sum_of(&duals.values, near.left_out);
         for k in 0..book.tails.len() as u32 {
-            let cut = weights.least(k as usize).saturating_add(i64::from(slack));
-            let Some(value) = self.price(alloc, problem, marks, duals, k, cut, slack)? else {
+            let low = weights.least(k as usize);
+            let Some(value) = self.weigh_one(alloc, problem, near, duals, k, low, slack)? else {
                 return Ok(None);
             };
             sum = sum.saturating_add(i128::from(value));
@@ -183,7 +221,7 @@ pub fn improve(
         return Ok(None);
     }
     let book = problem.book;
-    let temperature = temperature_for(room, book.tails.len());
+    let temperature = temperature_for(room, count_free(near.kept, book.tails.len()));
     let mut ascent = Ascent::starting(
         alloc,
         problem.table,

@@ -7,23 +7,14 @@ ghost use Rattle.plan_finder.specs.Columns.{AreColumns};
 ghost use Rattle.plan_finder.specs.Problem.{IsProblem};
 
 use crate::columns::Columns;
-use crate::fixing::fix_outside;
+use crate::fixing::marks_outside;
+use crate::ground::Ground;
 use crate::neighbourhood::{Neighbourhood, improve};
 use crate::problem::Problem;
 use crate::soft_plan::SoftPlan;
 use crate::weights::copy_of;
-use branch_marks::Marks;
-use restricted_master::Pool;
 use std::alloc::Global;
-use tail_book::{Duals, Memory, Route};
-
-/// What neighbourhoods begin with: marks that hold for all of them, routes, and duals.
-#[derive(Clone, Copy)]
-pub struct Ground<'a> {
-    pub marks: &'a Marks,
-    pub pool: &'a Pool,
-    pub duals: &'a Duals,
-}
+use tail_book::{Memory, Route};
 
 // A stretch reaches so many activities to both sides of one that is left out.
 const WIDTHS: [u32; 5] = [15, 30, 60, 120, 240];
@@ -33,25 +24,6 @@ const NO_TARGET: u64 = 1 << 50;
 
 // Routes that fit are taken from a pool, however heavy they are.
 const ANY_WEIGHT: i64 = i64::MAX;
-
-// The marks that hold a plan outside a stretch of activities.
-fn marks_outside(
-    problem: &Problem,
-    marks: &Marks,
-    routes: &[Route],
-    from: u32,
-    to: u32,
-) -> Result<Marks, Memory>
-    requires { AreMarksOf problem.now.book.now marks.now }
-    ensures { IfOk result (AreMarksOf problem.now.book.now) }
-{
-    let mut held = marks.copy()?;
-    for k in 0..routes.len() {
-        let (number, route) = ((k % (1 << 32)) as u32, &routes[k]);
-        fix_outside(problem.book, &mut held, number, &route.0, from, to)?;
-    }
-    Ok(held)
-}
 
 // Plans a stretch of activities again. What lies before it stays with its aircraft, and what lies behind it stays together.
 fn replan_stretch(
@@ -80,6 +52,7 @@ fn replan_stretch(
     let near = Neighbourhood {
         marks: &marks,
         left_out,
+        kept: &[],
         target: NO_TARGET,
     };
     improve(alloc, problem, columns, &near, copy_of(duals)?)

@@ -1,7 +1,7 @@
 use Rattle.std.specs.Prelude.{ℕ, ◌<◌}
 use Rattle.branch_marks.specs.Marks.{Fits}
 use Rattle.tail_book.specs.Plan.{route_of}
-use Rattle.plan_finder.proofs.finding.all_fit.Given as goal
+use Rattle.plan_finder.proofs.judging.all_fit.Given as goal
 
 -- the routes so far fit
 abbrev pub invariant-loop-k : goal.invariant-loop-k

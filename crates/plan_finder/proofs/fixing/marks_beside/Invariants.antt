@@ -1,5 +1,5 @@
 use Rattle.branch_marks.specs.inside.MarkTables.{AreMarksOf}
-use Rattle.plan_finder.proofs.repairing.marks_outside.Given as goal
+use Rattle.plan_finder.proofs.fixing.marks_beside.Given as goal
 
 -- the marks are of the book
 abbrev pub invariant-loop-k : goal.invariant-loop-k
