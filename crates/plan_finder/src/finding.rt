@@ -11,10 +11,10 @@ ghost use Rattle.plan_finder.specs.Finding.{IsFittingPlan};
 ghost use Rattle.plan_finder.specs.Problem.{IsProblem};
 
 use crate::columns::{Columns, add_judged};
+use crate::ground::Ground;
 use crate::judging::judge;
 use crate::ladder::cheapen;
 use crate::problem::Problem;
-use crate::ground::Ground;
 use crate::repairing::repair;
 use crate::soft_dive::soft_dive;
 use crate::soft_plan::SoftPlan;

@@ -31,12 +31,30 @@ struct Rung {
 }
 
 const RUNGS: [Rung; 6] = [
-    Rung { activities: 40, aircraft: 3 },
-    Rung { activities: 60, aircraft: 5 },
-    Rung { activities: 80, aircraft: 7 },
-    Rung { activities: 120, aircraft: 9 },
-    Rung { activities: 160, aircraft: 12 },
-    Rung { activities: 240, aircraft: 15 },
+    Rung {
+        activities: 40,
+        aircraft: 3,
+    },
+    Rung {
+        activities: 60,
+        aircraft: 5,
+    },
+    Rung {
+        activities: 80,
+        aircraft: 7,
+    },
+    Rung {
+        activities: 120,
+        aircraft: 9,
+    },
+    Rung {
+        activities: 160,
+        aircraft: 12,
+    },
+    Rung {
+        activities: 240,
+        aircraft: 15,
+    },
 ];
 
 // The ladder is climbed so often at most.
