@@ -17,10 +17,10 @@ ghost use Rattle.propagator.specs.inside.Rows.{AreRowsOf, floors_in};
 
 use floor_rows::{FloorRow, goes_on_over};
 use maint_counters::StepTable;
+use tail_book::Book;
 use tail_book::laws::{
     each_at_most_chains, each_at_most_itself, limits_decide, lower_stays_within, steps_keep_order,
 };
-use tail_book::Book;
 
 // Takes all floors away.
 fn clear_all(book: &Book, lowest: &mut FloorRow)
