@@ -149,7 +149,7 @@ fn put_all<S: Sink>(sink: &mut S, waiting: &mut Line) -> Result<(), LogFail>
 }
 
 impl<S: Sink> TreeLog for CertLog<S> {
-    ghost use Rattle.std.specs.Prelude.{◌≡◌, refl};
+    ghost use Rattle.std.specs.Prelude.{◌≡◌, refl, true};
     ghost use Rattle.std.proofs.Common.{◌∙◌};
     ghost use Rattle.cert_lines.specs.declared.cert_line.CertLine.TheVariants.{Header};
     ghost use Rattle.cert_writer.specs.CertText.{log_over};
