@@ -3,8 +3,6 @@
 
 ghost use Rattle.tail_book.specs.inside.CostTable.{IsTableFor};
 
-mod memory;
-
 use super::twice;
 use branch_marks::Fact;
 use connection_net::Net;
@@ -75,14 +73,6 @@ fn is_plan(answer: &Option<Found>, first: &[u32], second: &[u32], want: u64) -> 
     }
 }
 
-// Whether two answers are the same plan.
-fn are_one(first: &Option<Found>, again: &Option<Found>) -> bool {
-    match (first, again) {
-        (Some(first), Some(again)) => first.plan == again.plan && first.cost == again.cost,
-        _ => false,
-    }
-}
-
 // Two flights at once, of an hour and of two.
 fn side_by_side() -> [Row; 2] {
     [flight((0, 1), (360, 420)), flight((0, 1), (360, 480))]
@@ -108,27 +98,6 @@ fn the_plan_that_marks_leave(rt: HostRuntime) -> Result<(), Fail> {
             );
             assert_eq!(rt; routes, 2, "{fact:?}, {duals:?}");
         }
-    }
-    Ok(())
-}
-
-// Without facts the first aircraft flies what it can, since a minute costs it half as much: whatever a dive makes of duals of 0,
-// the plan is made as cheap as that, and is the same each time.
-#[test]
-fn the_least_plan_each_time(rt: HostRuntime) -> Result<(), Fail> {
-    let together = plain_book(rt.alloc(), &side_by_side(), &[0, 1], 30)?;
-    let returned = there_and_back(rt.alloc(), &[0, 1], 30)?;
-    let repeated = twice(rt.alloc(), 8, true)?;
-    for (book, duals, cost) in [
-        (&together, [0i64; 2].as_slice(), 240),
-        (&returned, [0; 2].as_slice(), 120),
-        (&repeated, [0; 5].as_slice(), 240),
-    ] {
-        let (first, routes) = found(rt.alloc(), book, &[], duals)?;
-        let (again, others) = found(rt.alloc(), book, &[], duals)?;
-        assert!(rt; are_one(&first, &again), "{first:?}, {again:?}");
-        assert_eq!(rt; routes, others, "of a plan that costs {cost}");
-        assert_eq!(rt; first.map(|plan| plan.cost), Some(cost));
     }
     Ok(())
 }
