@@ -12,17 +12,8 @@ use Rattle.tail_book.specs.inside.Order.{EachAtMost, each_at_most, EachAtMostDec
 use Rattle.label_store.specs.Seen.{StoreSeen}
 use Rattle.label_store.specs.Buckets.{row_at, IsCovered, stays_beside, bucket_with, AreApart, EachApart}
 use Rattle.label_store.specs.Store.{parent_of, bucket_of, IsRowOf, IsStore, with_row}
+use Rattle.label_store.proofs.Packing.{same_or_not}
 use Rattle.label_store.proofs.Buckets.{both, apart_filter, apart_push, apart_longer, row_before, filter_has}
-
--- a number is another one, or not
-same_or_not : (v node : ℕ) → (v ≡ node) ⊎ (v ≢ node)
-same_or_not v node = elim (cases_lt v node) [
-  | inl less ↦ inr (λ same. absurd (omega (arith, less, same)))
-  | inr more ↦ elim (cases_lt node v) [
-    | inl less ↦ inr (λ same. absurd (omega (arith, less, same)))
-    | inr least ↦ inl (omega (arith, more, least))
-  ]
-]
 
 -- a test holds, or not
 true_or_not : (b : Bool) → (b ≡ true) ⊎ (b ≡ false)

@@ -1,4 +1,5 @@
 mod RowsLemmas
+mod Packing
 mod Compaction
 mod Buckets
 mod Entering

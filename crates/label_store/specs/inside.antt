@@ -1,3 +1,4 @@
 -- What only proofs, and calls further in, cite.
 pub mod RowsParts
+pub mod Packing
 pub mod Laws

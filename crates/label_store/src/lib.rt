@@ -4,6 +4,7 @@
 mod bucket;
 pub mod laws;
 mod offered;
+mod packed;
 mod rows;
 mod store;
 

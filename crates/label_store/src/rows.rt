@@ -47,6 +47,13 @@ impl Rows {
         }
     }
 
+    /// How many values a row has.
+    pub fn width(&self) -> usize
+        ensures { result ≡ self.now.width }
+    {
+        self.width
+    }
+
     /// How many rows there are.
     pub fn len(&self) -> usize
         ensures { result ≡ length self.now.rows }
@@ -105,8 +112,8 @@ impl Rows {
     }
 }
 
-// Where a row begins.
-fn place(i: usize, width: usize, count: usize, values: &[i64]) -> usize
+/// Where a row begins, of so many.
+pub fn place(i: usize, width: usize, count: usize, values: &[i64]) -> usize
     requires number { i < count }
     requires fill { length values.now ≡ count * width }
     ensures place { result ≡ i * width }
@@ -115,15 +122,15 @@ fn place(i: usize, width: usize, count: usize, values: &[i64]) -> usize
     i * width
 }
 
-// Puts values behind others, for which there is room.
-fn put_all(values: &mut Vec<i64>, row: &[i64])
+/// Puts values behind others, for which there is room.
+pub fn put_all(values: &mut Vec<i64>, row: &[i64])
     requires { vec_len values.old + length row.now ≤ vec_capacity values.old }
     ensures { values.new.items ≡ values.old.items ++ row.now }
 {
     let _ = values.extend_from_slice(row);
 }
 
-// Puts one behind others, for which there is room.
+/// Puts one behind others, for which there is room.
 pub fn put<T: Drop>(list: &mut Vec<T>, one: T)
     requires { vec_len list.old < vec_capacity list.old }
     ensures { list.new.items ≡ list.old.items ++ one ∷ [] }

@@ -1,15 +1,19 @@
 //! A store of labels: rows by number, each with its parent and its node, and for each node a bucket of row numbers.
 //!
 //! A row is never taken back before the store is cleared: one that leaves its bucket may be the parent of others. So a
-//! bucket is a list of numbers, and dominance moves numbers alone.
-//! An offer looks at each row of one bucket at most twice. It copies nothing but the row that enters.
+//! bucket is a list of numbers, and beside it stand the values of these rows once more, packed one after the other.
+//! Dominance reads and moves the numbers and values of a bucket alone. So an offer walks through one flat list, and looks
+//! at each row in it at most twice; it copies the row that enters, and those behind one that leaves. A row in a bucket
+//! takes its values twice in memory, one that has left it once.
 
 ghost use Rattle.std.specs.Prelude.{◌≡◌, ◌<◌, ◌≤◌, ◌^◌, [], length, replicate, IfOk, OnErr, IfSome, All, slice_index_or};
 ghost use Rattle.label_store.specs.Buckets.{row_at};
 ghost use Rattle.label_store.specs.Store.{parent_of, node_of, bucket_of, empty_store};
 ghost use Rattle.label_store.specs.Offers.{Offers, OffersTo};
+ghost use Rattle.label_store.specs.inside.Packing.{IsPacked};
 
 use crate::bucket::{Bucket, covering, enter};
+use crate::packed::Packed;
 use crate::rows::Rows;
 use crate::{Offered, laws};
 use std::alloc::Global;
@@ -22,17 +26,19 @@ use tail_book::Memory;
 pub struct Store {
     pub(crate) rows: Rows,
     pub(crate) buckets: Vec<Bucket>,
+    packed: Vec<Packed>,
 }
 
 impl Model for Store {
     ghost use Rattle.label_store.specs.Seen.{StoreSeen};
-    ghost use Rattle.label_store.specs.Store.{store_of, IsStore};
+    ghost use Rattle.label_store.specs.Store.{store_of};
+    ghost use Rattle.label_store.specs.inside.Packing.{IsPackedStore};
 
     ghost Value = { StoreSeen };
 
     ghost view = { λ s. store_of s.rows s.buckets.items };
 
-    ghost invariant = { λ s. IsStore (store_of s.rows s.buckets.items) };
+    ghost invariant = { λ s. IsPackedStore (store_of s.rows s.buckets.items) s.packed.items };
 }
 
 // How many nodes can be numbered.
@@ -48,8 +54,13 @@ impl Store {
             return Err(Memory);
         }
         let buckets = empty_buckets(alloc, nodes)?;
+        let packed = empty_values(alloc, nodes)?;
         let rows = Rows::new(alloc, width);
-        Ok(Store { rows, buckets })
+        Ok(Store {
+            rows,
+            buckets,
+            packed,
+        })
     }
 
     /// Offers a row to the bucket of its node, with the number of the row that it came from.
@@ -70,9 +81,11 @@ impl Store {
     {
         laws::offers_keep_stores();
         let bucket = &mut self.buckets[node];
+        let values = &mut self.packed[node];
         offer_to(
             &mut self.rows,
             &mut bucket.0,
+            &mut values.0,
             node as u32,
             narrowed(parent),
             row,
@@ -133,6 +146,7 @@ impl Store {
     {
         self.rows.clear();
         empty_all(&mut self.buckets);
+        empty_all_values(&mut self.packed);
     }
 }
 
@@ -151,22 +165,25 @@ fn narrowed(parent: Option<usize>) -> Option<u32>
 fn offer_to(
     rows: &mut Rows,
     bucket: &mut Vec<u32>,
+    values: &mut Vec<i64>,
     node: u32,
     parent: Option<u32>,
     row: &[i64],
 ) -> Result<Offered, Memory>
     requires width { length row.now ≡ rows.old.width }
     requires numbers { All (λ j. j < length rows.old.rows) bucket.old.items }
+    requires packed { IsPacked rows.old.width rows.old.rows bucket.old.items values.old.items }
     ensures offered { IfOk result (λ offered. OffersTo rows.old rows.new bucket.old.items bucket.new.items node parent row.now offered) }
+    ensures packed { IsPacked rows.new.width rows.new.rows bucket.new.items values.new.items }
     ensures same_rows { OnErr result (rows.new ≡ rows.old) }
     ensures same_bucket { OnErr result (bucket.new.items ≡ bucket.old.items) }
     ensures same_width { rows.new.width ≡ rows.old.width }
     ensures no_fewer { length rows.old.rows ≤ length rows.new.rows }
 {
-    if let Some(j) = covering(rows, bucket, row) {
+    if let Some(j) = covering(rows, bucket, values, row) {
         return Ok(Offered::Covered(j as usize));
     }
-    let i = enter(rows, bucket, node, parent, row)?;
+    let i = enter(rows, bucket, values, node, parent, row)?;
     Ok(Offered::Kept(i))
 }
 
@@ -181,6 +198,17 @@ fn empty_buckets(alloc: Global, nodes: usize) -> Result<Vec<Bucket>, Memory>
     Ok(buckets)
 }
 
+// No values for so many buckets.
+fn empty_values(alloc: Global, nodes: usize) -> Result<Vec<Packed>, Memory>
+    ensures { IfOk result (λ packed. packed.items ≡ replicate nodes []) }
+{
+    let mut packed = Vec::with_capacity(alloc, nodes)?;
+    for _node in 0..nodes {
+        packed.push(Packed(Vec::new(alloc)))?;
+    }
+    Ok(packed)
+}
+
 // Empties all buckets, and keeps their room.
 fn empty_all(buckets: &mut [Bucket])
     ensures { buckets.new ≡ replicate (length buckets.old) [] }
@@ -188,5 +216,15 @@ fn empty_all(buckets: &mut [Bucket])
     for node in 0..buckets.len() {
         let bucket = &mut buckets[node];
         bucket.0.clear();
+    }
+}
+
+// Lets the values of all buckets go, and keeps their room.
+fn empty_all_values(packed: &mut [Packed])
+    ensures { packed.new ≡ replicate (length packed.old) [] }
+{
+    for node in 0..packed.len() {
+        let values = &mut packed[node];
+        values.0.clear();
     }
 }

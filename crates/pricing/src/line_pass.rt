@@ -1,8 +1,8 @@
 //! One pass over a book's activities, in which labels wait in lines where that pays.
 //!
-//! An open departure, which is a flight that is alive, with no Cut and no Tie into it, takes from the lines of its airport.
-//! All others go link by link, as ever. Behind a Must of the aircraft every line begins anew: nothing from before it may
-//! come after it.
+//! An open departure, which is a flight that is alive, with no Cut and no Tie into it, takes from the lines of its airport
+//! where enough flights end there for the edges between its windows and the values of a label (`pays`). All others go link
+//! by link, as ever. Behind a Must of the aircraft every line begins anew: nothing from before it may come after it.
 
 ghost use Rattle.std.specs.Prelude.{ℕ, ◌≡◌, ◌<◌, ◌+◌, ◌≤ℤ◌, ◌⊎◌, pos, length, IfOk, IsTrue, Contains, true, false, slice_index_or};
 ghost use Rattle.std.specs.Int.{int_max};
@@ -192,7 +192,14 @@ fn fill_in_lines(
     Ok(())
 }
 
-// Fills the bucket of an activity, from lines where it is an open departure.
+// Whether the lines of an airport pay for labels of so many values: more flights end there than are due, so many for each
+// edge between its windows and each value. A hint, since single links do the same.
+fn pays(airport: &Airport, values: usize, due: usize) -> bool {
+    let edges = airport.windows.len().saturating_sub(1);
+    airport.flights.len() > edges.saturating_mul(values).saturating_mul(due)
+}
+
+// Fills the bucket of an activity, from lines where it is an open departure and they pay.
 fn fill_at(
     book: &Book,
     table: &CostTable,
@@ -205,6 +212,7 @@ fn fill_at(
     floor: u32,
     before: i64,
     b: u32,
+    due: usize,
     airports: &mut [Airport],
     key: &mut Vec<i64>,
     row: &mut [i64],
@@ -230,7 +238,8 @@ fn fill_at(
 {
     every_book_is_sound(book);
     every_store_is_sound(store);
-    if is_open(book, marks, k, cut, b) {
+    let port = port_of(book, b);
+    if is_open(book, marks, k, cut, b) && pays(&airports[port as usize], row.len(), due) {
         return fill_in_lines(
             book, table, marks, duals, steps, k, floor, before, b, airports, key, row, store,
         );
@@ -313,7 +322,8 @@ pub fn note_cuts(book: &Book, marks: &Marks, cut: &mut [bool])
     }
 }
 
-/// Fills all buckets, in order of activity, with lines that are empty at first.
+/// Fills all buckets, in order of activity, with lines that are empty at first. Labels wait where more flights end than are
+/// due (`pays`).
 pub fn fill_lines(
     book: &Book,
     table: &CostTable,
@@ -323,6 +333,7 @@ pub fn fill_lines(
     steps: &StepTable,
     k: u32,
     cut: &[bool],
+    due: usize,
     airports: &mut [Airport],
     key: &mut Vec<i64>,
     row: &mut [i64],
@@ -346,8 +357,8 @@ pub fn fill_lines(
     for b in 0..book.activities.len() as u32 {
         every_store_is_sound(store);
         fill_at(
-            book, table, net, marks, duals, steps, k, cut, floor, before, b, airports, key, row,
-            store,
+            book, table, net, marks, duals, steps, k, cut, floor, before, b, due, airports, key,
+            row, store,
         )?;
         floor = pass_must(book, marks, k, b, floor, airports);
         before = start_of(book, b);

@@ -35,6 +35,10 @@ use std::alloc::Global;
 use tail_book::laws::{every_book_is_sound, every_cost_table_is_sound};
 use tail_book::{Book, CostTable, Duals, Memory};
 
+// Lines pay at an airport where more than so many flights end for each edge between its windows and each value of a label
+// (measured: docs/SPEED.md, "Lines beside single links").
+const FLIGHTS_TO_PAY: usize = 4;
+
 /// What pricing keeps from one aircraft to the next.
 #[derive(Debug, Drop)]
 pub struct Pricer {
@@ -42,6 +46,7 @@ pub struct Pricer {
     row: Vec<i64>,
     key: Vec<i64>,
     cut: Vec<bool>,
+    due: usize,
     airports: Option<Vec<Airport>>,
 }
 
@@ -62,8 +67,19 @@ impl Pricer {
             row,
             key: Vec::new(alloc),
             cut,
+            due: FLIGHTS_TO_PAY,
             airports,
         })
+    }
+
+    /// A pricer that lets labels wait wherever flights end, whether lines pay there or not. It answers the same.
+    pub fn with_all_lines(alloc: Global, book: &Book, table: &CostTable) -> Result<Pricer, Memory>
+        requires { IsTableFor book.now table.now }
+        ensures { IfOk result (IsPricerOf book.now table.now) }
+    {
+        let mut pricer = Pricer::new(alloc, book, table)?;
+        pricer.due = 0;
+        Ok(pricer)
     }
 
     /// A pricer that goes link by link: what a waiting line would join is looked at one by one. It answers the same.
@@ -111,6 +127,7 @@ impl Pricer {
             &self.steps,
             k,
             &mut self.cut,
+            self.due,
             &mut self.airports,
             &mut self.key,
             &mut self.row,
@@ -130,6 +147,7 @@ fn fill_by_lines(
     steps: &StepTable,
     k: u32,
     cut: &mut [bool],
+    due: usize,
     airports: &mut [Airport],
     key: &mut Vec<i64>,
     row: &mut [i64],
@@ -150,7 +168,7 @@ fn fill_by_lines(
     reset_all(airports);
     note_cuts(book, marks, cut);
     fill_lines(
-        book, table, net, marks, duals, steps, k, cut, airports, key, row, store,
+        book, table, net, marks, duals, steps, k, cut, due, airports, key, row, store,
     )
 }
 
@@ -164,6 +182,7 @@ fn fill_by(
     steps: &StepTable,
     k: u32,
     cut: &mut [bool],
+    due: usize,
     airports: &mut Option<Vec<Airport>>,
     key: &mut Vec<i64>,
     row: &mut [i64],
@@ -183,7 +202,7 @@ fn fill_by(
 {
     match airports {
         Some(all) => fill_by_lines(
-            book, table, net, marks, duals, steps, k, cut, all, key, row, store,
+            book, table, net, marks, duals, steps, k, cut, due, all, key, row, store,
         ),
         None => fill_all(book, table, net, marks, duals, steps, k, row, store),
     }
@@ -199,6 +218,7 @@ fn fill_from_empty(
     steps: &StepTable,
     k: u32,
     cut: &mut [bool],
+    due: usize,
     airports: &mut Option<Vec<Airport>>,
     key: &mut Vec<i64>,
     row: &mut [i64],
@@ -222,7 +242,7 @@ fn fill_from_empty(
     laws::filled_stores_are_closed();
     store.clear();
     fill_by(
-        book, table, net, marks, duals, steps, k, cut, airports, key, row, store,
+        book, table, net, marks, duals, steps, k, cut, due, airports, key, row, store,
     )?;
     every_store_is_sound(store);
     Ok(())
