@@ -1,7 +1,8 @@
 //! Sweeps: each dual in turn moves to where its activity is asked for once, as far as it is trusted to go.
 //!
 //! Sweeps go up and down the numbers in turn. They end where a sweep moves little, or after so many. While the mixtures are
-//! hot few sweeps are worth their time, and activities rest whose duals hardly moved.
+//! hot few sweeps are worth their time, and activities rest whose duals hardly moved. Of very many activities few sweeps are
+//! made at any temperature.
 
 ghost use Rattle.std.specs.Prelude.{◌<◌, length};
 ghost use Rattle.tail_book.specs.inside.CostTable.{IsInBox};
@@ -10,6 +11,10 @@ ghost use Rattle.branch_marks.specs.Settled.{AreDuals};
 use crate::mixture::{COOL, Mixture};
 use crate::powers::Powers;
 use tail_book::{Book, CostTable, Duals, Memory};
+
+// Of so many activities sweeps are few while mixtures are cool, too: with a thousand, sixty of them hardly ever come to rest,
+// so that an ascent does not cool and has no end.
+const MANY: usize = 800;
 
 /// How far duals may go.
 #[derive(Clone, Copy, Debug)]
@@ -124,11 +129,8 @@ pub fn climb(
     requires duals { AreDuals table.now book.now duals.old.values }
     ensures duals { AreDuals table.now book.now duals.new.values }
 {
-    let (sweeps, share) = if temperature < COOL {
-        (60, 2000)
-    } else {
-        (20, 50)
-    };
+    let is_worth_more = temperature < COOL && duals.values.len() < MANY;
+    let (sweeps, share) = if is_worth_more { (60, 2000) } else { (20, 50) };
     let all = temperature
         .unsigned_abs()
         .saturating_mul(duals.values.len() as u64);

@@ -16,7 +16,7 @@ use crate::judging::judge;
 use crate::ladder::cheapen;
 use crate::problem::Problem;
 use crate::repairing::repair;
-use crate::soft_dive::soft_dive;
+use crate::soft_dive::{MANY, soft_dive};
 use crate::soft_plan::SoftPlan;
 use crate::weights::copy_of;
 use branch_marks::Marks;
@@ -36,6 +36,9 @@ pub struct Sought<'a> {
 
 // Dives are made at these temperatures, in thousandths of a cost unit.
 const TEMPERATURES: [i64; 4] = [3000, 10_000, 5000, 1000];
+
+// The same in a large fleet: each of the four leaves out about as much there, and repairs are what takes time.
+const TEMPERATURES_OF_MANY: [i64; 2] = [10_000, 5000];
 
 // A dive from the duals, which stay as they are.
 fn dived(
@@ -74,7 +77,33 @@ fn fuller(one: SoftPlan, other: SoftPlan) -> SoftPlan {
     }
 }
 
-// The plan that leaves least out, by dives at one temperature after the other, until one leaves nothing out.
+// The plan that leaves least out, by dives at one of these temperatures after the other, until one leaves nothing out.
+fn fullest_at(
+    alloc: Global,
+    problem: &Problem,
+    sought: &Sought,
+    columns: &mut Columns,
+    pool: &Pool,
+    temperatures: &[i64],
+) -> Result<SoftPlan, Memory>
+    requires problem { IsProblem problem.now }
+    requires marks { AreMarksOf problem.now.book.now sought.now.marks.now }
+    requires duals { AreDuals problem.now.table.now problem.now.book.now sought.now.duals.now.values }
+    requires columns { AreColumns problem.now columns.old }
+    ensures columns { AreColumns problem.now columns.new }
+{
+    let mut best = SoftPlan::none(alloc, problem.book)?;
+    for i in 0..temperatures.len() {
+        if columns.is_spent() || best.count_left() == 0 {
+            return Ok(best);
+        }
+        let next = dived(alloc, problem, sought, columns, pool, temperatures[i])?;
+        best = fuller(best, next);
+    }
+    Ok(best)
+}
+
+// The same by the dives of a fleet of the book's size.
 fn fullest(
     alloc: Global,
     problem: &Problem,
@@ -88,15 +117,12 @@ fn fullest(
     requires columns { AreColumns problem.now columns.old }
     ensures columns { AreColumns problem.now columns.new }
 {
-    let mut best = SoftPlan::none(alloc, problem.book)?;
-    for i in 0..TEMPERATURES.len() {
-        if columns.is_spent() || best.count_left() == 0 {
-            return Ok(best);
-        }
-        let next = dived(alloc, problem, sought, columns, pool, TEMPERATURES[i])?;
-        best = fuller(best, next);
+    let book = problem.book;
+    if book.tails.len() < MANY {
+        fullest_at(alloc, problem, sought, columns, pool, &TEMPERATURES)
+    } else {
+        fullest_at(alloc, problem, sought, columns, pool, &TEMPERATURES_OF_MANY)
     }
-    Ok(best)
 }
 
 // A plan by dives, and repairs of what the fullest one leaves out. It is made cheaper as far as that goes.

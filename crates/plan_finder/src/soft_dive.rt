@@ -1,7 +1,8 @@
 //! A dive that cannot fail: it fixes one route after the other, and leaves out what no route is left for.
 //!
 //! Aircraft that are not fixed yet are priced, and duals climb over the pool at one temperature. Then the lightest route that
-//! stands out most is fixed, with all others that stand out and share nothing with it. Nothing is propagated or undone.
+//! stands out most is fixed, with all others that stand out and share nothing with it. In a large fleet several are fixed
+//! each time, whether they stand out or not. Nothing is propagated or undone.
 
 ghost use Rattle.std.specs.Prelude.{◌≡◌, ◌<◌, IfOk};
 ghost use Rattle.tail_book.specs.Lookup.{aircraft};
@@ -23,11 +24,19 @@ use std::alloc::Global;
 use tail_book::laws::every_book_is_sound;
 use tail_book::{Duals, Memory, Route};
 
+/// A fleet of so many aircraft is large: fixing one route after the other takes it too long. The limit lies between 25 aircraft,
+/// where that was worth its time, and 50.
+pub const MANY: usize = 40;
+
 // Duals go so far in a round, in thousandths of a cost unit.
 const RADIUS: i64 = 60_000;
 
 // So many rounds come before each choice.
 const ROUNDS: u32 = 2;
+
+// In a large fleet a choice fixes at least one of so many aircraft that are free: with 50 aircraft a dive then takes two fifths of
+// the time, and leaves out as much.
+const PART: usize = 8;
 
 // Suggestions are looked for so many temperatures above the least weights.
 const SUGGESTED: i64 = 8;
@@ -57,6 +66,20 @@ fn first_lead(leads: &[Option<Lead>], free: &[bool]) -> Option<usize> {
         }
     }
     best
+}
+
+// How many leads are to be fixed at a choice beside the first one.
+fn more_for(free: &[bool]) -> usize {
+    if free.len() < MANY {
+        return 0;
+    }
+    let mut count = 0usize;
+    for is_free in free.iter() {
+        if *is_free {
+            count = count.saturating_add(1);
+        }
+    }
+    (count / PART).saturating_sub(1)
 }
 
 // How far above the least weights suggestions are looked for, in thousandths of a cost unit.
@@ -199,7 +222,68 @@ impl Dive {
         Ok(())
     }
 
-    // Fixes the lead that stands out most, and all others that stand out. Answers whether there was one.
+    // Fixes the lead of an aircraft, if what it has is free. Answers whether it is fixed now.
+    fn fix_fitting(
+        &mut self,
+        alloc: Global,
+        problem: &Problem,
+        pool: &Pool,
+        leads: &[Option<Lead>],
+        k: usize,
+    ) -> Result<bool, Memory>
+        requires { AreMarksOf problem.now.book.now self.old.marks }
+        ensures { AreMarksOf problem.now.book.now self.new.marks }
+    {
+        let book = problem.book;
+        every_book_is_sound(book);
+        let number = (k % (1 << 32)) as u32;
+        if number as usize >= book.tails.len() {
+            return Ok(false);
+        }
+        if let Some(Some(lead)) = leads.get(k).copied() {
+            if lead.route < pool.count() && self.marks.fits(book, number, pool.route(lead.route)) {
+                self.fix(alloc, problem, pool, number, lead)?;
+                return Ok(true);
+            }
+        }
+        Ok(false)
+    }
+
+    // Fixes so many leads in the order in which they stand out, as far as they share nothing with what is fixed.
+    fn fix_more(
+        &mut self,
+        alloc: Global,
+        problem: &Problem,
+        pool: &Pool,
+        leads: &[Option<Lead>],
+        many: usize,
+    ) -> Result<(), Memory>
+        requires { AreMarksOf problem.now.book.now self.old.marks }
+        ensures { AreMarksOf problem.now.book.now self.new.marks }
+    {
+        if many == 0 {
+            return Ok(());
+        }
+        let mut open = self.free.clone()?;
+        let mut fixed = 0usize;
+        for _turn in 0..open.len() {
+            if fixed >= many {
+                return Ok(());
+            }
+            let Some(k) = first_lead(leads, &open) else {
+                return Ok(());
+            };
+            if let Some(is_open) = open.get_mut(k) {
+                *is_open = false;
+            }
+            if self.fix_fitting(alloc, problem, pool, leads, k)? {
+                fixed = fixed.saturating_add(1);
+            }
+        }
+        Ok(())
+    }
+
+    // Fixes the lead that stands out most, in a large fleet some more, and all others that stand out. Answers whether there was one.
     fn choose(
         &mut self,
         alloc: Global,
@@ -220,9 +304,11 @@ impl Dive {
         let Some(k) = first_lead(&leads, &self.free) else {
             return Ok(false);
         };
+        let more = more_for(&self.free);
         if let Some(Some(lead)) = leads.get(k).copied() {
             self.fix(alloc, problem, pool, (k % (1 << 32)) as u32, lead)?;
         }
+        self.fix_more(alloc, problem, pool, &leads, more)?;
         self.fix_sure(alloc, problem, pool, &leads)?;
         Ok(true)
     }
