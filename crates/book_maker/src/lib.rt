@@ -14,6 +14,3 @@ mod tags;
 mod tail_found;
 
 pub use made::{make_book, read_book};
-
-#[cfg(test)]
-mod tests;

@@ -14,8 +14,6 @@ ghost use Rattle.branch_marks.specs.MarkCalls.{AddsOnce};
 
 mod fitting;
 mod questions;
-#[cfg(test)]
-mod tests;
 mod walks;
 
 use crate::Fact;

@@ -11,9 +11,6 @@ ghost use Rattle.branch_marks.specs.Events.{IsNotable};
 ghost use Rattle.branch_marks.specs.LogShown.{LogShown};
 ghost use Rattle.branch_marks.specs.TreeLog.{Notes, NotesNothing, IsLater, TellsNothing, WriteHasFailed};
 
-#[cfg(test)]
-mod tests;
-
 use crate::Event;
 use std::alloc::Global;
 use std::marker::Model;

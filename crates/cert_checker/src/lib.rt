@@ -14,6 +14,3 @@ mod within;
 
 pub use answering::judge;
 pub use verdict::{Reason, Verdict};
-
-#[cfg(test)]
-mod tests;

@@ -11,6 +11,3 @@ mod words;
 pub use cert_line::{BadLine, CertLine, LENGTH_LIMIT, VALUE_LIMIT};
 pub use reading::read_line;
 pub use spelling::write_line;
-
-#[cfg(test)]
-mod tests;

@@ -9,6 +9,3 @@ mod net;
 mod rows;
 
 pub use net::Net;
-
-#[cfg(test)]
-mod tests;

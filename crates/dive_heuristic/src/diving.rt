@@ -26,11 +26,11 @@ use crate::choosing::choice;
 use crate::diver::Diver;
 use crate::going::{choose, propagate};
 use crate::laws::{choices_are_undecided, fits_with_fewer, more_facts_leave_no_more};
-use crate::plan_cost::plan_cost;
 use crate::renewing::{Found, first_routes, renew};
 use branch_marks::Marks;
 use branch_marks::laws::{branches_leave_fewer, following_facts_are_new};
 use connection_net::Net;
+use plan_audit::legal_cost;
 use propagator::laws::kept_for_more;
 use std::alloc::Global;
 use tail_book::laws::{every_book_is_sound, legal_routes_rise, rising_routes_are_below};
@@ -204,8 +204,9 @@ fn dive_from(
     if let Some(end) = end {
         return Ok(Dive::Dead { steps, end });
     }
-    let cost = plan_cost(book, table, &routes);
-    Ok(Dive::Plan(Plan(routes), cost))
+    let plan = Plan(routes);
+    let cost = legal_cost(book, table, &plan);
+    Ok(Dive::Plan(plan, cost))
 }
 
 impl Diver {

@@ -8,7 +8,6 @@ mod diver;
 mod diving;
 mod going;
 pub mod laws;
-mod plan_cost;
 mod renewing;
 mod tally;
 

@@ -19,8 +19,3 @@ pub use fleet::read_fleet;
 pub use raw_rules::{RawCounter, RawCurfew, RawRules};
 pub use rules_table::read_rules;
 pub use tail::{RawCarry, RawTail};
-
-#[cfg(test)]
-mod rules_tests;
-#[cfg(test)]
-mod tests;

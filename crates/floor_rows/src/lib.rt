@@ -9,6 +9,3 @@ pub mod laws;
 pub use floor_row::FloorRow;
 pub use floors::{put_floor, put_floors};
 pub use going::{goes_on, goes_on_over, goes_on_to, goes_to};
-
-#[cfg(test)]
-mod tests;

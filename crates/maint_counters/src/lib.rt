@@ -14,6 +14,3 @@ pub use legal_route::is_legal_route;
 pub use reset::cleared;
 pub use step_table::{ActivityRow, CounterRow, StepTable, step_by};
 pub use stepping::{step, step_one};
-
-#[cfg(test)]
-mod tests;

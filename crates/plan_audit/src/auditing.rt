@@ -71,7 +71,8 @@ pub fn audit(alloc: Global, book: &Book, raw: &RawPlan) -> Result<Audit, Memory>
     Ok(Audit::Broken(list))
 }
 
-fn legal_cost(book: &Book, table: &CostTable, plan: &Plan) -> u64
+/// What a legal plan costs in a table, in cost units. No sum wraps: the table's two maxima bound what a legal plan costs.
+pub fn legal_cost(book: &Book, table: &CostTable, plan: &Plan) -> u64
     requires table { IsTableFor book.now table.now }
     requires legal { IsLegalPlan book.now plan.now }
     ensures { result ≡ plan_cost_in table.now book.now plan.now }

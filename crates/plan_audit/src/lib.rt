@@ -18,9 +18,6 @@ mod past_limits;
 mod plan_cost;
 mod uncovered;
 
-pub use auditing::{audit, audit_plan};
+pub use auditing::{audit, audit_plan, legal_cost};
 pub use broken::{Audit, Broken};
 pub use kept_plan::kept;
-
-#[cfg(test)]
-mod tests;

@@ -6,6 +6,3 @@ mod cost;
 mod enumerate;
 
 pub use enumerate::least_plan;
-
-#[cfg(test)]
-mod tests;

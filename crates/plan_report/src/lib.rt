@@ -15,6 +15,3 @@ pub use plan_text::read_plan;
 pub use refused::refusal_line;
 pub use report::{first_line, write_report};
 pub use writing::{ReportFail, write_lines};
-
-#[cfg(test)]
-mod tests;

@@ -10,6 +10,3 @@ mod finding;
 mod partition;
 
 pub use finding::{Found, find_cover, find_plan};
-
-#[cfg(test)]
-mod tests;

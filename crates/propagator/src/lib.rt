@@ -20,6 +20,3 @@ mod work;
 
 pub use hole::Closed;
 pub use keeping::{Propagator, close};
-
-#[cfg(test)]
-mod tests;

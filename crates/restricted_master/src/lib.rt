@@ -22,6 +22,3 @@ pub use pool::Pool;
 pub use pool_add::PoolAdd;
 pub use route_lists::RouteLists;
 pub use settling::settle;
-
-#[cfg(test)]
-mod tests;

@@ -14,6 +14,3 @@ pub use name_lists::names;
 pub use records::Records;
 pub use table::{NoRow, Row, read_table};
 pub use values::{name_in, number_in, optional_name_in, stamp_in};
-
-#[cfg(test)]
-mod tests;

@@ -33,6 +33,3 @@ pub use place::Place;
 pub use plan::{Plan, Route};
 pub use raw_plan::{RawLine, RawPlan};
 pub use rules::{AircraftType, Airport, Band, Counter, CounterKind, Curfew, Rules};
-
-#[cfg(test)]
-mod tests;

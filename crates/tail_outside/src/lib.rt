@@ -10,8 +10,6 @@ mod reading;
 mod real;
 mod sure_files;
 mod sure_sink;
-#[cfg(test)]
-mod tests;
 
 pub use file_sink::FileSink;
 pub use mem_files::{MemFile, MemFiles};

@@ -20,6 +20,3 @@ pub use numbers::number;
 pub use parts::Parts;
 pub use refusal::{Refusal, SIZE_LIMIT, Stopped, Table};
 pub use stamps::stamp;
-
-#[cfg(test)]
-mod tests;

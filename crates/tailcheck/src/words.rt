@@ -109,45 +109,47 @@ mod tests {
     // Three names, and the plan's behind its option, wherever that stands.
     #[test]
     fn names_are_taken_in_their_places(rt: HostRuntime) -> Result<(), Fail> {
-        for (words, names) in [
+        let rows: &[(&[&str], [&str; 4])] = &[
             (
-                ["tailcheck", "t", "f", "r", "--plan", "p"].as_slice(),
-                named("t", "f", "r", "p"),
+                &["tailcheck", "t", "f", "r", "--plan", "p"],
+                ["t", "f", "r", "p"],
             ),
             (
                 &["tailcheck", "--plan", "p", "t", "f", "r"],
-                named("t", "f", "r", "p"),
+                ["t", "f", "r", "p"],
             ),
             (
                 &["tailcheck", "t", "--plan", "p", "f", "r"],
-                named("t", "f", "r", "p"),
+                ["t", "f", "r", "p"],
             ),
             (
                 &["tailcheck", "t", "f", "--plan", "p", "r"],
-                named("t", "f", "r", "p"),
+                ["t", "f", "r", "p"],
             ),
             (
                 &["tailcheck", "t", "f", "r", "--plan=p"],
-                named("t", "f", "r", "p"),
+                ["t", "f", "r", "p"],
             ),
             (
                 &["tailcheck", "t", "--plan=p", "f", "r"],
-                named("t", "f", "r", "p"),
+                ["t", "f", "r", "p"],
             ),
             (
                 &["tailcheck", "x", "x", "x", "--plan", "x"],
-                named("x", "x", "x", "x"),
+                ["x", "x", "x", "x"],
             ),
-            (
-                &["", "t", "f", "r", "--plan", "p"],
-                named("t", "f", "r", "p"),
-            ),
+            (&["", "t", "f", "r", "--plan", "p"], ["t", "f", "r", "p"]),
             (
                 &["--plan=p", "t", "f", "r", "--plan", "q"],
-                named("t", "f", "r", "q"),
+                ["t", "f", "r", "q"],
             ),
-        ] {
-            let are_read = are_read_as(rt.alloc(), words, Some(names))?;
+        ];
+        for &(words, [timetable, fleet, rules, plan]) in rows {
+            let are_read = are_read_as(
+                rt.alloc(),
+                words,
+                Some(named(timetable, fleet, rules, plan)),
+            )?;
             assert!(rt; are_read, "{words:?}");
         }
         Ok(())
@@ -156,13 +158,14 @@ mod tests {
     // A certificate is named like a plan.
     #[test]
     fn certificates_are_taken(rt: HostRuntime) -> Result<(), Fail> {
-        for (words, cert) in [
-            (["tailcheck", "t", "f", "r", "--cert", "c"].as_slice(), "c"),
+        let rows: &[(&[&str], &str)] = &[
+            (&["tailcheck", "t", "f", "r", "--cert", "c"], "c"),
             (&["tailcheck", "--cert=c", "t", "f", "r"], "c"),
             (&["tailcheck", "t", "--cert", "", "f", "r"], ""),
             (&["tailcheck", "t", "f", "r", "--cert=-x"], "-x"),
             (&["--plan=p", "--cert", "c", "--", "t", "f", "r"], "c"),
-        ] {
+        ];
+        for &(words, cert) in rows {
             let are_read = are_read_as(rt.alloc(), words, Some(certified(cert)))?;
             assert!(rt; are_read, "{words:?}");
         }
@@ -172,49 +175,51 @@ mod tests {
     // Names that look odd: empty, a dash alone, with a dash in front behind `=` or two dashes.
     #[test]
     fn odd_names_are_taken(rt: HostRuntime) -> Result<(), Fail> {
-        for (words, names) in [
-            (
-                ["tailcheck", "", "", "", "--plan", ""].as_slice(),
-                named("", "", "", ""),
-            ),
+        let rows: &[(&[&str], [&str; 4])] = &[
+            (&["tailcheck", "", "", "", "--plan", ""], ["", "", "", ""]),
             (
                 &["tailcheck", "t", "f", "r", "--plan="],
-                named("t", "f", "r", ""),
+                ["t", "f", "r", ""],
             ),
             (
                 &["tailcheck", "-", "f", "-", "--plan", "-"],
-                named("-", "f", "-", "-"),
+                ["-", "f", "-", "-"],
             ),
             (
                 &["tailcheck", "t", "f", "r", "--plan=-x"],
-                named("t", "f", "r", "-x"),
+                ["t", "f", "r", "-x"],
             ),
             (
                 &["tailcheck", "t", "f", "r", "--plan==p"],
-                named("t", "f", "r", "=p"),
+                ["t", "f", "r", "=p"],
             ),
             (
                 &["tailcheck", "help", "a b", "r=1", "--plan", "p q"],
-                named("help", "a b", "r=1", "p q"),
+                ["help", "a b", "r=1", "p q"],
             ),
             (
                 &["tailcheck", "tåg", "flyg", "regler", "--plan", "år"],
-                named("tåg", "flyg", "regler", "år"),
+                ["tåg", "flyg", "regler", "år"],
             ),
             (
                 &["tailcheck", "--plan", "p", "--", "-t", "--plan", "-"],
-                named("-t", "--plan", "-", "p"),
+                ["-t", "--plan", "-", "p"],
             ),
             (
                 &["tailcheck", "t", "--plan", "p", "--", "--", "--help"],
-                named("t", "--", "--help", "p"),
+                ["t", "--", "--help", "p"],
             ),
             (
                 &["tailcheck", "t", "f", "r", "--plan", "p", "--"],
-                named("t", "f", "r", "p"),
+                ["t", "f", "r", "p"],
             ),
-        ] {
-            let are_read = are_read_as(rt.alloc(), words, Some(names))?;
+        ];
+        for &(words, [timetable, fleet, rules, plan]) in rows {
+            let are_read = are_read_as(
+                rt.alloc(),
+                words,
+                Some(named(timetable, fleet, rules, plan)),
+            )?;
             assert!(rt; are_read, "{words:?}");
         }
         Ok(())
@@ -223,8 +228,8 @@ mod tests {
     // Other numbers of names, and names that begin with a dash.
     #[test]
     fn other_names_are_refused(rt: HostRuntime) -> Result<(), Fail> {
-        for words in [
-            [].as_slice(),
+        let rows: &[&[&str]] = &[
+            &[],
             &["tailcheck"],
             &["tailcheck", "--plan", "p"],
             &["tailcheck", "t", "--plan", "p"],
@@ -236,7 +241,8 @@ mod tests {
             &["tailcheck", "t", "f", "--r", "--plan", "p"],
             &["tailcheck", "--plan", "p", "--", "t", "f"],
             &["tailcheck", "t", "f", "r", "--plan", "p", "--", "x"],
-        ] {
+        ];
+        for &words in rows {
             let are_refused = are_read_as(rt.alloc(), words, None)?;
             assert!(rt; are_refused, "{words:?}");
         }
@@ -246,8 +252,8 @@ mod tests {
     // No option, one twice, both, one without a value or written otherwise, flags, and options that there are not.
     #[test]
     fn other_options_are_refused(rt: HostRuntime) -> Result<(), Fail> {
-        for words in [
-            ["tailcheck", "t", "f", "r"].as_slice(),
+        let rows: &[&[&str]] = &[
+            &["tailcheck", "t", "f", "r"],
             &["tailcheck", "t", "f", "r", "--plan", "p", "--plan", "q"],
             &["tailcheck", "t", "f", "r", "--plan=p", "--plan=p"],
             &["tailcheck", "t", "f", "r", "--plan"],
@@ -267,7 +273,8 @@ mod tests {
             &["tailcheck", "--version"],
             &["tailcheck", "t", "f", "r", "--plan", "p", "--help"],
             &["tailcheck", "t", "f", "r", "--plan", "p", "-V"],
-        ] {
+        ];
+        for &words in rows {
             let are_refused = are_read_as(rt.alloc(), words, None)?;
             assert!(rt; are_refused, "{words:?}");
         }

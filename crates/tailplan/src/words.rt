@@ -141,44 +141,42 @@ mod tests {
     // Three names, also ones that look odd, and words behind two dashes.
     #[test]
     fn names_are_taken_in_their_order(rt: HostRuntime) -> Result<(), Fail> {
-        for (words, names) in [
-            (["tailplan", "t", "f", "r"].as_slice(), named("t", "f", "r")),
-            (&["", "t", "f", "r"], named("t", "f", "r")),
-            (&["--help", "t", "f", "r"], named("t", "f", "r")),
-            (&["tailplan", "x", "x", "x"], named("x", "x", "x")),
-            (&["tailplan", "", "", ""], named("", "", "")),
-            (&["tailplan", "-", "f", "-"], named("-", "f", "-")),
+        let rows: &[(&[&str], [&str; 3])] = &[
+            (&["tailplan", "t", "f", "r"], ["t", "f", "r"]),
+            (&["", "t", "f", "r"], ["t", "f", "r"]),
+            (&["--help", "t", "f", "r"], ["t", "f", "r"]),
+            (&["tailplan", "x", "x", "x"], ["x", "x", "x"]),
+            (&["tailplan", "", "", ""], ["", "", ""]),
+            (&["tailplan", "-", "f", "-"], ["-", "f", "-"]),
             (
                 &["tailplan", "./t.csv", "a b", "r=1"],
-                named("./t.csv", "a b", "r=1"),
+                ["./t.csv", "a b", "r=1"],
             ),
             (
                 &["tailplan", "./trial", "trial", "trial"],
-                named("./trial", "trial", "trial"),
+                ["./trial", "trial", "trial"],
             ),
-            (
-                &["tailplan", "--", "trial", "f", "r"],
-                named("trial", "f", "r"),
-            ),
-            (&["trial", "t", "f", "r"], named("t", "f", "r")),
+            (&["tailplan", "--", "trial", "f", "r"], ["trial", "f", "r"]),
+            (&["trial", "t", "f", "r"], ["t", "f", "r"]),
             (
                 &["tailplan", "tåg", "flyg", "regler"],
-                named("tåg", "flyg", "regler"),
+                ["tåg", "flyg", "regler"],
             ),
-            (&["tailplan", "help", "f", "r"], named("help", "f", "r")),
-            (&["tailplan", "--", "t", "f", "r"], named("t", "f", "r")),
+            (&["tailplan", "help", "f", "r"], ["help", "f", "r"]),
+            (&["tailplan", "--", "t", "f", "r"], ["t", "f", "r"]),
             (
                 &["tailplan", "--", "-t", "--help", "-"],
-                named("-t", "--help", "-"),
+                ["-t", "--help", "-"],
             ),
             (
                 &["tailplan", "t", "--", "f", "--nodes"],
-                named("t", "f", "--nodes"),
+                ["t", "f", "--nodes"],
             ),
-            (&["tailplan", "--", "--", "f", "r"], named("--", "f", "r")),
-            (&["tailplan", "t", "f", "r", "--"], named("t", "f", "r")),
-        ] {
-            let are_read = are_read_as(rt.alloc(), words, Some(names))?;
+            (&["tailplan", "--", "--", "f", "r"], ["--", "f", "r"]),
+            (&["tailplan", "t", "f", "r", "--"], ["t", "f", "r"]),
+        ];
+        for &(words, [timetable, fleet, rules]) in rows {
+            let are_read = are_read_as(rt.alloc(), words, Some(named(timetable, fleet, rules)))?;
             assert!(rt; are_read, "{words:?}");
         }
         Ok(())
@@ -187,8 +185,8 @@ mod tests {
     // A limit stands anywhere before two dashes, with a blank or a sign of equality.
     #[test]
     fn limits_are_numbers(rt: HostRuntime) -> Result<(), Fail> {
-        for (words, most) in [
-            (["tailplan", "t", "f", "r", "--nodes", "5"].as_slice(), 5),
+        let rows: &[(&[&str], u64)] = &[
+            (&["tailplan", "t", "f", "r", "--nodes", "5"], 5),
             (&["tailplan", "--nodes=5", "t", "f", "r"], 5),
             (&["tailplan", "t", "--nodes", "0", "f", "r"], 0),
             (&["tailplan", "--nodes", "7", "--", "t", "f", "r"], 7),
@@ -196,7 +194,8 @@ mod tests {
                 &["tailplan", "t", "f", "r", "--nodes", "1000000000000"],
                 NODE_LIMIT,
             ),
-        ] {
+        ];
+        for &(words, most) in rows {
             let names = limited("t", "f", "r", Limit::Nodes(most));
             let are_read = are_read_as(rt.alloc(), words, Some(names))?;
             assert!(rt; are_read, "{words:?}");
@@ -207,9 +206,9 @@ mod tests {
     // Any text is a certificate's name, and the option stands where that of the limit may.
     #[test]
     fn certificates_have_names(rt: HostRuntime) -> Result<(), Fail> {
-        for (words, limit, cert) in [
+        let rows: &[(&[&str], Limit, &str)] = &[
             (
-                ["tailplan", "t", "--cert", "c", "f", "r"].as_slice(),
+                &["tailplan", "t", "--cert", "c", "f", "r"],
                 Limit::Free,
                 "c",
             ),
@@ -220,7 +219,8 @@ mod tests {
                 Limit::Nodes(5),
                 "-c",
             ),
-        ] {
+        ];
+        for &(words, limit, cert) in rows {
             let names = TaskNames {
                 cert: Some(cert),
                 ..limited("t", "f", "r", limit)
@@ -234,8 +234,8 @@ mod tests {
     // Other numbers of names, names that begin with a dash, flags, and options without a value or twice.
     #[test]
     fn other_words_are_refused(rt: HostRuntime) -> Result<(), Fail> {
-        for words in [
-            [].as_slice(),
+        let rows: &[&[&str]] = &[
+            &[],
             &["tailplan"],
             &["tailplan", "t"],
             &["tailplan", "t", "f"],
@@ -271,7 +271,8 @@ mod tests {
             &["tailplan", "trial", "f", "r"],
             &["tailplan", "trial", "1"],
             &["tailplan", "trial"],
-        ] {
+        ];
+        for &words in rows {
             let are_refused = are_read_as(rt.alloc(), words, None)?;
             assert!(rt; are_refused, "{words:?}");
         }
@@ -281,8 +282,8 @@ mod tests {
     // A seed stands alone behind the word, as a number with no zero in front.
     #[test]
     fn seeds_are_numbers(rt: HostRuntime) -> Result<(), Fail> {
-        for (words, seed) in [
-            (["tailplan", "trial", "0"].as_slice(), Some(0)),
+        let rows: &[(&[&str], Option<u64>)] = &[
+            (&["tailplan", "trial", "0"], Some(0)),
             (&["", "trial", "1"], Some(1)),
             (&["tailplan", "trial", "1000000"], Some(1_000_000)),
             (&["tailplan", "trial", "1000001"], None),
@@ -297,7 +298,8 @@ mod tests {
             (&["tailplan", "Trial", "1"], None),
             (&["trial", "1"], None),
             (&[], None),
-        ] {
+        ];
+        for &(words, seed) in rows {
             let read = seed_of(&words_of(rt.alloc(), words)?);
             assert!(rt; read == seed, "{words:?}");
         }

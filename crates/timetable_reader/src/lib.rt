@@ -6,6 +6,3 @@ mod timetable;
 
 pub use activity::RawActivity;
 pub use timetable::read_timetable;
-
-#[cfg(test)]
-mod tests;

@@ -1,20 +1,22 @@
-//! Small books for tests: of rows of activities, with an aircraft of each of some types, and marks, duals and costs for them.
-//! Only tests call it. It has none itself, so that it is proved once, for all the crates whose tests ask the search of such
-//! books.
+//! Small books for tests: of rows of activities, with an aircraft of each of some types, and marks, duals, routes and costs
+//! for them. Only tests call it. It has none itself, so that it is proved once, for all crates of trials.
 #![tactic(auto)]
 
-mod activities;
+mod activity_rows;
 mod aircraft;
 mod cost_table;
 mod duals;
 mod marking;
 mod names;
-mod rules;
+mod rising;
+mod rule_rows;
 mod small_book;
 
-pub use activities::{Row, flight};
+pub use activity_rows::{Row, activities, flight};
+pub use aircraft::tails;
 pub use cost_table::costs;
 pub use duals::{are_duals, duals_of};
 pub use marking::marks;
-pub use rules::{bands, counters};
-pub use small_book::{book, plain_book, there_and_back};
+pub use rising::is_rising;
+pub use rule_rows::{bands, counters, rules};
+pub use small_book::{book, plain_book, there_and_back, two_at_once};

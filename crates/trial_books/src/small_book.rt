@@ -1,8 +1,8 @@
 //! Books of activities, aircraft and rules.
 
-use crate::activities::{Row, activities, flight};
+use crate::activity_rows::{Row, activities, flight};
 use crate::aircraft::tails;
-use crate::rules::rules;
+use crate::rule_rows::rules;
 use std::alloc::Global;
 use std::test::Fail;
 use tail_book::*;
@@ -31,4 +31,11 @@ pub fn plain_book(alloc: Global, rows: &[Row], kinds: &[u32], turn: i64) -> Resu
 pub fn there_and_back(alloc: Global, kinds: &[u32], turn: i64) -> Result<Book, Fail> {
     let rows = [flight((0, 1), (360, 420)), flight((1, 0), (450, 510))];
     plain_book(alloc, &rows, kinds, turn)
+}
+
+/// Two flights from airport 0 to airport 1 that begin at once, of an hour and of two, and an aircraft of each type: a minute
+/// costs the first aircraft 1 and the second 2.
+pub fn two_at_once(alloc: Global) -> Result<Book, Fail> {
+    let rows = [flight((0, 1), (360, 420)), flight((0, 1), (360, 480))];
+    plain_book(alloc, &rows, &[0, 1], 30)
 }

@@ -8,6 +8,3 @@ mod rows;
 mod trial;
 
 pub use trial::{SEED_LIMIT, Trial, trial_tables};
-
-#[cfg(test)]
-mod tests;

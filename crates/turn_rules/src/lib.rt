@@ -17,6 +17,3 @@ pub use curfew_table::{CurfewTable, curfewed_by};
 pub use number_set::NumberSet;
 pub use permission::{allowed, allowed_by, permitted};
 pub use permission_table::{PermissionTable, link_by, permits};
-
-#[cfg(test)]
-mod tests;

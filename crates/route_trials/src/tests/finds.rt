@@ -3,6 +3,8 @@
 
 ghost use Rattle.tail_book.specs.inside.CostTable.{IsTableFor};
 
+mod memory;
+
 use super::twice;
 use branch_marks::Fact;
 use connection_net::Net;
@@ -73,6 +75,44 @@ fn is_plan(answer: &Option<Found>, first: &[u32], second: &[u32], want: u64) -> 
     }
 }
 
+// Whether two plans have the same routes.
+fn are_same(first: &Plan, again: &Plan) -> bool {
+    if first.0.len() != again.0.len() {
+        return false;
+    }
+    for k in 0..first.0.len().min(again.0.len()) {
+        let is_same = first.0[k].0.as_slice() == again.0[k].0.as_slice();
+        if !is_same {
+            return false;
+        }
+    }
+    true
+}
+
+// What a plan costs that was found twice; nothing where the two differ, or there is none.
+fn same_cost(first: &Option<Found>, again: &Option<Found>) -> Option<u64> {
+    match (first, again) {
+        (Some(first), Some(again)) => {
+            if first.cost == again.cost && are_same(&first.plan, &again.plan) {
+                Some(first.cost)
+            } else {
+                None
+            }
+        }
+        _ => None,
+    }
+}
+
+// What the plan costs that is found without facts, and found again with as many routes in the pool.
+fn cost_each_time(alloc: Global, book: &Book, duals: &[i64]) -> Result<Option<u64>, Fail> {
+    let (first, routes) = found(alloc, book, &[], duals)?;
+    let (again, others) = found(alloc, book, &[], duals)?;
+    if routes != others {
+        return Ok(None);
+    }
+    Ok(same_cost(&first, &again))
+}
+
 // Two flights at once, of an hour and of two.
 fn side_by_side() -> [Row; 2] {
     [flight((0, 1), (360, 420)), flight((0, 1), (360, 480))]
@@ -99,6 +139,19 @@ fn the_plan_that_marks_leave(rt: HostRuntime) -> Result<(), Fail> {
             assert_eq!(rt; routes, 2, "{fact:?}, {duals:?}");
         }
     }
+    Ok(())
+}
+
+// Without facts the first aircraft flies what it can, since a minute costs it half as much: whatever a dive makes of duals of 0,
+// the plan is made as cheap as that, and is the same each time.
+#[test]
+fn the_least_plan_each_time(rt: HostRuntime) -> Result<(), Fail> {
+    let together = plain_book(rt.alloc(), &side_by_side(), &[0, 1], 30)?;
+    assert_eq!(rt; cost_each_time(rt.alloc(), &together, &[0; 2])?, Some(240));
+    let returned = there_and_back(rt.alloc(), &[0, 1], 30)?;
+    assert_eq!(rt; cost_each_time(rt.alloc(), &returned, &[0; 2])?, Some(120));
+    let repeated = twice(rt.alloc(), 8, true)?;
+    assert_eq!(rt; cost_each_time(rt.alloc(), &repeated, &[0; 5])?, Some(240));
     Ok(())
 }
 

@@ -7,6 +7,7 @@ ghost use Rattle.connection_net.specs.Net.{net_of};
 ghost use Rattle.branch_marks.specs.Settled.{AreDuals};
 ghost use Rattle.branch_marks.specs.inside.MarkTables.{AreMarksOf};
 ghost use Rattle.pricing.specs.Price.{IsPriceOf};
+ghost use Rattle.pricing.specs.inside.Prepared.{IsPricerOf};
 
 use super::{musts, twice};
 use branch_marks::{Fact, Marks};
@@ -17,7 +18,9 @@ use std::alloc::Global;
 use std::test::Fail;
 use tail_book::laws::every_book_is_sound;
 use tail_book::*;
-use trial_books::{are_duals, costs, duals_of, flight, marks, plain_book, there_and_back};
+use trial_books::{
+    are_duals, book, costs, counters, duals_of, flight, marks, plain_book, there_and_back,
+};
 
 mod chance;
 mod memory;
@@ -32,8 +35,51 @@ fn store(alloc: Global, book: &Book) -> Result<Store, Memory>
     Store::new(alloc, book.activities.len(), width)
 }
 
-// Prices an aircraft with lines.
-fn priced_in_lines(
+// Where labels wait in lines: where these pay, wherever flights end, or nowhere.
+#[derive(Clone, Copy, Debug)]
+enum Way {
+    Chosen,
+    Lines,
+    Links,
+}
+
+// A pricer that goes this way.
+fn pricer_by(alloc: Global, book: &Book, table: &CostTable, way: Way) -> Result<Pricer, Memory>
+    requires { IsTableFor book.now table.now }
+    ensures { IfOk result (IsPricerOf book.now table.now) }
+{
+    match way {
+        Way::Chosen => Pricer::new(alloc, book, table),
+        Way::Lines => Pricer::with_all_lines(alloc, book, table),
+        Way::Links => Pricer::without_lines(alloc, book, table),
+    }
+}
+
+// Prices an aircraft by a pricer that goes this way.
+fn priced_by_pricer(
+    alloc: Global,
+    book: &Book,
+    table: &CostTable,
+    net: &Net,
+    marks: &Marks,
+    duals: &Duals,
+    k: u32,
+    way: Way,
+) -> Result<Priced, Memory>
+    requires table { IsTableFor book.now table.now }
+    requires net { net.now ≡ net_of book.now }
+    requires marks { AreMarksOf book.now marks.now }
+    requires duals { AreDuals table.now book.now duals.now.values }
+    requires aircraft { k < aircraft book.now }
+    ensures { IfOk result (IsPriceOf table.now book.now marks.now.facts k duals.now.values) }
+{
+    let mut store = store(alloc, book)?;
+    let mut pricer = pricer_by(alloc, book, table, way)?;
+    pricer.price(book, table, net, marks, duals, k, &mut store)
+}
+
+// Prices an aircraft by a pricer that is made for this once and waits where lines pay.
+fn priced_once(
     alloc: Global,
     book: &Book,
     table: &CostTable,
@@ -53,29 +99,7 @@ fn priced_in_lines(
     price(alloc, book, table, net, marks, duals, k, &mut store)
 }
 
-// Prices an aircraft link by link.
-fn priced_by_links(
-    alloc: Global,
-    book: &Book,
-    table: &CostTable,
-    net: &Net,
-    marks: &Marks,
-    duals: &Duals,
-    k: u32,
-) -> Result<Priced, Memory>
-    requires table { IsTableFor book.now table.now }
-    requires net { net.now ≡ net_of book.now }
-    requires marks { AreMarksOf book.now marks.now }
-    requires duals { AreDuals table.now book.now duals.now.values }
-    requires aircraft { k < aircraft book.now }
-    ensures { IfOk result (IsPriceOf table.now book.now marks.now.facts k duals.now.values) }
-{
-    let mut store = store(alloc, book)?;
-    let mut pricer = Pricer::without_lines(alloc, book, table)?;
-    pricer.price(book, table, net, marks, duals, k, &mut store)
-}
-
-// Prices an aircraft with lines or link by link.
+// Prices an aircraft this way.
 fn priced_in(
     alloc: Global,
     book: &Book,
@@ -84,7 +108,7 @@ fn priced_in(
     marks: &Marks,
     duals: &Duals,
     k: u32,
-    lines: bool,
+    way: Way,
 ) -> Result<Priced, Memory>
     requires table { IsTableFor book.now table.now }
     requires net { net.now ≡ net_of book.now }
@@ -93,10 +117,11 @@ fn priced_in(
     requires aircraft { k < aircraft book.now }
     ensures { IfOk result (IsPriceOf table.now book.now marks.now.facts k duals.now.values) }
 {
-    if lines {
-        priced_in_lines(alloc, book, table, net, marks, duals, k)
-    } else {
-        priced_by_links(alloc, book, table, net, marks, duals, k)
+    match way {
+        Way::Chosen => priced_once(alloc, book, table, net, marks, duals, k),
+        Way::Lines | Way::Links => {
+            priced_by_pricer(alloc, book, table, net, marks, duals, k, way)
+        }
     }
 }
 
@@ -109,7 +134,7 @@ fn priced_if(
     marks: &Marks,
     duals: &Duals,
     k: u32,
-    lines: bool,
+    way: Way,
 ) -> Result<Option<Priced>, Memory>
     requires table { IsTableFor book.now table.now }
     requires net { net.now ≡ net_of book.now }
@@ -119,7 +144,7 @@ fn priced_if(
     if k as usize >= book.tails.len() || !are_duals(book, table, duals) {
         return Ok(None);
     }
-    match priced_in(alloc, book, table, net, marks, duals, k, lines) {
+    match priced_in(alloc, book, table, net, marks, duals, k, way) {
         Ok(answer) => Ok(Some(answer)),
         Err(error) => Err(error),
     }
@@ -134,7 +159,7 @@ fn priced_under(
     facts: &[Fact],
     duals: &[i64],
     k: u32,
-    lines: bool,
+    way: Way,
 ) -> Result<Option<Priced>, Fail>
     requires table { IsTableFor book.now table.now }
     requires net { net.now ≡ net_of book.now }
@@ -142,25 +167,25 @@ fn priced_under(
 {
     let marks = marks(alloc, book, facts)?;
     let duals = duals_of(alloc, duals)?;
-    let answer = priced_if(alloc, book, table, net, &marks, &duals, k, lines)?;
+    let answer = priced_if(alloc, book, table, net, &marks, &duals, k, way)?;
     Ok(answer)
 }
 
-// Prices an aircraft by the book's own costs, with lines or link by link; nothing where the book does not have it, or the
-// duals are not in the box.
+// Prices an aircraft by the book's own costs, this way; nothing where the book does not have it, or the duals are not in
+// the box.
 fn priced_by(
     alloc: Global,
     book: &Book,
     facts: &[Fact],
     duals: &[i64],
     k: u32,
-    lines: bool,
+    way: Way,
 ) -> Result<Option<Priced>, Fail>
     ensures { IfOk result (λ answer. IsSome answer → k < aircraft book.now) }
 {
     let table = costs(alloc, book)?;
     let net = Net::new(alloc, book)?;
-    priced_under(alloc, book, &table, &net, facts, duals, k, lines)
+    priced_under(alloc, book, &table, &net, facts, duals, k, way)
 }
 
 fn priced(
@@ -172,7 +197,7 @@ fn priced(
 ) -> Result<Option<Priced>, Fail>
     ensures { IfOk result (λ answer. IsSome answer → k < aircraft book.now) }
 {
-    priced_by(alloc, book, facts, duals, k, true)
+    priced_by(alloc, book, facts, duals, k, Way::Lines)
 }
 
 // The weight of an answer; none where the aircraft is stuck.
@@ -316,5 +341,41 @@ fn dear_arrival_survives_dominance(rt: HostRuntime) -> Result<(), Fail> {
     assert!(rt; three, "three landings");
     let four = is_dear(rt.alloc(), 4, 240_000, &[0, 1, 2, 3, 4])?;
     assert!(rt; four, "four landings");
+    Ok(())
+}
+
+// There and back twice: so many landings between stops of an hour at airport 0. So airport 0 has two windows for two flights
+// that end there, and airport 1 has one.
+fn without_bands(alloc: Global, limit: i64) -> Result<Book, Fail> {
+    let rows = [
+        flight((0, 1), (360, 420)),
+        flight((1, 0), (450, 510)),
+        flight((0, 1), (600, 660)),
+        flight((1, 0), (690, 750)),
+    ];
+    let landings = counters(alloc, 0, &[(CounterKind::Landings, limit, 60)])?;
+    book(alloc, &rows, &[0, 1], 30, landings, Vec::new(alloc))
+}
+
+// Whether the first aircraft, by duals of 100, weighs so much this way.
+fn is_lighter(alloc: Global, limit: i64, weight: i64, way: Way) -> Result<bool, Fail> {
+    let book = without_bands(alloc, limit)?;
+    let answer = priced_by(alloc, &book, &[], &[100_000; 4], 0, way)?;
+    Ok(match answer {
+        Some(Priced::Best { value, .. }) => value == weight,
+        _ => false,
+    })
+}
+
+// Lines pay at airport 1 and not at airport 0, so a pricer that chooses goes both ways here. Each flight costs 60 and saves
+// 100; after one landing at most the aircraft stays away, and after two it waits at airport 0 until they are cleared.
+#[test]
+fn lines_at_one_airport_of_two(rt: HostRuntime) -> Result<(), Fail> {
+    for way in [Way::Chosen, Way::Lines, Way::Links] {
+        for (limit, weight) in [(1, -40_000), (2, -160_000), (4, -160_000)] {
+            let right = is_lighter(rt.alloc(), limit, weight, way)?;
+            assert!(rt; right, "{way:?}, {limit} landings");
+        }
+    }
     Ok(())
 }

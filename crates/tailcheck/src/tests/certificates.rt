@@ -81,7 +81,7 @@ fn each_is_judged_so(rt: &impl Abort, alloc: Global, cases: &[Case<'_>]) -> Resu
 // The certificate with some of its lines replaced: from this line on so many by these.
 #[test]
 fn damage_is_found_at_its_line(rt: HostRuntime) -> Result<(), Fail> {
-    for (first, count, new, printed) in [
+    for &(first, count, new, printed) in &[
         (1, 0, "", "yes optimal 240\n"),
         (7, 1, "", "no 5 OpenCover\n"),
         (5, 1, "cover 0 0\n", "no 5 OpenCover\n"),

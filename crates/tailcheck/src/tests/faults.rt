@@ -7,7 +7,7 @@ use trial_texts::{BROKEN, LEGAL, MISSING, NO_PLAN, files_of};
 // A write that fails ends the run with what was printed before it.
 #[test]
 fn a_failed_write_ends_a_run(rt: HostRuntime) -> Result<(), Fail> {
-    for (typed, put, status, printed) in [
+    for &(typed, put, status, printed) in &[
         (LEGAL, 1, 6, ""),
         (LEGAL, 2, 0, "legal 120\n"),
         (BROKEN, 1, 6, ""),

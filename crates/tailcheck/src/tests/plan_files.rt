@@ -12,7 +12,7 @@ use trial_texts::{
 // Each refusal at its line.
 #[test]
 fn plan_files_are_refused_at_their_place(rt: HostRuntime) -> Result<(), Fail> {
-    for (plan, printed) in [
+    for &(plan, printed) in &[
         ("infeasible\n", "refused 3 plan 1\n"),
         ("", "refused 3 plan 1\n"),
         ("\n", "refused 3 plan 1\n"),
@@ -108,7 +108,7 @@ fn a_plan_file_may_be_too_big(rt: HostRuntime) -> Result<(), Fail> {
 fn tables_are_refused_before_the_plan(rt: HostRuntime) -> Result<(), Fail> {
     let late = "F1,flight,ARN,OSL,2025-03-03T07:00,2025-03-03T07:00,,,,\n";
     let unknown = "F1,flight,ARN,LHR,2025-03-03T06:00,2025-03-03T07:00,,,,\n";
-    for (typed, printed) in [
+    for &(typed, printed) in &[
         (
             Typed {
                 timetable: &[TIMETABLE, late],

@@ -11,7 +11,7 @@ use trial_texts::{
 // The plans of two flights and one aircraft.
 #[test]
 fn plans_of_two_flights_are_judged(rt: HostRuntime) -> Result<(), Fail> {
-    for (plan, status, printed) in [
+    for &(plan, status, printed) in &[
         // the planner's report, also where its first line says something else
         ("optimal 120\nA1: F1 F2\n", 0, "legal 120\n"),
         ("optimal 5\nA1: F1 F2\n", 0, "legal 120\n"),
@@ -51,7 +51,7 @@ fn plans_of_two_flights_are_judged(rt: HostRuntime) -> Result<(), Fail> {
 // Counters, with and without a reset, and what a wait costs.
 #[test]
 fn counters_are_judged(rt: HostRuntime) -> Result<(), Fail> {
-    for (records, aircraft, rules, plan, status, printed) in [
+    for &(records, aircraft, rules, plan, status, printed) in &[
         (
             FOUR_FLIGHTS,
             ONE_AT_ARLANDA,
@@ -102,7 +102,7 @@ fn counters_are_judged(rt: HostRuntime) -> Result<(), Fail> {
 // Who may fly what, and what it costs.
 #[test]
 fn aircraft_are_judged(rt: HostRuntime) -> Result<(), Fail> {
-    for (records, aircraft, rules, plan, status, printed) in [
+    for &(records, aircraft, rules, plan, status, printed) in &[
         (
             AT_ONCE,
             CHEAP_AND_DEAR,
@@ -165,7 +165,7 @@ fn aircraft_are_judged(rt: HostRuntime) -> Result<(), Fail> {
 #[test]
 fn curfews_are_judged(rt: HostRuntime) -> Result<(), Fail> {
     let at_oslo = "A1,P,OSL,2025-03-03T00:00,0,,,\n";
-    for (records, status, printed) in [
+    for &(records, status, printed) in &[
         (
             "F1,flight,OSL,ARN,2025-03-03T20:59,2025-03-03T21:59,,,,\n",
             0,

@@ -12,8 +12,8 @@ fn run_as(alloc: Global, words: &[&str]) -> Result<Seen, Fail> {
 // Words that do not name three tables and one file to judge by them.
 #[test]
 fn other_words_are_refused(rt: HostRuntime) -> Result<(), Fail> {
-    for words in [
-        [].as_slice(),
+    let rows: &[&[&str]] = &[
+        &[],
         &["tailcheck"],
         &["tailcheck", "t", "f", "r"],
         &["tailcheck", "t", "f", "--plan", "p"],
@@ -23,7 +23,8 @@ fn other_words_are_refused(rt: HostRuntime) -> Result<(), Fail> {
         &["tailcheck", "t", "f", "r", "--plan", "p", "--cert", "p"],
         &["tailcheck", "t", "f", "r", "--plan", "p", "--plan", "p"],
         &["tailcheck", "t", "f", "r", "--plan", "p", "--help"],
-    ] {
+    ];
+    for &words in rows {
         let seen = run_as(rt.alloc(), words)?;
         assert!(rt;
             seen.is(
@@ -39,7 +40,7 @@ fn other_words_are_refused(rt: HostRuntime) -> Result<(), Fail> {
 // The option stands anywhere, and each name is that of its own file.
 #[test]
 fn names_are_taken_in_their_places(rt: HostRuntime) -> Result<(), Fail> {
-    for words in [
+    for &words in &[
         ["tailcheck", "t", "f", "r", "--plan", "p"],
         ["tailcheck", "--plan", "p", "t", "f", "r"],
     ] {
@@ -57,7 +58,7 @@ fn names_are_taken_in_their_places(rt: HostRuntime) -> Result<(), Fail> {
 // Any file can be judged as a certificate: a plan, and one of the tables.
 #[test]
 fn other_files_are_no_certificates(rt: HostRuntime) -> Result<(), Fail> {
-    for words in [
+    for &words in &[
         ["tailcheck", "t", "f", "r", "--cert", "p"].as_slice(),
         &["tailcheck", "--cert", "t", "t", "f", "r"],
     ] {

@@ -7,7 +7,7 @@ use trial_texts::{DEAR_TYPE, ONE_AT_ARLANDA, THERE, THERE_AND_BACK};
 // The rate of a type is weighed against the fixed amount of an aircraft, to the unit.
 #[test]
 fn rates_and_fixed_amounts_decide(rt: HostRuntime) -> Result<(), Fail> {
-    for (records, aircraft, printed) in [
+    for &(records, aircraft, printed) in &[
         (
             THERE,
             "A1,Q,ARN,2025-03-03T05:00,0,,,\nA2,P,ARN,2025-03-03T05:00,59,,,\n",

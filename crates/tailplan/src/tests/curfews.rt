@@ -9,7 +9,7 @@ use trial_texts::{CHEAP_AND_DEAR, DEAR_TYPE, NIGHT, ONE_AT_ARLANDA, THERE};
 fn a_window_closes_an_airport(rt: HostRuntime) -> Result<(), Fail> {
     let flown = (0, "optimal 60\nA1: F1\n");
     let grounded = (1, "infeasible\n");
-    for (curfew, (status, printed)) in [
+    for &(curfew, (status, printed)) in &[
         // of starts: from its first minute on, and up to its end
         (
             "[[curfew]]\nairport = \"ARN\"\nfrom = \"07:00\"\nto = \"08:00\"\ntypes = []\nstart = true\nlanding = false\n",

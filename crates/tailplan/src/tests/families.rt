@@ -26,7 +26,7 @@ fn plans_so(
 
 #[test]
 fn made_tables_have_their_least_costs(rt: HostRuntime) -> Result<(), Fail> {
-    for (timetable, fleet, rules, first) in [
+    for &(timetable, fleet, rules, first) in &[
         (
             plain::TIMETABLE,
             plain::FLEET,
@@ -66,7 +66,7 @@ fn made_tables_have_their_least_costs(rt: HostRuntime) -> Result<(), Fail> {
 
 #[test]
 fn made_tables_may_have_no_plan(rt: HostRuntime) -> Result<(), Fail> {
-    for (timetable, fleet, rules) in [
+    for &(timetable, fleet, rules) in &[
         (count::TIMETABLE, count::FLEET, count::RULES),
         (place::TIMETABLE, place::FLEET, place::RULES),
     ] {

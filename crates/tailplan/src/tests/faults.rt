@@ -15,7 +15,7 @@ fn bad_files(alloc: Global) -> Result<Vec<MemFile>, Fail> {
 // takes two reads: its bytes, and its end.
 #[test]
 fn faults_end_a_run(rt: HostRuntime) -> Result<(), Fail> {
-    for (read, put, status, printed) in [
+    for &(read, put, status, printed) in &[
         (0, 2, 6, "optimal 120\n"),
         (0, 1, 6, ""),
         (0, 3, 0, "optimal 120\nA1: F1 F2\n"),
@@ -37,7 +37,7 @@ fn faults_end_a_run(rt: HostRuntime) -> Result<(), Fail> {
 // A file that isn't there can't be read.
 #[test]
 fn a_missing_file_ends_a_run(rt: HostRuntime) -> Result<(), Fail> {
-    for words in [
+    for &words in &[
         ["tailplan", "none", "f", "r"],
         ["tailplan", "t", "none", "r"],
         ["tailplan", "t", "f", "none"],

@@ -26,7 +26,7 @@ F2,flight,OSL,ARN,2025-03-03T07:00,2025-03-03T08:00,,,,\n";
 // A turn is as long as the type and the airport ask, to the minute.
 #[test]
 fn a_turn_is_the_longer_of_two(rt: HostRuntime) -> Result<(), Fail> {
-    for (records, rules, status, printed) in [
+    for &(records, rules, status, printed) in &[
         (THERE_AND_BACK, LONGER_TURN, 1, "infeasible\n"),
         (BACK_AFTER_44, LONGER_TURN, 0, "optimal 121\nA1: F1 F2\n"),
         (BACK_AFTER_44, SLOW_OSLO, 1, "infeasible\n"),
@@ -43,7 +43,7 @@ fn a_turn_is_the_longer_of_two(rt: HostRuntime) -> Result<(), Fail> {
 // An aircraft flies on from where it is and when it is ready, without a turn at first.
 #[test]
 fn a_route_begins_where_the_aircraft_is(rt: HostRuntime) -> Result<(), Fail> {
-    for (records, aircraft, status, printed) in [
+    for &(records, aircraft, status, printed) in &[
         (
             THERE,
             "A1,P,ARN,2025-03-03T06:00,0,,,\n",
@@ -78,7 +78,7 @@ F2,flight,OSL,ARN,2025-03-03T07:29,2025-03-03T08:29,,,,\n",
 // Time on the ground is spent in one place, and needs no turn before it or behind it.
 #[test]
 fn ground_time_is_part_of_a_route(rt: HostRuntime) -> Result<(), Fail> {
-    for (records, status, printed) in [
+    for &(records, status, printed) in &[
         (
             "F1,flight,ARN,OSL,2025-03-03T06:00,2025-03-03T07:00,,,,\n\
 G1,ground,OSL,OSL,2025-03-03T07:00,2025-03-03T08:00,,,,\n\

@@ -105,7 +105,7 @@ fn of_two_faults_the_first_is_refused(rt: HostRuntime) -> Result<(), Fail> {
         new: "name = \"A320\"",
     };
     let mut printed = "refused 11 rules 2\n";
-    for (table, old, new, next) in [
+    for &(table, old, new, next) in &[
         (
             b'r',
             "name = \"OSL\"",

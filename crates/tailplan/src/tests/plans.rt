@@ -52,7 +52,7 @@ fn greedy_is_not_least(rt: HostRuntime) -> Result<(), Fail> {
 // Nothing to fly, and nobody to fly it.
 #[test]
 fn empty_tables_have_answers(rt: HostRuntime) -> Result<(), Fail> {
-    for (records, aircraft, status, printed) in [
+    for &(records, aircraft, status, printed) in &[
         ("", TWO_AT_ARLANDA, 0, "optimal 0\nA1:\nA2:\n"),
         ("", "", 0, "optimal 0\n"),
         (THERE, "", 1, "infeasible\n"),
@@ -66,7 +66,7 @@ fn empty_tables_have_answers(rt: HostRuntime) -> Result<(), Fail> {
 // Activities are numbered by start and then by id, whatever the order of their table; the fleet keeps its order.
 #[test]
 fn the_order_of_a_table_is_free(rt: HostRuntime) -> Result<(), Fail> {
-    for (records, aircraft, printed) in [
+    for &(records, aircraft, printed) in &[
         (ONE_EACH, TWO_AT_ARLANDA, "optimal 120\nA1: FB\nA2: FA\n"),
         (
             "F3,flight,ARN,OSL,2025-03-03T09:00,2025-03-03T11:00,,,,\n\
@@ -139,7 +139,7 @@ fn eleven_flights_at_once_need_more_than_one(rt: HostRuntime) -> Result<(), Fail
 // A leap day, and the last minute that a table can name.
 #[test]
 fn the_calendar_has_these_moments(rt: HostRuntime) -> Result<(), Fail> {
-    for (records, aircraft, status, printed) in [
+    for &(records, aircraft, status, printed) in &[
         (
             "F1,flight,ARN,OSL,2000-02-29T00:00,2000-02-29T01:00,,,,\n",
             "A1,P,ARN,2000-02-28T23:59,0,,,\n",

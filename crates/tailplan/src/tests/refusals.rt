@@ -12,7 +12,7 @@ const ARLANDA_AGAIN: &str = "[[airport]]\nname = \"ARN\"\noffset = 0\nturn = 0\n
 // A timetable that is refused for one of its records.
 #[test]
 fn the_timetable_is_refused_at_its_place(rt: HostRuntime) -> Result<(), Fail> {
-    for (records, printed) in [
+    for &(records, printed) in &[
         (
             "F1,flight,ARN,OSL,2025-03-03T06:00,2025-03-03T07:00,,,\n",
             "refused 4 timetable 2\n",
@@ -64,7 +64,7 @@ F1,flight,OSL,ARN,2025-03-03T07:30,2025-03-03T08:30,,,,\n",
 // Rules that are refused.
 #[test]
 fn the_rules_are_refused_at_their_place(rt: HostRuntime) -> Result<(), Fail> {
-    for (rules, printed) in [
+    for &(rules, printed) in &[
         ("[[type", "refused 13 rules 0\n"),
         (
             "[[type]]\nname = \"P\"\nrate = 1\nturn = 30\nspeed = 1\n",
@@ -99,7 +99,7 @@ fn the_rules_are_refused_at_their_place(rt: HostRuntime) -> Result<(), Fail> {
 fn names_are_refused_where_they_stand(rt: HostRuntime) -> Result<(), Fail> {
     let unknown = "F1,flight,XXX,OSL,2025-03-03T06:00,2025-03-03T07:00,,,,\n";
     let twice = "A1,P,ARN,2025-03-03T05:00,0,,,\nA1,P,ARN,2025-03-03T05:00,0,,,\n";
-    for (records, aircraft, rules, printed) in [
+    for &(records, aircraft, rules, printed) in &[
         (THERE, ONE_AT_ARLANDA, ARLANDA_AGAIN, "refused 11 rules 4\n"),
         (
             THERE,
@@ -148,7 +148,7 @@ F1,flight,XXX,OSL,2025-03-03T06:00,2025-03-03T07:00,,,,\n",
 #[test]
 fn tables_are_judged_in_their_order(rt: HostRuntime) -> Result<(), Fail> {
     let bad_record = "F 1,flight,ARN,OSL,2025-03-03T06:00,2025-03-03T07:00,,,,\n";
-    for (records, aircraft, more_rules, printed) in [
+    for &(records, aircraft, more_rules, printed) in &[
         (
             THERE,
             "A1,P,ARN,2025-03-03T05:00,100001,,,\n",
@@ -191,7 +191,7 @@ fn tables_are_judged_in_their_order(rt: HostRuntime) -> Result<(), Fail> {
 // A table without its header, or without anything. Rules may be empty.
 #[test]
 fn a_header_is_needed(rt: HostRuntime) -> Result<(), Fail> {
-    for (timetable, fleet, rules, status, printed) in [
+    for &(timetable, fleet, rules, status, printed) in &[
         ("", FLEET, RULES, 3, "refused 3 timetable 1\n"),
         (THERE, FLEET, RULES, 3, "refused 3 timetable 1\n"),
         (TIMETABLE, "", RULES, 3, "refused 3 fleet 1\n"),

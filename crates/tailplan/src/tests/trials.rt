@@ -27,7 +27,7 @@ fn trial_of(alloc: Global, seed: &str) -> Result<Seen, Fail> {
 #[test]
 fn trials_cost_what_was_made(rt: HostRuntime) -> Result<(), Fail> {
     let alloc = rt.alloc();
-    for (seed, cost) in [
+    for &(seed, cost) in &[
         ("0", "21737"),
         ("1", "21418"),
         ("2", "21367"),
@@ -63,7 +63,7 @@ fn trials_cost_what_was_made(rt: HostRuntime) -> Result<(), Fail> {
 // Each line is one call, and a write that fails ends the trial. No file is touched: the first call of one would fail.
 #[test]
 fn a_failed_write_ends_a_trial(rt: HostRuntime) -> Result<(), Fail> {
-    for (put, status, printed) in [
+    for &(put, status, printed) in &[
         (1, 6, ""),
         (2, 6, "trial 1 activities 120 aircraft 8\n"),
         (3, 6, "trial 1 activities 120 aircraft 8\noptimal 21418\n"),
@@ -135,7 +135,7 @@ fn a_timetable_may_be_called_trial(rt: HostRuntime) -> Result<(), Fail> {
 // Seeds that are too great, not a number, or not alone.
 #[test]
 fn other_seeds_are_refused(rt: HostRuntime) -> Result<(), Fail> {
-    for words in [
+    for &words in &[
         ["tailplan", "trial", "1000001"].as_slice(),
         &["tailplan", "trial", "01"],
         &["tailplan", "trial"],

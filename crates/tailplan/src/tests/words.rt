@@ -19,8 +19,8 @@ fn files_with(alloc: Global, name: &str) -> Result<Vec<MemFile>, Fail> {
 // Words that name no three tables are refused, and no file is asked for: there is none.
 #[test]
 fn other_words_are_refused(rt: HostRuntime) -> Result<(), Fail> {
-    for words in [
-        [].as_slice(),
+    let rows: &[&[&str]] = &[
+        &[],
         &["tailplan"],
         &["tailplan", "t"],
         &["tailplan", "t", "f"],
@@ -37,7 +37,8 @@ fn other_words_are_refused(rt: HostRuntime) -> Result<(), Fail> {
         &["tailplan", "t", "f", "r", "--cert", "c", "--cert", "c"],
         &["tailplan", "-t", "f", "r"],
         &["tailplan", "t", "f", "--"],
-    ] {
+    ];
+    for &words in rows {
         let seen = run_over(rt.alloc(), words, Vec::new(rt.alloc()))?;
         assert!(rt; seen.is(2, USAGE), "{words:?}");
     }
@@ -47,13 +48,14 @@ fn other_words_are_refused(rt: HostRuntime) -> Result<(), Fail> {
 // Three names are taken, whatever the program is called; behind two dashes also names that begin with a dash.
 #[test]
 fn three_names_are_taken(rt: HostRuntime) -> Result<(), Fail> {
-    for words in [
-        ["tailplan", "t", "f", "r"].as_slice(),
+    let rows: &[&[&str]] = &[
+        &["tailplan", "t", "f", "r"],
         &["", "t", "f", "r"],
         &["tailplan", "--", "t", "f", "r"],
         &["tailplan", "t", "--", "f", "r"],
         &["tailplan", "--", "-t", "f", "r"],
-    ] {
+    ];
+    for &words in rows {
         let seen = run_over(rt.alloc(), words, files_with(rt.alloc(), "-t")?)?;
         assert!(rt; seen.is(0, PLANNED), "{words:?}");
     }
@@ -63,7 +65,7 @@ fn three_names_are_taken(rt: HostRuntime) -> Result<(), Fail> {
 // The tables are those of their places: the fleet's name in the timetable's place is no timetable.
 #[test]
 fn each_name_has_its_place(rt: HostRuntime) -> Result<(), Fail> {
-    for (words, printed) in [
+    for &(words, printed) in &[
         (["tailplan", "f", "t", "r"], "refused 3 timetable 1\n"),
         (["tailplan", "t", "t", "r"], "refused 3 fleet 1\n"),
         (["tailplan", "t", "f", "f"], "refused 13 rules 0\n"),

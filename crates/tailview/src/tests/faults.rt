@@ -7,7 +7,7 @@ use trial_texts::{BROKEN, LEGAL, MISSING, NO_PLAN, files_of};
 // A write that fails ends a run, whichever line it is that of.
 #[test]
 fn a_failed_write_ends_a_run(rt: HostRuntime) -> Result<(), Fail> {
-    for (typed, put, status, printed) in [
+    for &(typed, put, status, printed) in &[
         (LEGAL, 1, 6, ""),
         (NO_PLAN, 1, 6, ""),
         (NO_PLAN, 2, 3, "refused 3 plan 1\n"),

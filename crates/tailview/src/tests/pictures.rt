@@ -11,7 +11,7 @@ use trial_texts::{
 #[test]
 fn a_legal_plan_is_drawn(rt: HostRuntime) -> Result<(), Fail> {
     let seen = run_there_and_back(rt.alloc(), "optimal 120\nA1: F1 F2\n")?;
-    for piece in [
+    for &piece in &[
         "<svg xmlns='http://www.w3.org/2000/svg' viewBox='0 0 1780 250' width='1186' height='166'>\n<style>",
         "<text class='title' x='10' y='40'>cost 120</text>\n",
         "<text class='date' x='344' y='82'>2025-03-03</text>\n",
@@ -72,7 +72,7 @@ const LANDINGS: &str =
 // Each rule that a bar can break, by its name above or below the bar, which is red.
 #[test]
 fn broken_rules_are_named_in_red(rt: HostRuntime) -> Result<(), Fail> {
-    for (records, more_rules, plan, rule) in [
+    for &(records, more_rules, plan, rule) in &[
         (
             THERE_AND_BACK,
             "",
@@ -139,12 +139,8 @@ fn curfews_and_pages_on_request(rt: HostRuntime) -> Result<(), Fail> {
     let band =
         "<pattern id='curfew0' patternUnits='userSpaceOnUse' x='1660' width='1440' height='250'>\
 <rect class='curfew' width='390' height='250'/></pattern>";
-    for (words, has_band, has_page) in [
-        (
-            ["tailview", "t", "f", "r", "--plan", "p"].as_slice(),
-            false,
-            false,
-        ),
+    let rows: &[(&[&str], bool, bool)] = &[
+        (&["tailview", "t", "f", "r", "--plan", "p"], false, false),
         (
             &["tailview", "t", "f", "r", "--plan", "p", "--curfews", "OSL"],
             true,
@@ -180,7 +176,8 @@ fn curfews_and_pages_on_request(rt: HostRuntime) -> Result<(), Fail> {
             true,
             true,
         ),
-    ] {
+    ];
+    for &(words, has_band, has_page) in rows {
         let seen = run_as(rt.alloc(), words)?;
         assert!(rt; seen.has(0, "<svg xmlns"), "{words:?}");
         assert!(rt; seen.has(0, band) == has_band, "{words:?}");

@@ -12,8 +12,8 @@ fn run_as(alloc: Global, words: &[&str]) -> Result<Seen, Fail> {
 // Words that do not name three tables and one plan's file.
 #[test]
 fn other_words_are_refused(rt: HostRuntime) -> Result<(), Fail> {
-    for words in [
-        [].as_slice(),
+    let rows: &[&[&str]] = &[
+        &[],
         &["tailview"],
         &["tailview", "t", "f", "r"],
         &["tailview", "t", "f", "--plan", "p"],
@@ -26,7 +26,8 @@ fn other_words_are_refused(rt: HostRuntime) -> Result<(), Fail> {
         &["tailview", "t", "f", "r", "--plan", "p", "--html=x"],
         &["tailview", "t", "f", "r", "--plan", "p", "--plan", "p"],
         &["tailview", "t", "f", "r", "--plan", "p", "--help"],
-    ] {
+    ];
+    for &words in rows {
         let seen = run_as(rt.alloc(), words)?;
         assert!(rt;
             seen.is(
@@ -42,7 +43,7 @@ fn other_words_are_refused(rt: HostRuntime) -> Result<(), Fail> {
 // The option stands anywhere, and each name is that of its own file.
 #[test]
 fn names_are_taken_in_their_places(rt: HostRuntime) -> Result<(), Fail> {
-    for words in [
+    for &words in &[
         ["tailview", "t", "f", "r", "--plan", "p"],
         ["tailview", "--plan", "p", "t", "f", "r"],
     ] {

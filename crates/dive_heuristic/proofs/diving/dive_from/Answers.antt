@@ -31,12 +31,11 @@ returns-in-Some-clause-order c =
     c.new-steps.result.items c.begin.new.steps.items c.go_down.new.steps.items c.new-steps.ensures.items c.in_ok-found.ensures.goes c.in_ok-end.ensures.goes)
 
 -- the routes at the end are a plan
-pub plan_cost-cost-requires-clause-legal : goal.plan_cost-cost-requires-clause-legal
-plan_cost-cost-requires-clause-legal c =
+pub legal_cost-cost-requires-clause-legal : goal.legal_cost-cost-requires-clause-legal
+legal_cost-cost-requires-clause-legal c =
     let stands : StandsAt c.args.table.now c.args.book.now c.go_down.new.marks.facts c.args.duals.now.values c.go_down.new.routes.items = search rules in
     let once : IsEachInOne c.args.book.now c.go_down.new.routes.items = search rules in
-    let same : c.deref.result.now ≡ c.go_down.new.routes.items = search rules in
-    rw same (plan_of c.args.table.now c.args.book.now c.args.duals.now.values c.go_down.new.marks.facts c.go_down.new.routes.items stands.least once)
+    plan_of c.args.table.now c.args.book.now c.args.duals.now.values c.go_down.new.marks.facts c.go_down.new.routes.items stands.least once
 
 pub returns-clause-dive : goal.returns-clause-dive
 returns-clause-dive c =

@@ -1,6 +1,6 @@
 //! Pricing by chance: the answer is the least weight of all routes, and the route has it.
 
-use super::{priced, priced_by, weight};
+use super::{Way, priced, priced_by, weight};
 use crate::tests::questions::{Question, make_question};
 use crate::tests::weights::{Weights, weights_of};
 use pricing::Priced;
@@ -9,17 +9,18 @@ use std::process::Abort;
 use std::test::Fail;
 use tail_book::*;
 
-// What an aircraft weighs with lines or link by link.
-fn weight_by(alloc: Global, asked: &Question, k: u32, lines: bool) -> Result<Option<i64>, Fail> {
-    let answer = priced_by(alloc, &asked.book, &asked.facts, &asked.duals, k, lines)?;
+// What an aircraft weighs this way.
+fn weight_by(alloc: Global, asked: &Question, k: u32, way: Way) -> Result<Option<i64>, Fail> {
+    let answer = priced_by(alloc, &asked.book, &asked.facts, &asked.duals, k, way)?;
     Ok(weight(&answer))
 }
 
-// Whether lines and single links give an aircraft the same weight.
+// Whether an aircraft has the same weight whichever way its labels go.
 fn are_alike(alloc: Global, asked: &Question, k: u32) -> Result<bool, Fail> {
-    let by_lines = weight_by(alloc, asked, k, true)?;
-    let by_links = weight_by(alloc, asked, k, false)?;
-    Ok(by_lines == by_links)
+    let by_lines = weight_by(alloc, asked, k, Way::Lines)?;
+    let by_links = weight_by(alloc, asked, k, Way::Links)?;
+    let chosen = weight_by(alloc, asked, k, Way::Chosen)?;
+    Ok(by_lines == by_links && chosen == by_links)
 }
 
 #[test]

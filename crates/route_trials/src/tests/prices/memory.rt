@@ -1,18 +1,17 @@
 //! Pricing for which memory may run out. The test here holds where any one allocation fails, and where none does;
 //! `tests/each_allocation` runs it with each of them failing in turn.
 
-ghost use Rattle.std.specs.Prelude.{◌≡◌, ◌<◌, IfOk};
+ghost use Rattle.std.specs.Prelude.{◌≡◌, ◌<◌};
 ghost use Rattle.tail_book.specs.Lookup.{aircraft};
 ghost use Rattle.tail_book.specs.inside.CostTable.{IsTableFor};
 ghost use Rattle.connection_net.specs.Net.{net_of};
 ghost use Rattle.branch_marks.specs.Settled.{AreDuals};
 ghost use Rattle.branch_marks.specs.inside.MarkTables.{AreMarksOf};
-ghost use Rattle.pricing.specs.inside.Prepared.{IsPricerOf};
 
-use super::{is_route, musts, store, twice};
+use super::{Way, is_route, musts, pricer_by, store, twice};
 use branch_marks::{Fact, Marks};
 use connection_net::Net;
-use pricing::{Priced, Pricer};
+use pricing::Priced;
 use std::alloc::Global;
 use std::process::{Abort, ExitCode, Termination};
 use std::test::Fail;
@@ -26,17 +25,6 @@ struct Prices {
     again: Option<Priced>,
 }
 
-fn pricer_of(alloc: Global, book: &Book, table: &CostTable, lines: bool) -> Result<Pricer, Memory>
-    requires { IsTableFor book.now table.now }
-    ensures { IfOk result (IsPricerOf book.now table.now) }
-{
-    if lines {
-        Pricer::new(alloc, book, table)
-    } else {
-        Pricer::without_lines(alloc, book, table)
-    }
-}
-
 // Prices an aircraft twice with a pricer and a store that are kept, whatever became of the first time.
 fn price_twice(
     alloc: Global,
@@ -46,7 +34,7 @@ fn price_twice(
     marks: &Marks,
     duals: &Duals,
     k: u32,
-    lines: bool,
+    way: Way,
 ) -> Result<Prices, Memory>
     requires table { IsTableFor book.now table.now }
     requires net { net.now ≡ net_of book.now }
@@ -55,7 +43,7 @@ fn price_twice(
     requires aircraft { k < aircraft book.now }
 {
     let mut store = store(alloc, book)?;
-    let mut pricer = pricer_of(alloc, book, table, lines)?;
+    let mut pricer = pricer_by(alloc, book, table, way)?;
     let first = pricer
         .price(book, table, net, marks, duals, k, &mut store)
         .ok();
@@ -70,7 +58,7 @@ fn prices_under(
     alloc: Global,
     book: &Book,
     facts: &[Fact],
-    lines: bool,
+    way: Way,
 ) -> Result<Option<Prices>, Fail> {
     let table = costs(alloc, book)?;
     let net = Net::new(alloc, book)?;
@@ -79,7 +67,7 @@ fn prices_under(
     if book.tails.is_empty() || !are_duals(book, &table, &duals) {
         return Ok(None);
     }
-    let prices = price_twice(alloc, book, &table, &net, &marks, &duals, 0, lines)?;
+    let prices = price_twice(alloc, book, &table, &net, &marks, &duals, 0, way)?;
     Ok(Some(prices))
 }
 
@@ -95,12 +83,12 @@ fn are_so(prices: &Prices, weight: i64, route: &[u32]) -> bool {
 // link.
 fn each_is_priced(rt: &impl Abort, alloc: Global) -> Result<(), Fail> {
     let book = twice(alloc, 3, false)?;
-    for lines in [true, false] {
-        match prices_under(alloc, &book, &musts(), lines)? {
+    for way in [Way::Lines, Way::Links] {
+        match prices_under(alloc, &book, &musts(), way)? {
             Some(prices) => {
                 assert!(rt;
                     are_so(&prices, 740_000, &[0, 1, 3, 4]),
-                    "{prices:?}, lines: {lines}"
+                    "{prices:?}, {way:?}"
                 )
             }
             None => assert!(rt; false, "no aircraft"),

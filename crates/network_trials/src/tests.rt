@@ -1,0 +1,7 @@
+//! What is linked, what marks leave open, and what follows from them, on small books.
+
+mod floors;
+mod marks;
+mod networks;
+mod propagation;
+mod tree_logs;

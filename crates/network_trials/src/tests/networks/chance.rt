@@ -1,0 +1,188 @@
+//! Books by chance, with every kind of rule of flying: the rows say of every pair what the rules say of each aircraft.
+
+ghost use Rattle.std.specs.Prelude.{◌≡◌, ◌<◌};
+ghost use Rattle.tail_book.specs.Lookup.{activities, aircraft};
+ghost use Rattle.connection_net.specs.Net.{net_of};
+
+use super::{aircraft, names, rules};
+use connection_net::Net;
+use connection_net::laws::rows_for_each;
+use dice::Dice;
+use std::alloc::Global;
+use std::process::Abort;
+use std::test::Fail;
+use tail_book::*;
+use turn_rules::link;
+
+// Up to two numbers below 3, and none in half of the cases.
+fn few(dice: &mut Dice, alloc: Global) -> Result<Vec<u32>, Memory> {
+    let mut numbers = Vec::new(alloc);
+    if dice.below(2) == 0 {
+        return Ok(numbers);
+    }
+    for _ in 0..dice.below(3) {
+        numbers.push(dice.below(3))?;
+    }
+    Ok(numbers)
+}
+
+// Two curfews, each for starts or landings of some types.
+fn two_curfews(alloc: Global, dice: &mut Dice) -> Result<Vec<Curfew>, Memory> {
+    let mut curfews = Vec::new(alloc);
+    for _ in 0..2 {
+        curfews.push(Curfew {
+            airport: dice.below(3),
+            from: dice.below(1440) as i64,
+            to: dice.below(1440) as i64,
+            types: few(dice, alloc)?,
+            starts: dice.below(2) == 0,
+            landings: dice.below(2) == 0,
+        })?;
+    }
+    Ok(curfews)
+}
+
+// Types with turns that differ, and three airports.
+fn three_types(alloc: Global, dice: &mut Dice) -> Result<Rules, Memory> {
+    let turns = [
+        dice.below(60) as i64,
+        dice.below(300) as i64,
+        dice.below(1441) as i64,
+    ];
+    let mut made = rules(alloc, &turns, 3)?;
+    made.curfews = two_curfews(alloc, dice)?;
+    Ok(made)
+}
+
+fn four_tails(alloc: Global, dice: &mut Dice) -> Result<Vec<Tail>, Memory> {
+    let mut tails = Vec::new(alloc);
+    for name in names().iter().take(4) {
+        let carried = (dice.below(3), dice.below(3), 1000 + dice.below(1500) as i64);
+        let mut tail = aircraft(alloc, *name, &carried);
+        tail.tags = few(dice, alloc)?;
+        if dice.below(4) == 0 {
+            tail.avoid = few(dice, alloc)?;
+        }
+        tails.push(tail)?;
+    }
+    Ok(tails)
+}
+
+fn an_activity(alloc: Global, dice: &mut Dice, id: Name, start: i64) -> Result<Activity, Memory> {
+    let (from, to, minutes) = (dice.below(3), dice.below(3), 1 + dice.below(300) as i64);
+    let flight = dice.below(4) > 0;
+    Ok(Activity {
+        id,
+        flight,
+        from,
+        to: if flight { to } else { from },
+        start,
+        end: start.saturating_add(minutes),
+        types: few(dice, alloc)?,
+        tags: if dice.below(4) == 0 {
+            few(dice, alloc)?
+        } else {
+            Vec::new(alloc)
+        },
+        tail: if dice.below(6) == 0 {
+            Some(dice.below(4))
+        } else {
+            None
+        },
+        resets: Vec::new(alloc),
+    })
+}
+
+fn ten_activities(alloc: Global, dice: &mut Dice) -> Result<Vec<Activity>, Memory> {
+    let (mut activities, mut start) = (Vec::new(alloc), 1000i64);
+    for name in names().iter() {
+        activities.push(an_activity(alloc, dice, *name, start)?)?;
+        start = start.saturating_add(1 + dice.below(400) as i64);
+    }
+    Ok(activities)
+}
+
+// A book of three types and airports, four aircraft and ten activities, over up to three days.
+fn book_by_chance(alloc: Global, seed: u64) -> Result<Book, Fail> {
+    let mut dice = Dice::new(seed);
+    let rules = three_types(alloc, &mut dice)?;
+    let tails = four_tails(alloc, &mut dice)?;
+    let book = Book::new(ten_activities(alloc, &mut dice)?, tails, rules);
+    Ok(book.ok_or("no book")?)
+}
+
+// Whether some aircraft has a link, by the rules.
+fn some_link(book: &Book, a: u32, b: u32) -> bool
+    requires before { a < activities book.now }
+    requires after { b < activities book.now }
+{
+    let mut some = false;
+    for k in 0..book.tails.len() as u32 {
+        some |= link(book, k, Place::After(a), b);
+    }
+    some
+}
+
+// Each row is what the rules say of every number. Counts the links.
+fn compare(rt: &impl Abort, alloc: Global, book: &Book, net: &Net) -> Result<usize, Fail>
+    requires { net.now ≡ net_of book.now }
+{
+    rows_for_each();
+    let mut linked = 0usize;
+    for x in 0..book.activities.len() as u32 {
+        let (mut after, mut before) = (Vec::new(alloc), Vec::new(alloc));
+        for y in 0..book.activities.len() as u32 {
+            if some_link(book, x, y) {
+                after.push(y)?;
+            }
+            if some_link(book, y, x) {
+                before.push(y)?;
+            }
+        }
+        assert!(rt; net.successors(x) == after.as_slice(), "after {x}");
+        assert!(rt; net.predecessors(x) == before.as_slice(), "before {x}");
+        linked = linked.saturating_add(after.len());
+    }
+    Ok(linked)
+}
+
+// So are the rows of what each aircraft may fly first. Counts these.
+fn compare_heads(rt: &impl Abort, alloc: Global, book: &Book, net: &Net) -> Result<usize, Fail>
+    requires { net.now ≡ net_of book.now }
+{
+    rows_for_each();
+    let mut heads = 0usize;
+    for k in 0..book.tails.len() as u32 {
+        let mut first = Vec::new(alloc);
+        for b in 0..book.activities.len() as u32 {
+            if link(book, k, Place::Carry, b) {
+                first.push(b)?;
+            }
+        }
+        assert!(rt; net.heads(k) == first.as_slice(), "heads of {k}");
+        heads = heads.saturating_add(first.len());
+    }
+    Ok(heads)
+}
+
+// Both, over the network that is made of the book.
+fn compare_both(rt: &impl Abort, alloc: Global, book: &Book) -> Result<(usize, usize), Fail> {
+    let net = Net::new(alloc, book)?;
+    let linked = compare(rt, alloc, book, &net)?;
+    Ok((linked, compare_heads(rt, alloc, book, &net)?))
+}
+
+// Of 40 books with 1,800 pairs that could be linked, and 1,600 first flights.
+#[test]
+fn rows_say_what_the_rules_say(rt: HostRuntime) -> Result<(), Fail> {
+    let (mut linked, mut first) = (0usize, 0usize);
+    for seed in 0..40u64 {
+        let book = book_by_chance(rt.alloc(), seed)?;
+        let (links, heads) = compare_both(&rt, rt.alloc(), &book)?;
+        linked = linked.saturating_add(links);
+        first = first.saturating_add(heads);
+    }
+    assert!(rt; linked > 100 && linked < 1700, "{linked} linked");
+    assert!(rt; first > 100 && first < 1500, "{first} first");
+    Ok(())
+}

@@ -1,0 +1,10 @@
+//! What is found, audited, reported and certified on small books.
+
+mod audits;
+mod books;
+mod certificates;
+mod enumeration;
+mod lines;
+mod plans_in_pools;
+mod pools;
+mod reports;

@@ -1,0 +1,6 @@
+//! What a book is, and what the rules and the counters say of small ones.
+
+mod books;
+mod counters;
+mod curfews;
+mod turns;

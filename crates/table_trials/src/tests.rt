@@ -1,0 +1,11 @@
+//! What readers answer on small tables, and what is refused.
+
+mod books;
+mod fleets;
+mod outside;
+mod record_texts;
+mod records;
+mod rules_files;
+mod seeds;
+mod timetables;
+mod values;

@@ -1,0 +1,41 @@
+//! Tables of records as texts: so many good ones, and a good one before one of which some fields are others.
+
+use std::alloc::Global;
+use std::test::Fail;
+
+// The field of this name among the changes, and else the usual one.
+fn field_of<'a>(changes: &[(&str, &'a str)], name: &str, usual: &'a str) -> &'a str {
+    for (changed, text) in changes {
+        if *changed == name {
+            return text;
+        }
+    }
+    usual
+}
+
+// What stands in front, and a record of the usual fields with these in place of its own.
+pub fn with_fields<'a>(
+    alloc: Global,
+    front: &str,
+    usual: &[(&str, &'a str)],
+    changes: &[(&str, &'a str)],
+) -> Result<String, Fail> {
+    let mut table = format!(in alloc; "{front}")?;
+    let mut before = "";
+    for &(name, text) in usual {
+        table.push_str(before)?;
+        table.push_str(field_of(changes, name, text))?;
+        before = ",";
+    }
+    table.push('\n')?;
+    Ok(table)
+}
+
+// A header and so many records.
+pub fn table_of(alloc: Global, header: &str, record: &str, count: usize) -> Result<String, Fail> {
+    let mut table = format!(in alloc; "{header}")?;
+    for _ in 0..count {
+        table.push_str(record)?;
+    }
+    Ok(table)
+}

@@ -1,0 +1,226 @@
+//! A small table read whole, and the fields that several tables have.
+
+ghost use Rattle.std.specs.Prelude.{[], ◌∷◌, codes, length, ◌==◌, if◌then◌else◌, Ok, Err};
+ghost use Rattle.tail_text.specs.declared.refusal.Table.TheVariants.{Fleet};
+ghost use Rattle.table_records.specs.Fields.{field_at};
+
+use std::alloc::Global;
+use std::test::Fail;
+use table_records::{
+    Fields, NoRow, Records, Row, name_in, names, number_in, optional_name_in, read_table, stamp_in,
+};
+use tail_text::{Refusal, SIZE_LIMIT, Stopped, Table};
+
+// A table of the fields `name` and `note` with at most two records: how long each name is, and code 5 for an empty one.
+#[derive(Clone, Copy, PartialEq, Eq, Debug)]
+struct Size(usize);
+
+impl Row for Size {
+    ghost layout = { record {
+      table = Fleet;
+      header = codes "name" ∷ codes "note" ∷ [];
+      limit = 2;
+      row_of = λ fields. if length (field_at fields 0) == 0 then Err 5 else Ok (record { 0 = length (field_at fields 0) });
+    } };
+
+    fn table() -> Table {
+        Table::Fleet
+    }
+
+    fn limit() -> usize {
+        2
+    }
+
+    fn width() -> usize {
+        2
+    }
+
+    fn is_header(fields: &Fields) -> bool {
+        fields.are(&["name", "note"])
+    }
+
+    fn row_of(_alloc: Global, fields: &Fields) -> Result<Size, NoRow> {
+        let name = fields.at(0);
+        if name.is_empty() {
+            return Err(NoRow::Code(5));
+        }
+        Ok(Size(name.len()))
+    }
+}
+
+// How long the names of a table are, or the code and the place of its refusal.
+fn read(alloc: Global, table: &[u8]) -> Result<Vec<Size>, (u8, u64)> {
+    match read_table::<Size>(alloc, table) {
+        Ok(rows) => Ok(rows),
+        Err(Stopped::Refused(Refusal { code, table, place })) if table == Table::Fleet => {
+            Err((code, place))
+        }
+        Err(_) => Err((0, 0)),
+    }
+}
+
+// Two records however they are written: in quotes a comma, a quote and a line end are part of a field.
+#[test]
+fn tables_are_written_in_several_ways(rt: HostRuntime) -> Result<(), Fail> {
+    for text in [
+        "name,note\nab,\"x, y\"\n\nabc,\n",
+        "\u{feff}name,note\r\nab,x\r\nabc,",
+        "name,note\rab,x\rabc,y\r",
+        "\n\r\n\"name\",note\n\nab,x\n\n\n\"abc\",\"\"",
+        "name,note\n\"a,\",x\n\"a\"\"b\",y\n",
+        "name,note\n\"a\n\",x\n\"a\r\n\",y\n",
+    ] {
+        let rows = read(rt.alloc(), text.as_bytes());
+        assert!(rt;
+            rows.is_ok_and(|rows| rows.as_slice() == [Size(2), Size(3)].as_slice()),
+            "{text}"
+        );
+    }
+    Ok(())
+}
+
+// A place is the number of a record with the header: an empty line has none, and a field's line ends make no record.
+#[test]
+fn tables_are_read_up_to_their_first_refusal(rt: HostRuntime) -> Result<(), Fail> {
+    for &(text, want) in &[
+        ("", (3, 1)),
+        ("\n\n", (3, 1)),
+        ("name\n", (3, 1)),
+        ("name,note,\n", (3, 1)),
+        ("name,notes\nab,x\n", (3, 1)),
+        ("Name,note\nab,x\n", (3, 1)),
+        ("\u{feff}\u{feff}name,note\n", (3, 1)),
+        ("name,note\nab,x\nabc\n", (4, 3)),
+        ("name,note\nab,x\nabc,y,\n", (4, 3)),
+        ("name,note\nab,x\n,y\n", (5, 3)),
+        ("name,note\n,x\nz\n", (5, 2)),
+        ("name,note\nz\n,x\n", (4, 2)),
+        ("\n\nname,note\n\n\r\n,y\n", (5, 2)),
+        ("name,note\n\"a\n\nb\",\"\n\"\n\n,y\n", (5, 3)),
+        ("name,note\nab,x\nabc,y\n,z\n", (10, 4)),
+        ("name,note\nab,x\nabc,y\nz\n", (4, 4)),
+        ("name,note\nab,x\nabc,y\n,z\nz\n", (10, 4)),
+    ] {
+        let got = read(rt.alloc(), text.as_bytes()).err();
+        assert!(rt; got == Some(want), "{text}");
+    }
+    Ok(())
+}
+
+#[test]
+fn a_header_alone_has_no_rows(rt: HostRuntime) -> Result<(), Fail> {
+    for text in ["name,note", "name,note\n", "\u{feff}name,note\r\n\r\n"] {
+        let rows = read(rt.alloc(), text.as_bytes());
+        assert!(rt; rows.is_ok_and(|rows| rows.is_empty()), "{text}");
+    }
+    Ok(())
+}
+
+// The size is looked at first, and the largest one is allowed.
+#[test]
+fn a_table_has_its_size_and_is_text(rt: HostRuntime) -> Result<(), Fail> {
+    let mut large = vec![in rt.alloc(); 255; SIZE_LIMIT]?;
+    assert_eq!(rt; read(rt.alloc(), large.as_slice()).err(), Some((2, 0)));
+    large.push(255)?;
+    assert_eq!(rt; read(rt.alloc(), large.as_slice()).err(), Some((1, 0)));
+    assert_eq!(rt;
+        read(rt.alloc(), b"name,note\n\xff,x\n").err(),
+        Some((2, 0))
+    );
+    assert_eq!(rt;
+        read(rt.alloc(), b"name,note\nab\n\xe2\x82").err(),
+        Some((2, 0))
+    );
+    Ok(())
+}
+
+#[test]
+fn records_come_one_after_the_other(rt: HostRuntime) -> Result<(), Fail> {
+    let mut records = Records::new(rt.alloc(), b"a,b\nc\n");
+    let mut fields = Fields::new(rt.alloc());
+    assert!(rt; records.take(&mut fields)?);
+    assert_eq!(rt; fields.len(), 2);
+    assert_eq!(rt; fields.at(1), b"b".as_slice());
+    assert!(rt; records.take(&mut fields)?);
+    assert_eq!(rt; fields.at(0), b"c".as_slice());
+    assert_eq!(rt; fields.at(1), b"".as_slice());
+    assert!(rt; !records.take(&mut fields)?);
+    Ok(())
+}
+
+#[test]
+fn names_stand_between_single_spaces(rt: HostRuntime) -> Result<(), Fail> {
+    let twenty = "a b c d e f g h i j k l m n o p q r s t";
+    for &(field, want) in &[
+        ("", Ok(0)),
+        ("A320", Ok(1)),
+        ("A320 B738", Ok(2)),
+        (twenty, Ok(20)),
+        (" A320", Err(5)),
+        ("A320 ", Err(5)),
+        ("A320  B738", Err(5)),
+        ("A320 -", Err(5)),
+        ("a b c d e f g h i j k l m n o p q r s t u", Err(10)),
+        ("a b c d e f g h i j k l m n o p q r s t u -", Err(5)),
+    ] {
+        let got = match names(rt.alloc(), field.as_bytes()) {
+            Ok(names) => Ok(names.len()),
+            Err(NoRow::Code(code)) => Err(code),
+            Err(NoRow::Memory) => Err(0),
+        };
+        assert!(rt; got == want, "{field}");
+    }
+    Ok(())
+}
+
+#[test]
+fn numbers_have_no_zero_in_front(rt: HostRuntime) -> Result<(), Fail> {
+    for &(field, want) in &[
+        ("0", Ok(0)),
+        ("7", Ok(7)),
+        ("300", Ok(300)),
+        ("301", Err(9)),
+        ("18446744073709551616", Err(9)),
+        ("", Err(9)),
+        ("00", Err(9)),
+        ("007", Err(9)),
+        ("-1", Err(9)),
+        ("+1", Err(9)),
+        ("1.5", Err(9)),
+        (" 1", Err(9)),
+    ] {
+        assert!(rt; number_in(field.as_bytes(), 300) == want, "{field}");
+    }
+    assert_eq!(rt;
+        number_in(b"18446744073709551615", 18_446_744_073_709_551_615),
+        Ok(18_446_744_073_709_551_615)
+    );
+    Ok(())
+}
+
+// Where a name may be missing, an empty field names nobody.
+#[test]
+fn fields_hold_names_and_moments(rt: HostRuntime) -> Result<(), Fail> {
+    for (field, is_name) in [
+        ("LN-ABC", true),
+        ("ABCDEFGHIJKLMNOP", true),
+        ("ABCDEFGHIJKLMNOPQ", false),
+        ("-", false),
+        ("A B", false),
+    ] {
+        let bytes = field.as_bytes();
+        match name_in(bytes) {
+            Ok(name) => assert!(rt; is_name && name.as_bytes() == bytes, "{field}"),
+            Err(code) => assert!(rt; (code, is_name) == (5, false), "{field}"),
+        }
+        match optional_name_in(bytes) {
+            Ok(found) => assert!(rt; found.is_some() == is_name, "{field}"),
+            Err(code) => assert!(rt; (code, is_name) == (5, false), "{field}"),
+        }
+    }
+    assert_eq!(rt; name_in(b"").err(), Some(5));
+    assert_eq!(rt; optional_name_in(b""), Ok(None));
+    assert_eq!(rt; stamp_in(b"1970-01-02T00:01"), Ok(1441));
+    assert_eq!(rt; stamp_in(b"2025-03-01T24:00"), Err(6));
+    Ok(())
+}
