@@ -2,6 +2,7 @@ mod Steps
 mod Small
 mod Completions
 mod Successors
+mod Ties
 mod Growing
 mod Bound
 mod Ending

@@ -9,19 +9,22 @@ use Rattle.tail_book.specs.declared.place.Place.TheVariants.{Carry, After}
 use Rattle.tail_book.specs.Lookup.{activities, aircraft}
 use Rattle.tail_book.specs.Link.{IsLink}
 use Rattle.tail_book.specs.Numbers.{contains}
+use Rattle.tail_book.specs.inside.Rising.{IsRisingFrom}
 use Rattle.tail_book.specs.inside.RouteBounds.{RisingRoutesAreBelow}
 use Rattle.tail_book.specs.inside.Sound.{IsBook}
 use Rattle.connection_net.specs.Seen.{NetSeen}
 use Rattle.connection_net.specs.Net.{net_of, successors_in, heads_in}
 use Rattle.connection_net.specs.inside.Laws.{SuccessorsAreLinks, SuccessorsFollow, HeadsAreLinks, RowsRise}
+use Rattle.branch_marks.specs.declared.fact.Fact.{Fact}
+use Rattle.route_search.specs.inside.Followers.{AreFollowers}
 
 -- a list has what stands at its places, and what it has stands at one
-contained : (xs : List ℕ) (i : ℕ) → i < length xs → contains xs (get_or xs i 0) ≡ true
+pub contained : (xs : List ℕ) (i : ℕ) → i < length xs → contains xs (get_or xs i 0) ≡ true
 contained xs i lt =
     let x = get_or xs i 0 in
     list_any-from_Any (nat_eq x) xs (i, x, lt, get_or_default xs i x 0 lt, eq-eqb x x refl)
 
-place_in : (xs : List ℕ) (x : ℕ) → contains xs x ≡ true → (q : ℕ) × (q < length xs) × (get_or xs q 0 ≡ x)
+pub place_in : (xs : List ℕ) (x : ℕ) → contains xs x ≡ true → (q : ℕ) × (q < length xs) × (get_or xs q 0 ≡ x)
 place_in xs x has =
     let (q, y, lt, is, same) = Any-from_list_any (nat_eq x) xs has in
     (q, lt, get_or_default xs q 0 y lt ∙ is ∙ sym (eqb-true x y same))
@@ -32,7 +35,7 @@ module _ (book : BookSeen) (net : NetSeen) (of_book : net ≡ net_of book) (row 
     row_is = is ∙ ap (λ (n : NetSeen). successors_in n x) of_book
 
     -- what stands at a place is of the book and behind x
-    pub successor : RisingRoutesAreBelow → RowsRise book → SuccessorsFollow → IsBook book
+    successor : RisingRoutesAreBelow → RowsRise book → SuccessorsFollow → IsBook book
         → (i : ℕ) → i < length row → (get_or row i 0 < activities book) × (x < get_or row i 0)
     successor below rises follow sound i lt = (
       subst (λ (r : List ℕ). i < length r → get_or r i 0 < activities book) (sym row_is)
@@ -41,9 +44,21 @@ module _ (book : BookSeen) (net : NetSeen) (of_book : net ≡ net_of book) (row 
     )
 
     -- what is linked stands at a place
-    pub place_of_successor : SuccessorsAreLinks → (k b : ℕ) → k < aircraft book → IsLink book k (After x) b → (q : ℕ) × (q < length row) × (get_or row q 0 ≡ b)
+    place_of_successor : SuccessorsAreLinks → (k b : ℕ) → k < aircraft book → IsLink book k (After x) b → (q : ℕ) × (q < length row) × (get_or row q 0 ≡ b)
     place_of_successor links k b hk link =
         place_in row b (subst (λ (r : List ℕ). contains r b ≡ true) (sym row_is) ((links book x b).1 (k, hk, link)))
+
+    -- and so whoever may come next is in the row
+    pub all_successors : RisingRoutesAreBelow → RowsRise book → SuccessorsFollow → IsBook book → SuccessorsAreLinks
+        → (marks : List Fact) (k : ℕ) → k < aircraft book → AreFollowers book marks k x row
+    all_successors below rises follow sound links marks k hk = record {
+      each = λ i lt. successor below rises follow sound i lt;
+      all = λ b usable. place_of_successor links k b hk usable.link;
+    }
+
+    -- the row rises
+    pub successors_rise : RowsRise book → IsRisingFrom (activities book) Carry row
+    successors_rise rises = subst (IsRisingFrom (activities book) Carry) (sym row_is) (rises.successors x)
 
   module _ (k : ℕ) (is : row ≡ heads_in net k) where
     heads_are : row ≡ heads_in (net_of book) k

@@ -1,24 +1,22 @@
 //! Completions: the least weight of what can still come behind each activity, counters aside.
 //!
 //! A link leads to a larger number, so from the last activity back each is done when it is asked for. Since counters only
-//! forbid, a legal rest of a route is among the rests that fit, and none of it weighs less than the completion. Each link
-//! is asked for once, and an activity from which no end can be reached ends the question at once.
+//! forbid, a legal rest of a route is among the rests that fit, and none of it weighs less than the completion. No link is
+//! asked for twice, and an activity from which no end can be reached ends the question at once.
 
 ghost use Rattle.std.specs.Prelude.{◌≡◌, ◌<◌, ◌≤◌, ◌^◌, ◌-ℤ◌, ◌+ℤ◌, ◌+◌, ℕ, [], pos, length, Option, None, Some, IfSome, slice_index_or};
 ghost use Rattle.tail_book.specs.declared.place.Place.TheVariants.{Carry, After};
 ghost use Rattle.tail_book.specs.Lookup.{activities};
 ghost use Rattle.tail_book.specs.inside.Place.{IsPlaceOf};
-ghost use Rattle.connection_net.specs.Net.{successors_in};
 ghost use Rattle.branch_marks.specs.Marks.{IsAlive, IsUsable};
 ghost use Rattle.route_search.specs.inside.Task.{IsTask};
 ghost use Rattle.route_search.specs.inside.Completion.{AreBehind, AreBehindFrom, IsBehind, IsCompletion, IsLeastAmong, IsBroad, IsSmall, IsWay, IsWayOrNone, least_of, lesser};
 
+use crate::followers::followers;
 use crate::laws;
 use crate::step::arc_weight;
 use crate::task::{Task, every_task_is_sound};
-use connection_net::laws::{rows_for_each, rows_rise, successors_are_links, successors_follow};
 use tail_book::Place;
-use tail_book::laws::rising_routes_are_below;
 
 /// The way through an activity: what it adds to a weight, and the least weight from there to an end with it.
 #[derive(Clone, Copy, Debug)]
@@ -113,14 +111,8 @@ fn least_behind(task: &Task, behind: &[Option<i64>], x: u32) -> Option<i64>
     requires behind { AreBehindFrom task.now.table.now task.now.book.now task.now.marks.now.facts task.now.k task.now.duals.now.values (x + 1) behind.now }
     ensures { IsCompletion task.now.table.now task.now.book.now task.now.marks.now.facts task.now.k task.now.duals.now.values (After x) result }
 {
-    every_task_is_sound(task);
-    successors_are_links();
-    rows_rise();
-    rows_for_each();
-    successors_follow();
-    rising_routes_are_below();
     let mut least = ended(task, Place::After(x));
-    let next = task.net.successors(x);
+    let next = followers(task, x);
     for i in 0..next.len() {
         let way = way_through(task, behind, Place::After(x), next[i]);
         least = lesser(least, least_of(way));

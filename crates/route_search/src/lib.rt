@@ -4,6 +4,7 @@
 mod added;
 mod completion;
 mod end;
+mod followers;
 mod found;
 mod laws;
 mod reach;

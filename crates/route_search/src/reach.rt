@@ -22,11 +22,10 @@ ghost use Rattle.route_search.specs.inside.Reach.{IsTried, AreTried, IsDone, Goe
 ghost use Rattle.route_search.specs.inside.Task.{IsTask};
 
 use crate::completion::{Way, way_through};
+use crate::followers::followers;
 use crate::step::{links_leave_free, stepped};
 use crate::task::{Task, every_task_is_sound};
-use connection_net::laws::{
-    heads_are_links, rows_for_each, rows_rise, successors_are_links, successors_follow,
-};
+use connection_net::laws::{heads_are_links, rows_for_each, rows_rise};
 use label_store::Store;
 use label_store::laws::{
     every_store_is_sound, offered_rows_are_covered, offers_keep_covered, offers_keep_rows,
@@ -247,14 +246,8 @@ fn try_links(
     ensures wide { IsAsWide store.old store.new }
     ensures length { length row.new ≡ length row.old }
 {
-    every_task_is_sound(task);
     every_store_is_sound(store);
-    successors_are_links();
-    successors_follow();
-    rows_rise();
-    rows_for_each();
-    rising_routes_are_below();
-    let next = task.net.successors(x);
+    let next = followers(task, x);
     for i in 0..next.len() {
         try_link(task, behind, x, next[i], limit, row, store)?;
     }

@@ -8,14 +8,13 @@ ghost use Rattle.std.specs.Prelude.{◌≡◌, ◌<◌, ◌≤◌, length};
 ghost use Rattle.tail_book.specs.Lookup.{activities};
 ghost use Rattle.route_search.specs.inside.Task.{IsTask};
 
+use crate::followers::followers;
 use crate::rest::{Rest, behind_link, counts, ended, keep};
 use crate::step::arc_weight;
 use crate::task::{Task, every_task_is_sound};
-use connection_net::laws::{rows_for_each, rows_rise, successors_follow};
 use label_store::Store;
 use label_store::laws::every_store_is_sound;
 use std::alloc::Global;
-use tail_book::laws::rising_routes_are_below;
 use tail_book::{Memory, Place};
 
 /// Where the rests of an activity stand in the list of all: from a place up to another.
@@ -100,16 +99,11 @@ impl Rests {
         requires task { IsTask task.now }
         requires activity { x < activities task.now.book.now }
     {
-        every_task_is_sound(task);
-        rows_rise();
-        successors_follow();
-        rows_for_each();
-        rising_routes_are_below();
         self.here.clear();
         if task.marks.may_end(task.book, task.k, Place::After(x)) && room >= 0 {
             self.here.push(ended())?;
         }
-        let next = task.net.successors(x);
+        let next = followers(task, x);
         for i in 0..next.len() {
             self.take_over(task, x, next[i], room)?;
         }

@@ -2,20 +2,7 @@ use Rattle.std.proofs.Common.{◌<◌, ◌∙◌, ℕ, ℤ, suc, w64, to_z, of_z
 use Rattle.std.proofs.lemmas.Int.{to_z-of_z}
 use Rattle.route_search.specs.inside.Reach.{AreTried, IsDone}
 use Rattle.route_search.proofs.Growing.{Grows-trans, wide_trans, reached_one_more, reached_here, done}
-use Rattle.route_search.proofs.Successors.{successor, place_of_successor}
 use Rattle.route_search.proofs.reach.try_links.Goals as goal
-
--- what stands at a place of the row is of the book
-pub try_link-requires-clause-activity : goal.try_link-requires-clause-activity
-try_link-requires-clause-activity c =
-    (successor c.args.task.now.book.now c.args.task.now.net.now c.requires.task.net c.successors-next.result.now c.args.x c.successors-next.ensures
-    c.rising_routes_are_below.ensures (c.rows_rise.ensures c.args.task.now.book.now) c.successors_follow.ensures c.every_task_is_sound.ensures.book c.loop-i.i (omega arith)).0
-
--- and behind the activity
-pub try_link-requires-clause-later : goal.try_link-requires-clause-later
-try_link-requires-clause-later c =
-    (successor c.args.task.now.book.now c.args.task.now.net.now c.requires.task.net c.successors-next.result.now c.args.x c.successors-next.ensures
-    c.rising_routes_are_below.ensures (c.rows_rise.ensures c.args.task.now.book.now) c.successors_follow.ensures c.every_task_is_sound.ensures.book c.loop-i.i (omega arith)).1
 
 -- one more was tried, and its rows were those of the beginning
 pub loop-i-preserved : goal.loop-i-preserved
@@ -25,7 +12,7 @@ loop-i-preserved c =
     let old = c.loop-i.store in
     let new = c.try_link.new.store in
     let limit = to_z w64 (of_z w64 c.args.limit) in
-    let there = c.successors-next.result.now in
+    let there = c.followers-next.result.now in
     let i = c.loop-i.i in
     let x = c.args.x in
     let place : x < length first.buckets = omega (arith, c.requires.place, c.requires.nodes) in
@@ -38,13 +25,12 @@ loop-i-preserved c =
       row = c.in_ok-try_link.ensures.length ∙ inv.row;
     }
 
--- each activity that may come next stands at a place
+-- whatever is usable is among them
 pub returns-clause-done : goal.returns-clause-done
 returns-clause-done c =
     let place : c.args.x < length c.args.store.now.buckets = omega (arith, c.requires.place, c.requires.nodes) in
     subst (λ (limit : ℤ). IsDone c.args.task.now.table.now c.args.task.now.book.now c.args.task.now.marks.now.facts c.args.task.now.k c.args.task.now.duals.now.values limit c.loop-i.store c.args.x) (to_z-of_z w64 c.args.limit c.ranges.limit)
     (done c.args.task.now.table.now c.args.task.now.book.now c.args.task.now.marks.now.facts c.args.task.now.k c.args.task.now.duals.now.values (to_z w64 (of_z w64 c.args.limit)) c.args.store.now c.loop-i.store c.args.x c.every_store_is_sound.ensures place c.loop-i.invariant.grows
-    (λ b usable. let (q, lt, here) = place_of_successor c.args.task.now.book.now c.args.task.now.net.now c.requires.task.net c.successors-next.result.now c.args.x
-    c.successors-next.ensures c.successors_are_links.ensures c.args.task.now.k b c.requires.task.aircraft usable.link in
+    (λ b usable. let (q, lt, here) = c.followers-next.ensures.all b usable in
     let below : q < c.loop-i.i = omega (arith, lt) in
     subst (λ (a : ℕ). AreTried c.args.task.now.table.now c.args.task.now.book.now c.args.task.now.marks.now.facts c.args.task.now.k c.args.task.now.duals.now.values (to_z w64 (of_z w64 c.args.limit)) c.args.store.now c.args.x c.loop-i.store a) here (c.loop-i.invariant.tried q below) usable))
