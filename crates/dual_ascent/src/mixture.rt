@@ -13,7 +13,7 @@ use std::alloc::Global;
 use tail_book::Memory;
 
 // So many temperatures above the least weight a route has no mass.
-const REACH: i64 = 30;
+const REACH: i64 = 20;
 
 // A scale is kept with so many bits more than its parts.
 const PART_BITS: u32 = 42;
