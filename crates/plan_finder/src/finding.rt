@@ -1,5 +1,5 @@
-//! The finder: dives at one temperature after the other, until one leaves nothing out, and else repairs of the fullest plan. A plan
-//! that leaves nothing out is then made cheaper.
+//! The finder: one dive after the other, until one leaves nothing out, and else repairs of the fullest plan. A plan
+//! that leaves nothing out is then made cheaper: by the ladder, and where that is stuck by new starts.
 
 ghost use Rattle.std.specs.Prelude.{◌≡◌, All, IfOk, IfSome};
 ghost use Rattle.branch_marks.specs.Pool.{IsFittingEntry};
@@ -13,17 +13,18 @@ ghost use Rattle.plan_finder.specs.Problem.{IsProblem};
 use crate::columns::{Columns, add_judged};
 use crate::ground::Ground;
 use crate::judging::judge;
-use crate::ladder::cheapen;
+use crate::ladder::Ladder;
 use crate::problem::Problem;
 use crate::repairing::repair;
-use crate::soft_dive::{MANY, soft_dive};
+use crate::restarting::restart;
+use crate::soft_dive::{Course, MANY, soft_dive};
 use crate::soft_plan::SoftPlan;
 use crate::weights::copy_of;
 use branch_marks::Marks;
 use pool_plans::Found;
 use restricted_master::Pool;
 use std::alloc::Global;
-use tail_book::{Duals, Memory, Route};
+use tail_book::{Duals, Memory, Plan, Route};
 
 /// What is sought: a plan that fits the marks. Duals near the best ones suggest where.
 #[derive(Clone, Copy)]
@@ -34,11 +35,58 @@ pub struct Sought<'a> {
     pub work: u64,
 }
 
-// Dives are made at these temperatures, in thousandths of a cost unit.
-const TEMPERATURES: [i64; 4] = [3000, 10_000, 5000, 1000];
+// The dives, one after the other until one leaves nothing out.
+const COURSES: [Course; 5] = [
+    Course {
+        slices: 3,
+        is_fine: false,
+        temperature: 5000,
+    },
+    Course {
+        slices: 1,
+        is_fine: false,
+        temperature: 10_000,
+    },
+    Course {
+        slices: 3,
+        is_fine: false,
+        temperature: 20_000,
+    },
+    Course {
+        slices: 4,
+        is_fine: false,
+        temperature: 3000,
+    },
+    Course {
+        slices: 1,
+        is_fine: false,
+        temperature: 3000,
+    },
+];
 
-// The same in a large fleet: each of the four leaves out about as much there, and repairs are what takes time.
-const TEMPERATURES_OF_MANY: [i64; 2] = [10_000, 5000];
+// The same in a large fleet.
+const COURSES_OF_MANY: [Course; 4] = [
+    Course {
+        slices: 4,
+        is_fine: false,
+        temperature: 10_000,
+    },
+    Course {
+        slices: 4,
+        is_fine: false,
+        temperature: 20_000,
+    },
+    Course {
+        slices: 4,
+        is_fine: true,
+        temperature: 20_000,
+    },
+    Course {
+        slices: 4,
+        is_fine: true,
+        temperature: 10_000,
+    },
+];
 
 // A dive from the duals, which stay as they are.
 fn dived(
@@ -47,7 +95,7 @@ fn dived(
     sought: &Sought,
     columns: &mut Columns,
     pool: &Pool,
-    temperature: i64,
+    course: Course,
 ) -> Result<SoftPlan, Memory>
     requires problem { IsProblem problem.now }
     requires marks { AreMarksOf problem.now.book.now sought.now.marks.now }
@@ -57,15 +105,7 @@ fn dived(
 {
     let mut duals = copy_of(sought.duals)?;
     let marks = sought.marks;
-    soft_dive(
-        alloc,
-        problem,
-        marks,
-        columns,
-        pool,
-        &mut duals,
-        temperature,
-    )
+    soft_dive(alloc, problem, marks, columns, pool, &mut duals, course)
 }
 
 // Of two plans the one that leaves less out.
@@ -77,14 +117,14 @@ fn fuller(one: SoftPlan, other: SoftPlan) -> SoftPlan {
     }
 }
 
-// The plan that leaves least out, by dives at one of these temperatures after the other, until one leaves nothing out.
-fn fullest_at(
+// The plan that leaves least out, by one of these dives after the other, until one leaves nothing out.
+fn fullest_by(
     alloc: Global,
     problem: &Problem,
     sought: &Sought,
     columns: &mut Columns,
     pool: &Pool,
-    temperatures: &[i64],
+    courses: &[Course],
 ) -> Result<SoftPlan, Memory>
     requires problem { IsProblem problem.now }
     requires marks { AreMarksOf problem.now.book.now sought.now.marks.now }
@@ -93,11 +133,11 @@ fn fullest_at(
     ensures columns { AreColumns problem.now columns.new }
 {
     let mut best = SoftPlan::none(alloc, problem.book)?;
-    for i in 0..temperatures.len() {
+    for i in 0..courses.len() {
         if columns.is_spent() || best.count_left() == 0 {
             return Ok(best);
         }
-        let next = dived(alloc, problem, sought, columns, pool, temperatures[i])?;
+        let next = dived(alloc, problem, sought, columns, pool, courses[i])?;
         best = fuller(best, next);
     }
     Ok(best)
@@ -119,10 +159,33 @@ fn fullest(
 {
     let book = problem.book;
     if book.tails.len() < MANY {
-        fullest_at(alloc, problem, sought, columns, pool, &TEMPERATURES)
+        fullest_by(alloc, problem, sought, columns, pool, &COURSES)
     } else {
-        fullest_at(alloc, problem, sought, columns, pool, &TEMPERATURES_OF_MANY)
+        fullest_by(alloc, problem, sought, columns, pool, &COURSES_OF_MANY)
     }
+}
+
+// A plan made cheaper, as far as the ladder and new starts go.
+fn cheapened(
+    alloc: Global,
+    problem: &Problem,
+    columns: &mut Columns,
+    ground: &Ground,
+    first: Found,
+) -> Result<Found, Memory>
+    requires problem { IsProblem problem.now }
+    requires marks { AreMarksOf problem.now.book.now ground.now.marks.now }
+    requires duals { AreDuals problem.now.table.now problem.now.book.now ground.now.duals.now.values }
+    requires columns { AreColumns problem.now columns.old }
+    requires first { IsFittingPlan problem.now.table.now problem.now.book.now ground.now.marks.now.facts first.cost first.plan }
+    ensures columns { AreColumns problem.now columns.new }
+    ensures plan { IfOk result (λ plan. IsFittingPlan problem.now.table.now problem.now.book.now ground.now.marks.now.facts plan.cost plan.plan) }
+{
+    let Some(mut ladder) = Ladder::new(alloc, problem, columns, ground)? else {
+        return Ok(first);
+    };
+    let best = ladder.climb(alloc, problem, columns, ground, first)?;
+    restart(alloc, problem, columns, ground, &mut ladder, best)
 }
 
 // A plan by dives, and repairs of what the fullest one leaves out. It is made cheaper as far as that goes.
@@ -148,7 +211,7 @@ fn repaired(
         return Ok(None);
     }
     match judge(alloc, problem, marks, plan.routes)? {
-        Some(found) => Ok(Some(cheapen(alloc, problem, columns, &ground, found)?)),
+        Some(found) => Ok(Some(cheapened(alloc, problem, columns, &ground, found)?)),
         None => Ok(None),
     }
 }
@@ -177,6 +240,16 @@ fn add_all(
     Ok(())
 }
 
+// The same routes.
+fn same_routes(alloc: Global, routes: &[Route]) -> Result<Vec<Route>, Memory> {
+    let mut copied = Vec::with_capacity(alloc, routes.len())?;
+    for k in 0..routes.len() {
+        let route = &routes[k];
+        copied.push(Route(Vec::from_slice(alloc, &route.0)?))?;
+    }
+    Ok(copied)
+}
+
 /// Looks for a legal plan that fits the marks. What it answers has the cost that it says; how good that is, and whether there was
 /// another, is not promised. The pool suggests routes to begin with, and gets those of the plan. The same call answers the same.
 pub fn find_by_dives(
@@ -200,4 +273,35 @@ pub fn find_by_dives(
         add_all(alloc, problem, marks, &mut columns, pool, &plan.0)?;
     }
     Ok(found)
+}
+
+/// Looks for a cheaper plan near a given one, by the ladder alone. What it answers fits the marks and has the cost that it says: the
+/// given plan itself, where nothing cheaper is found, and nothing where that is not legal or does not fit.
+pub fn exchange(
+    alloc: Global,
+    problem: &Problem,
+    sought: &Sought,
+    plan: &Plan,
+) -> Result<Option<Found>, Memory>
+    requires problem { IsProblem problem.now }
+    requires marks { AreMarksOf problem.now.book.now sought.now.marks.now }
+    requires duals { AreDuals problem.now.table.now problem.now.book.now sought.now.duals.now.values }
+    ensures plan { IfOk result (λ found. IfSome found (λ plan. IsFittingPlan problem.now.table.now problem.now.book.now sought.now.marks.now.facts plan.cost plan.plan)) }
+{
+    let Sought { marks, duals, work } = *sought;
+    let Some(first) = judge(alloc, problem, marks, same_routes(alloc, &plan.0)?)? else {
+        return Ok(None);
+    };
+    let mut columns = Columns::new(alloc, problem, work)?;
+    columns.begin_with(alloc, problem, marks, &first.plan.0)?;
+    let pool = std::mem::replace(&mut columns.pool, Pool::new(alloc)?);
+    let ground = Ground {
+        marks,
+        pool: &pool,
+        duals,
+    };
+    match Ladder::new(alloc, problem, &mut columns, &ground)? {
+        Some(mut ladder) => Ok(Some(ladder.climb(alloc, problem, &mut columns, &ground, first)?)),
+        None => Ok(Some(first)),
+    }
 }

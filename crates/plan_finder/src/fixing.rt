@@ -6,6 +6,7 @@ ghost use Rattle.std.specs.Prelude.{IfOk};
 ghost use Rattle.branch_marks.specs.inside.MarkTables.{AreMarksOf};
 
 use crate::problem::Problem;
+use crate::slice::{ALL, Slice};
 use branch_marks::{Fact, Marks};
 use tail_book::{Book, Memory, Route};
 
@@ -20,23 +21,19 @@ fn add(book: &Book, marks: &mut Marks, fact: Fact) -> Result<(), Memory>
     Ok(())
 }
 
-// Whether an activity is the next of a route, of which so many were met.
-fn is_next(route: &[u32], met: usize, a: u32) -> bool {
-    match route.get(met) {
-        Some(next) => *next == a,
-        None => false,
-    }
-}
-
-/// Holds the route of an aircraft: it flies this and nothing else, and nobody else flies any of it.
-pub fn fix(book: &Book, marks: &mut Marks, k: u32, route: &[u32]) -> Result<(), Memory>
+/// Holds what an aircraft's route has in a slice of activities: it flies this there and nothing else, and nobody else flies any of it.
+pub fn fix(
+    book: &Book,
+    marks: &mut Marks,
+    k: u32,
+    route: &[u32],
+    slice: Slice,
+) -> Result<(), Memory>
     requires { AreMarksOf book.now marks.old }
     ensures { AreMarksOf book.now marks.new }
 {
-    let mut met = 0usize;
-    for a in 0..book.activities.len() as u32 {
-        if is_next(route, met, a) {
-            met = met.saturating_add(1);
+    for a in slice.from..slice.to.min(book.activities.len() as u32) {
+        if route.contains(&a) {
             add(book, marks, Fact::Must(k, a))?;
         } else {
             add(book, marks, Fact::Bar(k, a))?;
@@ -122,7 +119,7 @@ pub fn marks_beside(
     for k in 0..routes.len().min(kept.len()) {
         if kept[k] {
             let (number, route) = ((k % (1 << 32)) as u32, &routes[k]);
-            fix(problem.book, &mut held, number, &route.0)?;
+            fix(problem.book, &mut held, number, &route.0, ALL)?;
         }
     }
     Ok(held)

@@ -1,8 +1,11 @@
-//! The lightest route of each aircraft in a pool, and how far it stands out among the others.
+//! What each aircraft flies in a slice of the timetable by the routes of a pool, and how far that stands out.
 //!
-//! A route has a mass, two to the power of minus what it weighs above the lightest one, in temperatures. The share of the
-//! lightest route of all masses of its aircraft says how sure it is.
+//! A route has a mass, two to the power of minus what it weighs above the lightest one, in temperatures. Routes of an aircraft that
+//! fly the same in the slice go together, and the lead is what has the greatest mass. Its share of all masses of the aircraft says
+//! how sure it is.
 
+use crate::mixing::mixed;
+use crate::slice::Slice;
 use crate::weights::Weights;
 use restricted_master::Pool;
 use std::alloc::Global;
@@ -11,11 +14,22 @@ use tail_book::Memory;
 /// The whole of an aircraft's mass.
 pub const WHOLE: u64 = 1 << 20;
 
-/// A lightest route, by its number in the pool, and its share of `WHOLE`.
+/// The lightest route that flies a lead, by its number in the pool, and the lead's share of `WHOLE`.
 #[derive(Clone, Copy, Debug)]
 pub struct Lead {
     pub route: usize,
     pub share: u64,
+}
+
+// Routes of an aircraft that fly the same in a slice: what tells that, their masses together, and the lightest of them, with what
+// it weighs above the aircraft's lightest.
+#[derive(Clone, Copy, Debug)]
+struct Bundle {
+    hash: u64,
+    aircraft: usize,
+    mass: u64,
+    route: usize,
+    excess: i64,
 }
 
 // The mass of a route that is heavier than the lightest by so much. Between two halvings it falls in a straight line.
@@ -30,48 +44,118 @@ fn mass(excess: i64, temperature: i64) -> u64 {
     whole.saturating_sub((whole / 2).saturating_mul(share) / WHOLE)
 }
 
-// A lead with one more route of its aircraft. Its share is the mass of all so far.
-fn with_route(lead: Option<Lead>, route: usize, mass: u64) -> Lead {
-    match lead {
-        Some(lead) if mass < WHOLE => Lead {
-            route: lead.route,
-            share: lead.share.saturating_add(mass),
-        },
-        Some(lead) => Lead {
-            route,
-            share: lead.share.saturating_add(mass),
-        },
-        None => Lead { route, share: mass },
+// A hash of an aircraft and what a route has in a slice.
+fn hash_in(k: usize, route: &[u32], slice: Slice) -> u64 {
+    let mut hash = mixed(0, k as u64);
+    for a in route {
+        if slice.has(*a) {
+            hash = mixed(hash, u64::from(*a));
+        }
+    }
+    hash
+}
+
+// A bundle of each route in a pool.
+fn bundles_of(
+    alloc: Global,
+    pool: &Pool,
+    weights: &Weights,
+    temperature: i64,
+    slice: Slice,
+) -> Result<Vec<Bundle>, Memory> {
+    let mut bundles = Vec::with_capacity(alloc, pool.count())?;
+    for i in 0..pool.count() {
+        let k = pool.aircraft(i) as usize;
+        let excess = weights.excess(i, k);
+        bundles.push(Bundle {
+            hash: hash_in(k, pool.route(i), slice),
+            aircraft: k,
+            mass: mass(excess, temperature),
+            route: i,
+            excess,
+        })?;
+    }
+    Ok(bundles)
+}
+
+// Two bundles that fly the same as one.
+fn joined(one: Bundle, other: Bundle) -> Bundle {
+    let mass = one.mass.saturating_add(other.mass);
+    if other.excess < one.excess {
+        Bundle { mass, ..other }
+    } else {
+        Bundle { mass, ..one }
     }
 }
 
-// The lead with its share in place of the mass of all.
-fn shared(lead: Lead) -> Lead {
+// Those that stand next to each other and fly the same put together.
+fn join_all(alloc: Global, bundles: &[Bundle]) -> Result<Vec<Bundle>, Memory> {
+    let mut all = Vec::new(alloc);
+    let mut last: Option<Bundle> = None;
+    for i in 0..bundles.len() {
+        let next = bundles[i];
+        last = match last {
+            Some(bundle) if bundle.hash == next.hash => Some(joined(bundle, next)),
+            Some(bundle) => {
+                all.push(bundle)?;
+                Some(next)
+            }
+            None => Some(next),
+        };
+    }
+    if let Some(bundle) = last {
+        all.push(bundle)?;
+    }
+    Ok(all)
+}
+
+// The lead of an aircraft beside one bundle more. Its share is a mass here.
+fn led(lead: Option<Lead>, bundle: Bundle) -> Lead {
+    match lead {
+        Some(lead) if lead.share >= bundle.mass => lead,
+        _ => Lead {
+            route: bundle.route,
+            share: bundle.mass,
+        },
+    }
+}
+
+// The part of an aircraft's mass that a lead has.
+fn shared(lead: Lead, all: u64) -> Lead {
+    let share = u128::from(lead.share) * u128::from(WHOLE) / u128::from(all.max(1));
     Lead {
         route: lead.route,
-        share: WHOLE * WHOLE / lead.share.max(1),
+        share: share.min(u128::from(WHOLE)) as u64,
     }
 }
 
-/// The lead of each of so many aircraft that has a route in the pool.
+/// The lead in a slice of each of so many aircraft that has a route in the pool.
 pub fn leads_of(
     alloc: Global,
     pool: &Pool,
     duals: &[i64],
     aircraft: usize,
     temperature: i64,
+    slice: Slice,
 ) -> Result<Vec<Option<Lead>>, Memory> {
     let weights = Weights::of(alloc, pool, duals, aircraft)?;
+    let mut bundles = bundles_of(alloc, pool, &weights, temperature, slice)?;
+    bundles.sort_by_key(|bundle| bundle.hash)?;
     let mut leads = vec![in alloc; None; aircraft]?;
-    for i in 0..pool.count() {
-        let k = pool.aircraft(i) as usize;
-        let mass = mass(weights.excess(i, k), temperature);
+    let mut masses = vec![in alloc; 0u64; aircraft]?;
+    let all = join_all(alloc, &bundles)?;
+    for bundle in all.iter() {
+        let k = bundle.aircraft;
         if let Some(lead) = leads.get_mut(k) {
-            *lead = Some(with_route(*lead, i, mass));
+            *lead = Some(led(*lead, *bundle));
+        }
+        if let Some(mass) = masses.get_mut(k) {
+            *mass = bundle.mass.saturating_add(*mass);
         }
     }
-    for k in 0..leads.len() {
-        leads[k] = leads[k].map(shared);
+    for k in 0..leads.len().min(masses.len()) {
+        let all = masses[k];
+        leads[k] = leads[k].map(|lead| shared(lead, all));
     }
     Ok(leads)
 }

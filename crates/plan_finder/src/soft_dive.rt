@@ -1,8 +1,11 @@
-//! A dive that cannot fail: it fixes one route after the other, and leaves out what no route is left for.
+//! A dive that cannot fail: it fixes what one aircraft after the other flies, and leaves out what no route is left for.
 //!
-//! Aircraft that are not fixed yet are priced, and duals climb over the pool at one temperature. Then the lightest route that
-//! stands out most is fixed, with all others that stand out and share nothing with it. In a large fleet several are fixed
-//! each time, whether they stand out or not. Nothing is propagated or undone.
+//! It goes through the timetable in slices. In a slice, aircraft that are not fixed there yet are priced, and duals climb over the
+//! pool at one temperature. Then what one of them flies in the slice is fixed, where this stands out most, with all others that
+//! stand out and share nothing with it. What lies behind the slice stays open, and every route is weighed to its end: so a slice
+//! leaves to those behind it what they need. A dive in one slice fixes whole routes. Nothing is propagated or undone.
+//!
+//! Most of the time goes into the first slice, where routes are long and all is open. So a choice fixes several aircraft there.
 
 ghost use Rattle.std.specs.Prelude.{◌≡◌, ◌<◌, IfOk};
 ghost use Rattle.tail_book.specs.Lookup.{aircraft};
@@ -15,6 +18,7 @@ use crate::columns::Columns;
 use crate::fixing::fix;
 use crate::leads::{Lead, WHOLE, leads_of};
 use crate::problem::Problem;
+use crate::slice::{ALL, Slice};
 use crate::soft_plan::SoftPlan;
 use crate::weights::Weights;
 use branch_marks::Marks;
@@ -22,11 +26,20 @@ use dual_ascent::Climber;
 use restricted_master::Pool;
 use std::alloc::Global;
 use tail_book::laws::every_book_is_sound;
-use tail_book::{Duals, Memory, Route};
+use tail_book::{Duals, Memory};
 
 /// A fleet of so many aircraft is large: fixing one route after the other takes it too long. The limit lies between 25 aircraft,
 /// where that was worth its time, and 50.
 pub const MANY: usize = 40;
+
+/// How a dive goes: through so many slices of the timetable, at a temperature in thousandths of a cost unit. A fine one fixes one
+/// aircraft after the other in the slices behind the first, which takes up to three times as long.
+#[derive(Clone, Copy, Debug)]
+pub struct Course {
+    pub slices: u32,
+    pub is_fine: bool,
+    pub temperature: i64,
+}
 
 // Duals go so far in a round, in thousandths of a cost unit.
 const RADIUS: i64 = 60_000;
@@ -34,8 +47,7 @@ const RADIUS: i64 = 60_000;
 // So many rounds come before each choice.
 const ROUNDS: u32 = 2;
 
-// In a large fleet a choice fixes at least one of so many aircraft that are free: with 50 aircraft a dive then takes two fifths of
-// the time, and leaves out as much.
+// A choice that fixes several aircraft fixes at least one of so many that are free.
 const PART: usize = 8;
 
 // Suggestions are looked for so many temperatures above the least weights.
@@ -44,13 +56,15 @@ const SUGGESTED: i64 = 8;
 // Routes take part up to so many temperatures above the least weights.
 const REACH: i64 = 30;
 
-/// A dive under way: who flies what so far, and what is left to all others.
+/// A dive under way: who flies what so far, and what is left to all others. The aircraft that are free are those of which nothing is
+/// fixed in the slice yet.
 #[derive(Debug, Drop)]
 struct Dive {
     marks: Marks,
     plan: SoftPlan,
     free: Vec<bool>,
-    temperature: i64,
+    slice: Slice,
+    course: Course,
 }
 
 // The lead that stands out most, of the aircraft that are free.
@@ -68,11 +82,17 @@ fn first_lead(leads: &[Option<Lead>], free: &[bool]) -> Option<usize> {
     best
 }
 
-// How many leads are to be fixed at a choice beside the first one.
-fn more_for(free: &[bool]) -> usize {
-    if free.len() < MANY {
-        return 0;
+// Whether a choice fixes several aircraft.
+fn fixes_several(aircraft: usize, course: Course, slice: Slice) -> bool {
+    if course.slices < 2 {
+        aircraft >= MANY
+    } else {
+        !course.is_fine || slice.from == 0
     }
+}
+
+// How many leads are to be fixed at such a choice beside the first one.
+fn more_for(free: &[bool]) -> usize {
     let mut count = 0usize;
     for is_free in free.iter() {
         if *is_free {
@@ -88,12 +108,12 @@ fn slack_at(temperature: i64) -> u32 {
 }
 
 impl Dive {
-    // Whether an aircraft has no route yet.
+    // Whether nothing is fixed of an aircraft in the slice.
     fn is_free(&self, k: usize) -> bool {
         self.free.get(k).copied().unwrap_or(false)
     }
 
-    // Whether any aircraft has none.
+    // Whether there is such an aircraft.
     fn has_free(&self) -> bool {
         for k in 0..self.free.len() {
             if self.free[k] {
@@ -130,7 +150,7 @@ impl Dive {
         ensures columns { AreColumns problem.now columns.new }
         ensures marks { self.new.marks ≡ self.old.marks }
     {
-        let slack = slack_at(self.temperature);
+        let slack = slack_at(self.course.temperature);
         let cut = low.saturating_add(i64::from(slack));
         let found = columns.price(alloc, problem, &self.marks, duals, k, cut, slack)?;
         if found.is_none() {
@@ -166,7 +186,7 @@ impl Dive {
         Ok(())
     }
 
-    // Fixes the route of a lead.
+    // Fixes what a lead has in the slice.
     fn fix(
         &mut self,
         alloc: Global,
@@ -181,9 +201,9 @@ impl Dive {
         self.bind(k as usize);
         if lead.route < pool.count() {
             let route = pool.route(lead.route);
-            fix(problem.book, &mut self.marks, k, route)?;
-            self.plan
-                .fly(k as usize, Route(Vec::from_slice(alloc, route)?));
+            fix(problem.book, &mut self.marks, k, route, self.slice)?;
+            let front = self.slice.front(alloc, route)?;
+            self.plan.fly(k as usize, front);
         }
         Ok(())
     }
@@ -283,7 +303,7 @@ impl Dive {
         Ok(())
     }
 
-    // Fixes the lead that stands out most, in a large fleet some more, and all others that stand out. Answers whether there was one.
+    // Fixes the lead that stands out most, maybe some more, and all others that stand out. Answers whether there was one.
     fn choose(
         &mut self,
         alloc: Global,
@@ -299,12 +319,17 @@ impl Dive {
             pool,
             &duals.values,
             self.free.len(),
-            self.temperature,
+            self.course.temperature,
+            self.slice,
         )?;
         let Some(k) = first_lead(&leads, &self.free) else {
             return Ok(false);
         };
-        let more = more_for(&self.free);
+        let more = if fixes_several(self.free.len(), self.course, self.slice) {
+            more_for(&self.free)
+        } else {
+            0
+        };
         if let Some(Some(lead)) = leads.get(k).copied() {
             self.fix(alloc, problem, pool, (k % (1 << 32)) as u32, lead)?;
         }
@@ -337,7 +362,7 @@ impl Dive {
                 problem.table,
                 &columns.pool,
                 duals,
-                self.temperature,
+                self.course.temperature,
                 RADIUS,
             )?;
         }
@@ -365,12 +390,47 @@ impl Dive {
         if !self.choose(alloc, problem, &columns.pool, duals)? || columns.is_spent() {
             return Ok(false);
         }
-        let reach = self.temperature.saturating_mul(REACH);
+        let reach = self.course.temperature.saturating_mul(REACH);
         columns.keep(alloc, problem, &self.marks, duals, reach)?;
         Ok(self.has_free())
     }
 
-    // Goes on until nothing is left to fix.
+    // Goes on until nothing is left to fix in the slice.
+    fn dive_slice(
+        &mut self,
+        alloc: Global,
+        problem: &Problem,
+        columns: &mut Columns,
+        climber: &mut Climber,
+        duals: &mut Duals,
+    ) -> Result<(), Memory>
+        requires problem { IsProblem problem.now }
+        requires marks { AreMarksOf problem.now.book.now self.old.marks }
+        requires duals { AreDuals problem.now.table.now problem.now.book.now duals.old.values }
+        requires columns { AreColumns problem.now columns.old }
+        ensures columns { AreColumns problem.now columns.new }
+        ensures duals { AreDuals problem.now.table.now problem.now.book.now duals.new.values }
+        ensures marks { AreMarksOf problem.now.book.now self.new.marks }
+    {
+        for _choice in 0..self.free.len() {
+            if !self.step(alloc, problem, columns, climber, duals)? {
+                return Ok(());
+            }
+        }
+        Ok(())
+    }
+
+    // Enters a slice, in which nothing is fixed yet.
+    fn enter(&mut self, slice: Slice)
+        ensures { self.new.marks ≡ self.old.marks }
+    {
+        self.slice = slice;
+        for k in 0..self.free.len() {
+            self.free[k] = true;
+        }
+    }
+
+    // Goes through all slices, as long as work is left.
     fn run(
         &mut self,
         alloc: Global,
@@ -386,29 +446,41 @@ impl Dive {
         ensures columns { AreColumns problem.now columns.new }
         ensures duals { AreDuals problem.now.table.now problem.now.book.now duals.new.values }
     {
-        for _choice in 0..self.free.len() {
-            if !self.step(alloc, problem, columns, climber, duals)? {
+        let (book, slices) = (problem.book, self.course.slices);
+        for number in 0..slices {
+            if columns.is_spent() {
                 return Ok(());
             }
+            self.enter(Slice::of(book.activities.len(), slices, number));
+            self.dive_slice(alloc, problem, columns, climber, duals)?;
         }
         Ok(())
     }
 }
 
+// So many aircraft that are all free.
+fn all_free(alloc: Global, aircraft: usize) -> Result<Vec<bool>, Memory> {
+    Ok(vec![in alloc; true; aircraft]?)
+}
+
 // A dive that has not fixed anything.
-fn begin(alloc: Global, problem: &Problem, marks: &Marks, temperature: i64) -> Result<Dive, Memory>
+fn begin(alloc: Global, problem: &Problem, marks: &Marks, course: Course) -> Result<Dive, Memory>
     ensures { IfOk result (λ dive. dive.marks ≡ marks.now) }
 {
     let book = problem.book;
+    let plan = SoftPlan::none(alloc, book)?;
+    let free = all_free(alloc, book.tails.len())?;
+    let marks = marks.copy()?;
     Ok(Dive {
-        marks: marks.copy()?,
-        plan: SoftPlan::none(alloc, book)?,
-        free: vec![in alloc; true; book.tails.len()]?,
-        temperature,
+        marks,
+        plan,
+        free,
+        slice: ALL,
+        course,
     })
 }
 
-/// Dives from duals at a temperature, in thousandths of a cost unit. The pool suggests routes to begin with.
+/// Dives from duals. The pool suggests routes to begin with.
 pub fn soft_dive(
     alloc: Global,
     problem: &Problem,
@@ -416,7 +488,7 @@ pub fn soft_dive(
     columns: &mut Columns,
     pool: &Pool,
     duals: &mut Duals,
-    temperature: i64,
+    course: Course,
 ) -> Result<SoftPlan, Memory>
     requires problem { IsProblem problem.now }
     requires marks { AreMarksOf problem.now.book.now marks.now }
@@ -425,10 +497,10 @@ pub fn soft_dive(
     ensures duals { AreDuals problem.now.table.now problem.now.book.now duals.new.values }
     ensures columns { AreColumns problem.now columns.new }
 {
-    let reach = temperature.saturating_mul(REACH);
+    let reach = course.temperature.saturating_mul(REACH);
     columns.begin(alloc, problem, marks, duals, pool, reach)?;
     let mut climber = Climber::new(alloc, problem.table)?;
-    let mut dive = begin(alloc, problem, marks, temperature)?;
+    let mut dive = begin(alloc, problem, marks, course)?;
     dive.run(alloc, problem, columns, &mut climber, duals)?;
     Ok(dive.plan)
 }

@@ -1,10 +1,10 @@
 use Rattle.plan_finder.specs.Columns.{AreColumns}
 use Rattle.plan_finder.specs.Finding.{IsFittingPlan}
-use Rattle.plan_finder.proofs.ladder.climb.Given as goal
+use Rattle.plan_finder.proofs.restarting.restart.Given as goal
 
 -- the columns are of the book, and the best plan so far is legal, fits and has its cost
-abbrev pub invariant-loop-i : goal.invariant-loop-i
-invariant-loop-i l = record {
+abbrev pub invariant-loop-turn : goal.invariant-loop-turn
+invariant-loop-turn l = record {
   columns : AreColumns l.problem l.columns;
   best : IsFittingPlan l.problem.table.now l.problem.book.now l.ground.marks.now.facts l.best.cost l.best.plan;
 }

@@ -1,0 +1,6 @@
+use Rattle.std.proofs.Common.{◌≡◌}
+use Rattle.plan_finder.proofs.soft_dive.Dive.enter.Given as goal
+
+-- the marks stay
+abbrev pub invariant-loop-k : goal.invariant-loop-k
+invariant-loop-k l = l.self.marks ≡ l.initial.self.marks
