@@ -18,7 +18,7 @@ ghost use Rattle.branch_tree.specs.inside.Stepping.{AreToolsFor, IsEndFound, IsF
 use crate::ending::note_end;
 use crate::first_duals::first_duals;
 use crate::rounds::ascend;
-use crate::seeking::seek_plan;
+use crate::seeking::{exchange_near, seek_plan};
 use crate::settled::settle_node;
 use crate::shortage::shortage_duals;
 use crate::shutting::{keep_fitting, shut_and_tell};
@@ -168,6 +168,7 @@ fn find_end(
     if let Some(end) = begun {
         return Ok(end);
     }
+    let target = best.target;
     let ascended = ascend(
         alloc,
         book,
@@ -184,6 +185,8 @@ fn find_end(
     }
     if is_root {
         seek_plan(alloc, book, table, net, marks, pool, duals, best)?;
+    } else if best.target < target {
+        exchange_near(alloc, book, table, net, marks, duals, best)?;
     }
     settle_node(alloc, book, table, net, marks, pool, duals, best, tools)
 }

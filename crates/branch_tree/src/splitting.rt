@@ -17,6 +17,7 @@ ghost use Rattle.branch_tree.specs.inside.Weighing.{IsOpen};
 use crate::Best;
 use crate::bounds::passes;
 use crate::choosing::chosen_pair;
+use crate::seeking::exchange_near;
 use crate::step::End;
 use crate::weighing::LeastRoutes;
 use branch_marks::Marks;
@@ -26,7 +27,7 @@ use dive_heuristic::{Dive, Diver};
 use std::alloc::Global;
 use tail_book::{Book, CostTable, Duals, Memory};
 
-// Dives from the marks. The target falls where the dive ends with a cheaper plan.
+// Dives from the marks. The target falls where the dive ends with a cheaper plan, and further where a cheaper one is near that.
 fn dive_and_use(
     alloc: Global,
     book: &Book,
@@ -48,9 +49,13 @@ fn dive_and_use(
     ensures best { IsBest table.now book.now best.new.plan best.new.target }
     ensures falls { best.new.target ≤ best.old.target }
 {
+    let target = best.target;
     let dive = diver.dive(alloc, book, table, net, marks, duals)?;
     if let Dive::Plan(plan, _) = &dive {
         best.try_routes(alloc, book, table, &plan.0)?;
+    }
+    if best.target < target {
+        exchange_near(alloc, book, table, net, marks, duals, best)?;
     }
     Ok(dive)
 }
