@@ -8,7 +8,7 @@ mod memory;
 use super::twice;
 use branch_marks::Fact;
 use connection_net::Net;
-use plan_finder::{Problem, Sought, find_by_dives};
+use plan_finder::{Problem, Sought, exchange, find_by_dives};
 use pool_plans::Found;
 use restricted_master::Pool;
 use std::alloc::Global;
@@ -60,6 +60,44 @@ fn found(
 ) -> Result<(Option<Found>, usize), Fail> {
     let table = costs(alloc, book)?;
     found_by(alloc, book, &table, facts, duals, AMPLE)
+}
+
+// The plan in which the first aircraft flies one route and the second the other.
+fn plan_of(alloc: Global, first: &[u32], second: &[u32]) -> Result<Plan, Fail> {
+    let mut routes = Vec::with_capacity(alloc, 2)?;
+    routes.push(Route(Vec::from_slice(alloc, first)?))?;
+    routes.push(Route(Vec::from_slice(alloc, second)?))?;
+    Ok(Plan(routes))
+}
+
+// What is found near a plan of two aircraft with these routes, under marks of these facts. Duals are 0.
+fn found_near(
+    alloc: Global,
+    book: &Book,
+    facts: &[Fact],
+    first: &[u32],
+    second: &[u32],
+) -> Result<Option<Found>, Fail> {
+    let (table, net) = (costs(alloc, book)?, Net::new(alloc, book)?);
+    let marks = marks(alloc, book, facts)?;
+    let duals = Duals {
+        values: vec![in alloc; 0i64; book.activities.len()]?,
+    };
+    if !are_duals(book, &table, &duals) {
+        return Ok(None);
+    }
+    let problem = Problem {
+        book,
+        table: &table,
+        net: &net,
+    };
+    let sought = Sought {
+        marks: &marks,
+        duals: &duals,
+        work: AMPLE,
+    };
+    let plan = plan_of(alloc, first, second)?;
+    Ok(exchange(alloc, &problem, &sought, &plan)?)
 }
 
 // Whether the answer is a plan of two aircraft with these routes and this cost.
@@ -139,6 +177,22 @@ fn the_plan_that_marks_leave(rt: HostRuntime) -> Result<(), Fail> {
             assert_eq!(rt; routes, 2, "{fact:?}, {duals:?}");
         }
     }
+    Ok(())
+}
+
+// The first aircraft flies two hours for what the second takes for one: near the dear plan lies the cheap one, unless a Must holds
+// its routes. Near a plan that does not fit, or in which an aircraft is in two places at once, nothing is found.
+#[test]
+fn what_lies_near_a_plan(rt: HostRuntime) -> Result<(), Fail> {
+    let book = plain_book(rt.alloc(), &side_by_side(), &[0, 1], 30)?;
+    let near = found_near(rt.alloc(), &book, &[], &[0], &[1])?;
+    assert!(rt; is_plan(&near, &[1], &[0], 240));
+    let held = found_near(rt.alloc(), &book, &[Fact::Must(0, 0)], &[0], &[1])?;
+    assert!(rt; is_plan(&held, &[0], &[1], 300));
+    let unfit = found_near(rt.alloc(), &book, &[Fact::Must(0, 1)], &[0], &[1])?;
+    assert!(rt; unfit.is_none());
+    let illegal = found_near(rt.alloc(), &book, &[], &[0, 1], &[])?;
+    assert!(rt; illegal.is_none());
     Ok(())
 }
 

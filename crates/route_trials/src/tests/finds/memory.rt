@@ -1,7 +1,7 @@
 //! Plans for which memory may run out. The test here holds where any one allocation fails, and where none does;
 //! `tests/each_allocation` runs it with each of them failing in turn.
 
-use super::{found, is_plan, side_by_side};
+use super::{found, found_near, is_plan, side_by_side};
 use std::alloc::Global;
 use std::process::{Abort, ExitCode, Termination};
 use std::test::Fail;
@@ -24,10 +24,19 @@ fn is_missed(rt: &impl Abort, alloc: Global) -> Result<(), Fail> {
     Ok(())
 }
 
-// Both, one after the other.
+// The cheap plan near the dear one.
+fn is_near(rt: &impl Abort, alloc: Global) -> Result<(), Fail> {
+    let together = plain_book(alloc, &side_by_side(), &[0, 1], 30)?;
+    let answer = found_near(alloc, &together, &[], &[0], &[1])?;
+    assert!(rt; is_plan(&answer, &[1], &[0], 240));
+    Ok(())
+}
+
+// All of these, one after the other.
 fn are_answered(rt: &impl Abort, alloc: Global) -> Result<(), Fail> {
     is_found(rt, alloc)?;
-    is_missed(rt, alloc)
+    is_missed(rt, alloc)?;
+    is_near(rt, alloc)
 }
 
 // Where memory runs out, plans are looked for again, with all that is made for it.
