@@ -3,4 +3,5 @@
 mod books;
 mod counters;
 mod curfews;
+mod rows;
 mod turns;

@@ -1,17 +1,18 @@
 //! A small book and what its activities cost by its table, and where a book or a table breaks a limit.
 
+use super::rows::{AIRCRAFT, ActivityRow, BookRows, FLIGHT, TailRow, book_of};
 use std::alloc::Global;
 use std::test::Fail;
 use tail_book::*;
 
-// What a test changes of the book: its first activity, its second aircraft, its first type and its airport.
+// What a test changes of the book: its first activity, its second aircraft, its first type and its airport. Names are digits.
 #[derive(Clone, Copy)]
 struct Parts {
-    id: Name,
+    id: u32,
     start: i64,
     end: i64,
     tail: Option<u32>,
-    name: Name,
+    name: u32,
     kind: u32,
     fixed: u64,
     rate: u64,
@@ -20,285 +21,221 @@ struct Parts {
     upto: i64,
 }
 
-fn whole_parts() -> Parts {
-    Parts {
-        id: Name::new(b"F1".as_slice()),
-        start: 360,
-        end: 420,
-        tail: None,
-        name: Name::new(b"A2".as_slice()),
-        kind: 1,
-        fixed: 0,
-        rate: 1,
-        turn: 30,
-        offset: 60,
-        upto: 60,
-    }
-}
+const WHOLE: Parts = Parts {
+    id: 1,
+    start: 360,
+    end: 420,
+    tail: None,
+    name: 2,
+    kind: 1,
+    fixed: 0,
+    rate: 1,
+    turn: 30,
+    offset: 60,
+    upto: 60,
+};
 
-// At one airport: flights to and from it, and ground time.
-fn activity(
-    alloc: Global,
-    id: Name,
-    flight: bool,
-    start: i64,
-    end: i64,
-    tail: Option<u32>,
-) -> Activity {
-    Activity {
-        id,
-        flight,
-        from: 0,
-        to: 0,
-        start,
-        end,
-        types: Vec::new(alloc),
-        tags: Vec::new(alloc),
-        tail,
-        resets: Vec::new(alloc),
-    }
-}
+const GROUND: ActivityRow = ActivityRow {
+    id: 5,
+    flight: false,
+    time: (450, 550),
+    ..FLIGHT
+};
 
-fn tail(alloc: Global, name: Name, kind: u32, fixed: u64) -> Tail {
-    Tail {
-        name,
-        kind,
-        at: 0,
-        ready: 0,
-        fixed,
-        tags: Vec::new(alloc),
-        avoid: Vec::new(alloc),
-        carry: Vec::new(alloc),
-    }
-}
+const BACK: ActivityRow = ActivityRow {
+    id: 6,
+    time: (600, 630),
+    ..FLIGHT
+};
 
-// A type that costs 1 a minute, and one that costs 3; a stop of up to an hour costs 5, a longer one 40.
-fn rules(alloc: Global, parts: Parts) -> Result<Rules, Memory> {
-    let kinds = vec![in alloc;
-        AircraftType {
-            name: Name::new(b"P".as_slice()),
-            rate: parts.rate,
-            turn: parts.turn
-        },
-        AircraftType {
-            name: Name::new(b"Q".as_slice()),
-            rate: 3,
-            turn: 30
-        },
-    ]?;
-    let airports = vec![in alloc;
-        Airport {
-            name: Name::new(b"ARN".as_slice()),
-            offset: parts.offset,
-            turn: 30
-        },
-    ]?;
-    let bands = vec![in alloc;
-        Band {
-            upto: parts.upto,
-            cost: 5
-        },
-        Band {
-            upto: 10_000_000,
-            cost: 40
-        },
-    ]?;
-    Ok(Rules {
-        kinds,
-        airports,
-        curfews: Vec::new(alloc),
-        counters: Vec::new(alloc),
-        bands,
-    })
-}
+const OLD: TailRow = TailRow {
+    id: 1,
+    fixed: 7,
+    ..AIRCRAFT
+};
 
+// Flights to and from one airport, and ground time. A type that costs 1 a minute, and one that costs 3; a stop of up to an hour
+// costs 5, a longer one 40.
 fn book(alloc: Global, parts: Parts) -> Result<Option<Book>, Memory> {
-    let (ground, second) = (Name::new(b"G1".as_slice()), Name::new(b"F2".as_slice()));
-    let activities = vec![in alloc;
-        activity(alloc, parts.id, true, parts.start, parts.end, parts.tail),
-        activity(alloc, ground, false, 450, 550, None),
-        activity(alloc, second, true, 600, 630, None),
-    ]?;
-    let tails = vec![in alloc;
-        tail(alloc, Name::new(b"A1".as_slice()), 0, 7),
-        tail(alloc, parts.name, parts.kind, parts.fixed),
-    ]?;
-    Ok(Book::new(activities, tails, rules(alloc, parts)?))
+    let (mut first, mut second) = (FLIGHT, AIRCRAFT);
+    (first.id, first.time, first.tail) = (parts.id, (parts.start, parts.end), parts.tail);
+    (second.id, second.kind, second.fixed) = (parts.name, parts.kind, parts.fixed);
+    let rows = BookRows {
+        kinds: &[(parts.rate, parts.turn), (3, 30)],
+        airports: &[(parts.offset, 30)],
+        curfews: &[],
+        counters: &[],
+        bands: &[(parts.upto, 5), (10_000_000, 40)],
+        tails: &[OLD, second],
+        activities: &[first, GROUND, BACK],
+    };
+    book_of(alloc, &rows)
+}
+
+fn whole_table(alloc: Global) -> Result<CostTable, Fail> {
+    let Some(book) = book(alloc, WHOLE)? else {
+        return Err(Fail::new("no book"));
+    };
+    Ok(CostTable::of(alloc, &book)?)
 }
 
 // An hour, ground time and half an hour: 7 for each activity beside 1 a minute, and 3 a minute alone.
 #[test]
 fn own_costs(rt: HostRuntime) -> Result<(), Fail> {
-    let Some(book) = book(rt.alloc(), whole_parts())? else {
-        return Err(Fail::new("no book"));
-    };
-    let table = CostTable::of(rt.alloc(), &book)?;
-    assert_eq!(rt; (table.n, table.m), (3, 2));
-    assert_eq!(rt; table.fly.as_slice(), [67, 7, 37, 180, 0, 90].as_slice());
-    assert_eq!(rt; table.bands.len(), 2);
-    assert_eq!(rt; (table.bands[0].upto, table.bands[0].cost), (60, 5));
-    assert_eq!(rt;
-        (table.bands[1].upto, table.bands[1].cost),
-        (10_000_000, 40)
-    );
-    assert_eq!(rt; (table.fly_max, table.band_max), (1_000_000, 1_000_000));
+    let table = whole_table(rt.alloc())?;
+    assert!(rt; (table.n, table.m) == (3, 2));
+    assert!(rt; table.fly.as_slice() == [67, 7, 37, 180, 0, 90].as_slice());
+    assert!(rt; (table.fly_max, table.band_max) == (1_000_000, 1_000_000));
+    assert!(rt; table.bands.len() == 2);
+    assert!(rt; (table.bands[0].upto, table.bands[0].cost) == (60, 5));
+    assert!(rt; (table.bands[1].upto, table.bands[1].cost) == (10_000_000, 40));
     Ok(())
+}
+
+// Parts, and whether there is a book of them.
+type Row = (Parts, bool);
+
+// The number of the first row that is otherwise.
+fn first_wrong(alloc: Global, rows: &[Row]) -> Result<Option<usize>, Memory> {
+    for (number, &(parts, kept)) in rows.iter().enumerate() {
+        if book(alloc, parts)?.is_some() != kept {
+            return Ok(Some(number));
+        }
+    }
+    Ok(None)
 }
 
 // Each limit, and a step beyond it.
+const LIMITS: &[Row] = &[
+    (WHOLE, true),
+    (Parts { start: 0, ..WHOLE }, true),
+    (Parts { start: -1, ..WHOLE }, false),
+    (Parts { end: 361, ..WHOLE }, true),
+    (Parts { end: 360, ..WHOLE }, false),
+    (Parts { end: 3240, ..WHOLE }, true),
+    (Parts { end: 3241, ..WHOLE }, false),
+    (
+        Parts {
+            tail: Some(1),
+            ..WHOLE
+        },
+        true,
+    ),
+    (
+        Parts {
+            tail: Some(2),
+            ..WHOLE
+        },
+        false,
+    ),
+    (Parts { kind: 2, ..WHOLE }, false),
+    (
+        Parts {
+            fixed: 100_000,
+            ..WHOLE
+        },
+        true,
+    ),
+    (
+        Parts {
+            fixed: 100_001,
+            ..WHOLE
+        },
+        false,
+    ),
+    (Parts { rate: 300, ..WHOLE }, true),
+    (Parts { rate: 301, ..WHOLE }, false),
+    (
+        Parts {
+            turn: 1440,
+            ..WHOLE
+        },
+        true,
+    ),
+    (
+        Parts {
+            turn: 1441,
+            ..WHOLE
+        },
+        false,
+    ),
+    (
+        Parts {
+            offset: -840,
+            ..WHOLE
+        },
+        true,
+    ),
+    (
+        Parts {
+            offset: -841,
+            ..WHOLE
+        },
+        false,
+    ),
+    (
+        Parts {
+            upto: 10_000_000,
+            ..WHOLE
+        },
+        true,
+    ),
+    (
+        Parts {
+            upto: 10_000_001,
+            ..WHOLE
+        },
+        false,
+    ),
+];
+
 #[test]
 fn limits_of_a_book(rt: HostRuntime) -> Result<(), Fail> {
-    let whole = whole_parts();
-    for (row, (parts, kept)) in [
-        (whole, true),
-        (Parts { start: 0, ..whole }, true),
-        (Parts { start: -1, ..whole }, false),
-        (Parts { end: 361, ..whole }, true),
-        (Parts { end: 360, ..whole }, false),
-        (Parts { end: 3240, ..whole }, true),
-        (Parts { end: 3241, ..whole }, false),
-        (
-            Parts {
-                tail: Some(1),
-                ..whole
-            },
-            true,
-        ),
-        (
-            Parts {
-                tail: Some(2),
-                ..whole
-            },
-            false,
-        ),
-        (Parts { kind: 2, ..whole }, false),
-        (
-            Parts {
-                fixed: 100_000,
-                ..whole
-            },
-            true,
-        ),
-        (
-            Parts {
-                fixed: 100_001,
-                ..whole
-            },
-            false,
-        ),
-        (Parts { rate: 300, ..whole }, true),
-        (Parts { rate: 301, ..whole }, false),
-        (
-            Parts {
-                turn: 1440,
-                ..whole
-            },
-            true,
-        ),
-        (
-            Parts {
-                turn: 1441,
-                ..whole
-            },
-            false,
-        ),
-        (
-            Parts {
-                offset: -840,
-                ..whole
-            },
-            true,
-        ),
-        (
-            Parts {
-                offset: -841,
-                ..whole
-            },
-            false,
-        ),
-        (
-            Parts {
-                upto: 10_000_000,
-                ..whole
-            },
-            true,
-        ),
-        (
-            Parts {
-                upto: 10_000_001,
-                ..whole
-            },
-            false,
-        ),
-    ]
-    .into_iter()
-    .enumerate()
-    {
-        assert!(rt; book(rt.alloc(), parts)?.is_some() == kept, "in row {row}");
-    }
+    let wrong = first_wrong(rt.alloc(), LIMITS)?;
+    assert!(rt; wrong.is_none(), "row {wrong:?}");
     Ok(())
 }
 
+// The first activity a minute after the second one starts, and at the same time.
+const AFTER: Parts = Parts {
+    start: 451,
+    end: 500,
+    ..WHOLE
+};
+
+const BESIDE: Parts = Parts {
+    start: 450,
+    end: 500,
+    ..WHOLE
+};
+
 // Activities stand in order of start and then id, and no name stands twice.
+const ORDER: &[Row] = &[
+    (AFTER, false),
+    (Parts { id: 4, ..BESIDE }, true),
+    (Parts { id: 7, ..BESIDE }, false),
+    (Parts { id: 5, ..WHOLE }, false),
+    (Parts { name: 1, ..WHOLE }, false),
+];
+
 #[test]
 fn order_and_names_of_a_book(rt: HostRuntime) -> Result<(), Fail> {
-    let whole = whole_parts();
-    let (before, after) = (Name::new(b"F9".as_slice()), Name::new(b"G2".as_slice()));
-    let (ground, first) = (Name::new(b"G1".as_slice()), Name::new(b"A1".as_slice()));
-    for (row, (parts, kept)) in [
-        (
-            Parts {
-                start: 451,
-                end: 500,
-                ..whole
-            },
-            false,
-        ),
-        (
-            Parts {
-                id: before,
-                start: 450,
-                end: 500,
-                ..whole
-            },
-            true,
-        ),
-        (
-            Parts {
-                id: after,
-                start: 450,
-                end: 500,
-                ..whole
-            },
-            false,
-        ),
-        (
-            Parts {
-                id: ground,
-                ..whole
-            },
-            false,
-        ),
-        (
-            Parts {
-                name: first,
-                ..whole
-            },
-            false,
-        ),
-    ]
-    .into_iter()
-    .enumerate()
-    {
-        assert!(rt; book(rt.alloc(), parts)?.is_some() == kept, "in row {row}");
-    }
+    let wrong = first_wrong(rt.alloc(), ORDER)?;
+    assert!(rt; wrong.is_none(), "row {wrong:?}");
     Ok(())
+}
+
+// Whether there is a table of one entry, which is 5, and one band, which costs 7, with these numbers.
+fn is_table(alloc: Global, n: usize, fly_max: u64, band_max: u64) -> Result<bool, Memory> {
+    let fly = vec![in alloc; 5]?;
+    let bands = vec![in alloc; Band { upto: 60, cost: 7 }]?;
+    Ok(CostTable::new(n, 1, fly, bands, fly_max, band_max).is_some())
 }
 
 // An entry and a band at their maxima, and sums of costs up to 2^61 thousandths.
 #[test]
 fn limits_of_a_table(rt: HostRuntime) -> Result<(), Fail> {
-    for &(n, fly_max, band_max, kept) in &[
+    for row in &[
         (1, 5, 7, true),
         (1, 4, 7, false),
         (1, 5, 6, false),
@@ -309,12 +246,10 @@ fn limits_of_a_table(rt: HostRuntime) -> Result<(), Fail> {
         (2_305_843_009_213_694, 5, 7, false),
         (usize::MAX, 5, 7, false),
     ] {
-        let fly = vec![in rt.alloc(); 5]?;
-        let bands = vec![in rt.alloc(); Band { upto: 60, cost: 7 }]?;
-        let table = CostTable::new(n, 1, fly, bands, fly_max, band_max);
+        let &(n, fly_max, band_max, kept) = row;
         assert!(rt;
-            table.is_some() == kept,
-            "with {n}, {fly_max} and {band_max}"
+            is_table(rt.alloc(), n, fly_max, band_max)? == kept,
+            "{row:?}"
         );
     }
     Ok(())

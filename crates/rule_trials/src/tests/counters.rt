@@ -3,9 +3,9 @@
 ghost use Rattle.std.specs.Prelude.{◌≡◌, ◌<◌, length};
 ghost use Rattle.tail_book.specs.Lookup.{aircraft};
 
+use super::rows::{AIRCRAFT, ActivityRow, BookRows, CounterRow, FLIGHT, TailRow, first_wrong};
 use maint_counters::*;
 use std::alloc::Global;
-use std::process::Abort;
 use std::test::Fail;
 use tail_book::*;
 use turn_rules::gap;
@@ -41,148 +41,112 @@ const F4: u32 = 7;
 
 const H1: u32 = 8;
 
-fn activity(
-    alloc: Global,
-    id: Name,
-    flight: bool,
-    leg: (u32, u32),
-    time: (i64, i64),
-    resets: Vec<u32>,
-) -> Activity {
-    let ((from, to), (start, end)) = (leg, time);
-    Activity {
-        id,
-        flight,
-        from,
-        to,
-        start,
-        end,
-        types: Vec::new(alloc),
-        tags: Vec::new(alloc),
-        tail: None,
-        resets,
-    }
-}
-
-// A flight of an hour.
-fn flight(alloc: Global, id: Name, leg: (u32, u32), start: i64) -> Activity {
-    activity(
-        alloc,
-        id,
-        true,
-        leg,
-        (start, start.saturating_add(60)),
-        Vec::new(alloc),
-    )
-}
-
-fn counter(name: Name, kind: CounterKind, limit: i64, bases: Vec<u32>, stop: i64) -> Counter {
-    Counter {
-        name,
-        kind,
-        limit,
-        bases,
-        stop,
-    }
-}
-
-fn tail(alloc: Global, name: Name, at: u32, ready: i64, carry: Vec<i64>) -> Tail {
-    Tail {
-        name,
-        kind: 0,
-        at,
-        ready,
-        fixed: 0,
-        tags: Vec::new(alloc),
-        avoid: Vec::new(alloc),
-        carry,
-    }
-}
-
-fn rules(alloc: Global, airports: Vec<Airport>, counters: Vec<Counter>) -> Result<Rules, Memory> {
-    let name = Name::new(b"A320".as_slice());
-    let kinds = vec![in alloc;
-        AircraftType {
-            name,
-            rate: 10,
-            turn: 30
+// An aircraft type and two airports, in local time an hour ahead of UTC.
+const BOOK: &BookRows = &BookRows {
+    kinds: &[(10, 30)],
+    airports: &[(60, 30), (60, 30)],
+    curfews: &[],
+    // Two hours between stops of an hour at ARN, two landings between stops of half an hour at OSL, and a day.
+    counters: &[
+        CounterRow {
+            kind: CounterKind::Minutes,
+            limit: 120,
+            bases: &[ARN],
+            stop: 60,
         },
-    ]?;
-    Ok(Rules {
-        kinds,
-        airports,
-        curfews: Vec::new(alloc),
-        counters,
-        bands: Vec::new(alloc),
-    })
-}
-
-// Two hours between stops of an hour at ARN, two landings between stops of half an hour at OSL, and a day.
-fn small_counters(alloc: Global) -> Result<Vec<Counter>, Memory> {
-    let (hours, landings) = (
-        Name::new(b"hours".as_slice()),
-        Name::new(b"landings".as_slice()),
-    );
-    let days = Name::new(b"days".as_slice());
-    let (arn, osl, again) = (
-        vec![in alloc; ARN]?,
-        vec![in alloc; OSL]?,
-        vec![in alloc; ARN]?,
-    );
-    Ok(vec![in alloc;
-        counter(hours, CounterKind::Minutes, 120, arn, 60),
-        counter(landings, CounterKind::Landings, 2, osl, 30),
-        counter(days, CounterKind::Days, 1440, again, 60),
-    ]?)
-}
-
-fn small_rules(alloc: Global) -> Result<Rules, Memory> {
-    let (arn, osl) = (Name::new(b"ARN".as_slice()), Name::new(b"OSL".as_slice()));
-    let airports = vec![in alloc;
-        Airport {
-            name: arn,
-            offset: 60,
-            turn: 30
+        CounterRow {
+            kind: CounterKind::Landings,
+            limit: 2,
+            bases: &[OSL],
+            stop: 30,
         },
-        Airport {
-            name: osl,
-            offset: 60,
-            turn: 30
+        CounterRow {
+            kind: CounterKind::Days,
+            limit: 1440,
+            bases: &[ARN],
+            stop: 60,
         },
-    ]?;
-    rules(alloc, airports, small_counters(alloc)?)
-}
+    ],
+    bands: &[],
+    tails: &[
+        TailRow {
+            id: A,
+            at: ARN,
+            ready: 360,
+            carry: &[0, 0, 0],
+            ..AIRCRAFT
+        },
+        TailRow {
+            id: B,
+            at: OSL,
+            ready: 0,
+            carry: &[10, 2, 1000],
+            ..AIRCRAFT
+        },
+    ],
+    // Flights of an hour, and a check at OSL of two hours that resets the counter of days.
+    activities: &[
+        ActivityRow {
+            id: F1,
+            leg: (ARN, OSL),
+            time: (360, 420),
+            ..FLIGHT
+        },
+        ActivityRow {
+            id: J1,
+            leg: (OSL, ARN),
+            time: (380, 440),
+            ..FLIGHT
+        },
+        ActivityRow {
+            id: J2,
+            leg: (OSL, ARN),
+            time: (381, 441),
+            ..FLIGHT
+        },
+        ActivityRow {
+            id: F2,
+            leg: (OSL, ARN),
+            time: (450, 510),
+            ..FLIGHT
+        },
+        ActivityRow {
+            id: E3,
+            leg: (ARN, OSL),
+            time: (569, 629),
+            ..FLIGHT
+        },
+        ActivityRow {
+            id: F3,
+            leg: (ARN, OSL),
+            time: (570, 630),
+            ..FLIGHT
+        },
+        ActivityRow {
+            id: G1,
+            flight: false,
+            leg: (OSL, OSL),
+            time: (600, 720),
+            resets: &[2],
+            ..FLIGHT
+        },
+        ActivityRow {
+            id: F4,
+            leg: (OSL, ARN),
+            time: (660, 720),
+            ..FLIGHT
+        },
+        ActivityRow {
+            id: H1,
+            leg: (OSL, ARN),
+            time: (750, 810),
+            ..FLIGHT
+        },
+    ],
+};
 
-fn small_tails(alloc: Global) -> Result<Vec<Tail>, Memory> {
-    let (a, b) = (Name::new(b"SE-A".as_slice()), Name::new(b"SE-B".as_slice()));
-    let (new, used) = (vec![in alloc; 0, 0, 0]?, vec![in alloc; 10, 2, 1000]?);
-    Ok(vec![in alloc; tail(alloc, a, ARN, 360, new), tail(alloc, b, OSL, 0, used)]?)
-}
-
-// Flights of an hour, and a check at OSL of two hours that resets the counter of days.
-fn small_activities(alloc: Global) -> Result<Vec<Activity>, Memory> {
-    let (g1, resets) = (Name::new(b"G1".as_slice()), vec![in alloc; 2]?);
-    Ok(vec![in alloc;
-        flight(alloc, Name::new(b"F1".as_slice()), (ARN, OSL), 360),
-        flight(alloc, Name::new(b"J1".as_slice()), (OSL, ARN), 380),
-        flight(alloc, Name::new(b"J2".as_slice()), (OSL, ARN), 381),
-        flight(alloc, Name::new(b"F2".as_slice()), (OSL, ARN), 450),
-        flight(alloc, Name::new(b"E3".as_slice()), (ARN, OSL), 569),
-        flight(alloc, Name::new(b"F3".as_slice()), (ARN, OSL), 570),
-        activity(alloc, g1, false, (OSL, OSL), (600, 720), resets),
-        flight(alloc, Name::new(b"F4".as_slice()), (OSL, ARN), 660),
-        flight(alloc, Name::new(b"H1".as_slice()), (OSL, ARN), 750),
-    ]?)
-}
-
-fn book(alloc: Global) -> Result<Book, Fail> {
-    let (activities, tails) = (small_activities(alloc)?, small_tails(alloc)?);
-    let book = Book::new(activities, tails, small_rules(alloc)?);
-    Ok(book.ok_or("no book")?)
-}
-
-// Steps along a route, as far as the limits allow.
-fn walk(rt: &impl Abort, book: &Book, k: u32, route: &[u32], values: &mut [i64]) -> bool
+// Steps along a route, as far as the limits allow; nothing where an activity is none of the book, or starts too early.
+fn walk(book: &Book, k: u32, route: &[u32], values: &mut [i64]) -> Option<bool>
     requires aircraft { k < aircraft book.now }
     requires width { length values.old ≡ length book.now.rules.counters }
 {
@@ -190,23 +154,36 @@ fn walk(rt: &impl Abort, book: &Book, k: u32, route: &[u32], values: &mut [i64])
     let mut from = Place::Carry;
     for b in route {
         let b = *b;
-        assert!(rt; (b as usize) < book.activities.len());
-        assert!(rt; gap(book, k, from, b) >= 0);
+        if b as usize >= book.activities.len() {
+            return None;
+        }
+        if gap(book, k, from, b) < 0 {
+            return None;
+        }
         if !step(book, k, from, b, values) {
-            return false;
+            return Some(false);
         }
         from = Place::After(b);
     }
-    true
+    Some(true)
+}
+
+// An aircraft and a route, what then stands on the counters, and whether that is within the limits.
+type Walk = (u32, &'static [u32], [i64; 3], bool);
+
+fn walks_so(book: &Book, &(k, route, want, within): &Walk) -> bool {
+    let mut values = [0; 3];
+    (k as usize) < book.tails.len()
+        && book.rules.counters.len() == 3
+        && walk(book, k, route, &mut values) == Some(within)
+        && values == want
 }
 
 // Minutes flown, landings and days: cleared by a stop that is just long enough at a base, and not by one a minute
 // shorter or elsewhere; limits met exactly and passed by one; a check that resets what it has counted on before.
 #[test]
 fn counters_along_routes(rt: HostRuntime) -> Result<(), Fail> {
-    let book = book(rt.alloc())?;
-    assert!(rt; book.rules.counters.len() == 3);
-    let rows: &[(u32, &[u32], [i64; 3], bool)] = &[
+    let rows: &[Walk] = &[
         (A, &[F1], [60, 1, 60], true),
         (A, &[F1, F2], [120, 1, 150], true),
         (A, &[F1, F2, F3], [60, 2, 60], true),
@@ -218,34 +195,29 @@ fn counters_along_routes(rt: HostRuntime) -> Result<(), Fail> {
         (B, &[J1], [70, 1, 1440], true),
         (B, &[J2], [70, 1, 1441], false),
     ];
-    for &(k, route, want, within) in rows {
-        assert!(rt; (k as usize) < book.tails.len());
-        let mut values = [0; 3];
-        assert!(rt;
-            walk(&rt, &book, k, route, &mut values) == within,
-            "{route:?} of {k}"
-        );
-        assert!(rt; values == want, "{route:?} of {k}");
-    }
+    let wrong = first_wrong(rt.alloc(), BOOK, rows, walks_so)?;
+    assert!(rt; wrong.is_none(), "row {wrong:?}");
     Ok(())
 }
 
-// Whether a route is legal for an aircraft; nothing where the book does not have the aircraft.
-fn judged(alloc: Global, book: &Book, k: u32, route: &[u32]) -> Result<Option<bool>, Fail> {
+// An aircraft, a route, and whether it is legal.
+type Route = (u32, &'static [u32], bool);
+
+fn is_judged_so(alloc: Global, book: &Book, &(k, route, want): &Route) -> Result<bool, Memory> {
     let table = StepTable::of(alloc, book)?;
-    let mut values = vec![in alloc; 0; book.rules.counters.len()]?;
-    if k as usize >= book.tails.len() {
-        return Ok(None);
-    }
-    Ok(Some(is_legal_route(book, &table, k, route, &mut values)))
+    let mut values = [0; 3];
+    Ok(
+        (k as usize) < book.tails.len()
+            && book.rules.counters.len() == 3
+            && is_legal_route(book, &table, k, route, &mut values) == want,
+    )
 }
 
 // Routes within the limits and past one, by an activity at another airport, by one that starts in the turn, twice by the
 // same, by a number that no activity has, and none at all.
 #[test]
 fn routes_are_judged(rt: HostRuntime) -> Result<(), Fail> {
-    let book = book(rt.alloc())?;
-    let rows: &[(u32, &[u32], bool)] = &[
+    let rows: &[Route] = &[
         (A, &[], true),
         (A, &[F1, F2, F3, F4], true),
         (A, &[F1, F2, E3], false),
@@ -259,11 +231,23 @@ fn routes_are_judged(rt: HostRuntime) -> Result<(), Fail> {
         (B, &[J2], false),
         (B, &[4_294_967_295], false),
     ];
-    for &(k, route, want) in rows {
-        let answer = judged(rt.alloc(), &book, k, route)?;
-        assert!(rt; answer == Some(want), "{route:?} of {k}");
-    }
+    let alloc = rt.alloc();
+    let wrong = first_wrong(alloc, BOOK, rows, |book, row| {
+        is_judged_so(alloc, book, row) == Ok(true)
+    })?;
+    assert!(rt; wrong.is_none(), "row {wrong:?}");
     Ok(())
+}
+
+// A kind of counter, what the check and a flight from there count on it, and what the flight does where a stop cleared it.
+type Amounts = (CounterKind, i64, i64, i64);
+
+fn adds_so(book: &Book, &(kind, check, flight, anew): &Amounts) -> bool {
+    book.tails.len() == 2
+        && book.activities.len() == 9
+        && amount(book, B, Place::Carry, G1, false, kind) == check
+        && amount(book, B, Place::Carry, H1, false, kind) == flight
+        && amount(book, B, Place::Carry, H1, true, kind) == anew
 }
 
 // A check at OSL from 10:00 to 12:00, before which the aircraft has been free since midnight: no minutes flown, no
@@ -271,42 +255,30 @@ fn routes_are_judged(rt: HostRuntime) -> Result<(), Fail> {
 // cleared them.
 #[test]
 fn what_an_activity_adds(rt: HostRuntime) -> Result<(), Fail> {
-    let book = book(rt.alloc())?;
-    assert!(rt; book.tails.len() == 2 && book.activities.len() == 9);
-    for &(kind, check, flight, anew) in &[
+    let rows = &[
         (CounterKind::Minutes, 0, 60, 60),
         (CounterKind::Landings, 0, 1, 1),
         (CounterKind::Days, 720, 810, 60),
-    ] {
-        assert!(rt;
-            amount(&book, B, Place::Carry, G1, false, kind) == check,
-            "{kind:?}"
-        );
-        assert!(rt;
-            amount(&book, B, Place::Carry, H1, false, kind) == flight,
-            "{kind:?}"
-        );
-        assert!(rt;
-            amount(&book, B, Place::Carry, H1, true, kind) == anew,
-            "{kind:?}"
-        );
-    }
+    ];
+    let wrong = first_wrong(rt.alloc(), BOOK, rows, adds_so)?;
+    assert!(rt; wrong.is_none(), "row {wrong:?}");
     Ok(())
+}
+
+// Whether the stop between the first aircraft's flights to OSL and back clears a counter as the row says.
+fn clears_so(book: &Book, &(c, want): &(usize, bool)) -> bool {
+    book.tails.len() == 2
+        && book.activities.len() == 9
+        && book.rules.counters.len() == 3
+        && c < 3
+        && cleared(book, A, Place::After(F1), F2, &book.rules.counters[c]) == want
 }
 
 // A stop of half an hour at OSL clears what OSL is a base of.
 #[test]
 fn what_clears_a_counter(rt: HostRuntime) -> Result<(), Fail> {
-    let made = book(rt.alloc())?;
-    let book = &made;
-    assert!(rt; book.tails.len() == 2 && book.activities.len() == 9);
-    assert!(rt; book.rules.counters.len() == 3);
-    for (c, want) in [(0, false), (1, true), (2, false)] {
-        let counter = &book.rules.counters[c];
-        assert!(rt;
-            cleared(book, A, Place::After(F1), F2, counter) == want,
-            "counter {c}"
-        );
-    }
+    let rows = &[(0, false), (1, true), (2, false)];
+    let wrong = first_wrong(rt.alloc(), BOOK, rows, clears_so)?;
+    assert!(rt; wrong.is_none(), "row {wrong:?}");
     Ok(())
 }

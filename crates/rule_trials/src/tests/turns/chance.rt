@@ -1,6 +1,11 @@
 //! Books by chance, with every kind of rule of flying: the tables say what the rules say.
 
-use super::{activity, asking, kind, rules, tail};
+ghost use Rattle.std.specs.Prelude.{◌<◌};
+ghost use Rattle.tail_book.specs.Lookup.{activities, aircraft};
+ghost use Rattle.turn_rules.specs.inside.CurfewTable.{AreCurfewsOf};
+ghost use Rattle.turn_rules.specs.inside.PermissionTable.{ArePermissionsOf};
+
+use crate::tests::rows::{AIRCRAFT, ActivityRow, BookRows, CurfewRow, FLIGHT, TailRow, book, few};
 use dice::Dice;
 use std::alloc::Global;
 use std::process::Abort;
@@ -8,154 +13,149 @@ use std::test::Fail;
 use tail_book::*;
 use turn_rules::*;
 
-// Up to two numbers below 3.
-fn few(dice: &mut Dice, alloc: Global) -> Result<Vec<u32>, Memory> {
-    let mut numbers = Vec::new(alloc);
-    for _ in 0..dice.below(3) {
-        numbers.push(dice.below(3))?;
+// How far an airport is ahead of UTC, and its turn.
+fn an_airport(dice: &mut Dice) -> (i64, i64) {
+    let (east, turn) = (dice.below(1681) as i64, dice.below(60) as i64);
+    (east - 840, turn)
+}
+
+fn a_curfew(dice: &mut Dice) -> CurfewRow<'static> {
+    CurfewRow {
+        airport: dice.below(3),
+        hours: (dice.below(1440) as i64, dice.below(1440) as i64),
+        types: few(dice),
+        starts: dice.below(2) == 0,
+        landings: dice.below(2) == 0,
     }
-    Ok(numbers)
 }
 
-fn three_kinds(alloc: Global) -> Result<Vec<AircraftType>, Memory> {
-    Ok(vec![in alloc;
-        kind(Name::new(b"P".as_slice()), 20),
-        kind(Name::new(b"Q".as_slice()), 40),
-        kind(Name::new(b"R".as_slice()), 60),
-    ]?)
-}
-
-fn three_airports(alloc: Global, dice: &mut Dice) -> Result<Vec<Airport>, Memory> {
-    let mut airports = Vec::new(alloc);
-    for &name in &[
-        Name::new(b"X".as_slice()),
-        Name::new(b"Y".as_slice()),
-        Name::new(b"Z".as_slice()),
-    ] {
-        let (east, turn) = (dice.below(1681) as i64, dice.below(60) as i64);
-        airports.push(Airport {
-            name,
-            offset: east - 840,
-            turn,
-        })?;
-    }
-    Ok(airports)
-}
-
-fn five_curfews(alloc: Global, dice: &mut Dice) -> Result<Vec<Curfew>, Memory> {
-    let mut curfews = Vec::new(alloc);
-    for _ in 0..5 {
-        curfews.push(Curfew {
-            airport: dice.below(3),
-            from: dice.below(1440) as i64,
-            to: dice.below(1440) as i64,
-            types: few(dice, alloc)?,
-            starts: dice.below(2) == 0,
-            landings: dice.below(2) == 0,
-        })?;
-    }
-    Ok(curfews)
-}
-
-fn three_tails(alloc: Global, dice: &mut Dice) -> Result<Vec<Tail>, Memory> {
-    let mut tails = Vec::new(alloc);
-    for &name in &[
-        Name::new(b"A1".as_slice()),
-        Name::new(b"A2".as_slice()),
-        Name::new(b"A3".as_slice()),
-    ] {
-        let (place, tags) = ((dice.below(3), 0), few(dice, alloc)?);
-        let avoid = if dice.below(3) == 0 {
-            few(dice, alloc)?
-        } else {
-            Vec::new(alloc)
-        };
-        tails.push(tail(alloc, name, dice.below(3), place, tags, avoid))?;
-    }
-    Ok(tails)
-}
-
-fn an_activity(alloc: Global, dice: &mut Dice, name: Name, start: i64) -> Result<Activity, Memory> {
-    let (from, to, minutes) = (dice.below(3), dice.below(3), 1 + dice.below(600) as i64);
-    let flight = dice.below(4) > 0;
-    let leg = if flight { (from, to) } else { (from, from) };
-    let made = activity(
-        alloc,
-        name,
-        flight,
-        leg,
-        (start, start.saturating_add(minutes)),
-    );
-    let types = if dice.below(2) == 0 {
-        few(dice, alloc)?
+// Up to two numbers below 3 in one of so many cases, and none in the others.
+fn seldom(dice: &mut Dice, cases: u32) -> &'static [u32]
+    requires { 0 < cases }
+{
+    if dice.below(cases) == 0 {
+        few(dice)
     } else {
-        Vec::new(alloc)
-    };
-    let tags = if dice.below(4) == 0 {
-        few(dice, alloc)?
-    } else {
-        Vec::new(alloc)
-    };
-    let tail = if dice.below(4) == 0 {
+        &[]
+    }
+}
+
+fn a_tail(dice: &mut Dice, id: u32) -> TailRow<'static> {
+    TailRow {
+        id,
+        at: dice.below(3),
+        tags: few(dice),
+        avoid: seldom(dice, 3),
+        kind: dice.below(3),
+        ..AIRCRAFT
+    }
+}
+
+// Some aircraft in one of four cases.
+fn some_aircraft(dice: &mut Dice) -> Option<u32> {
+    if dice.below(4) == 0 {
         Some(dice.below(3))
     } else {
         None
-    };
-    Ok(asking(made, types, tags, tail))
+    }
 }
 
-fn eight_activities(alloc: Global, dice: &mut Dice) -> Result<Vec<Activity>, Memory> {
-    let (mut activities, mut start) = (Vec::new(alloc), 1000i64);
-    for &name in &[
-        Name::new(b"1".as_slice()),
-        Name::new(b"2".as_slice()),
-        Name::new(b"3".as_slice()),
-        Name::new(b"4".as_slice()),
-        Name::new(b"5".as_slice()),
-        Name::new(b"6".as_slice()),
-        Name::new(b"7".as_slice()),
-        Name::new(b"8".as_slice()),
-    ] {
-        activities.push(an_activity(alloc, dice, name, start)?)?;
+fn an_activity(dice: &mut Dice, id: u32, start: i64) -> ActivityRow<'static> {
+    let (from, to, minutes) = (dice.below(3), dice.below(3), 1 + dice.below(600) as i64);
+    let flight = dice.below(4) > 0;
+    ActivityRow {
+        id,
+        flight,
+        leg: (from, if flight { to } else { from }),
+        time: (start, start.saturating_add(minutes)),
+        types: seldom(dice, 2),
+        tags: seldom(dice, 4),
+        tail: some_aircraft(dice),
+        resets: &[],
+    }
+}
+
+fn eight_activities(dice: &mut Dice) -> [ActivityRow<'static>; 8] {
+    let (mut rows, mut start) = ([FLIGHT; 8], 1000i64);
+    for id in 0..8u32 {
+        rows[id as usize] = an_activity(dice, id, start);
         start = start.saturating_add(1 + dice.below(600) as i64);
     }
-    Ok(activities)
+    rows
 }
 
 // A book of three types, airports and aircraft, five curfews and eight activities.
 fn book_by_chance(alloc: Global, seed: u64) -> Result<Book, Fail> {
-    let mut dice = Dice::new(seed);
-    let (kinds, airports) = (three_kinds(alloc)?, three_airports(alloc, &mut dice)?);
-    let rules = rules(alloc, kinds, airports, five_curfews(alloc, &mut dice)?);
-    let tails = three_tails(alloc, &mut dice)?;
-    let book = Book::new(eight_activities(alloc, &mut dice)?, tails, rules);
-    Ok(book.ok_or("no book")?)
+    let mut chance = Dice::new(seed);
+    let dice = &mut chance;
+    let airports = [an_airport(dice), an_airport(dice), an_airport(dice)];
+    let curfews = [
+        a_curfew(dice),
+        a_curfew(dice),
+        a_curfew(dice),
+        a_curfew(dice),
+        a_curfew(dice),
+    ];
+    let tails = [a_tail(dice, 0), a_tail(dice, 1), a_tail(dice, 2)];
+    let rows = BookRows {
+        kinds: &[(10, 20), (10, 40), (10, 60)],
+        airports: &airports,
+        curfews: &curfews,
+        counters: &[],
+        bands: &[],
+        tails: &tails,
+        activities: &eight_activities(dice),
+    };
+    book(alloc, &rows)
 }
 
-// Of a book: each question of the tables is answered as the rules answer it. Counts what is allowed, and what a curfew stops.
-fn compare(rt: &impl Abort, alloc: Global, book: &Book) -> Result<(u32, u32), Fail> {
-    let curfews = CurfewTable::of(alloc, book)?;
-    let permissions = PermissionTable::of(alloc, book)?;
+// What the tables answer: whether a curfew stops an activity, and twice whether it is allowed.
+fn answers(
+    book: &Book,
+    curfews: &CurfewTable,
+    permissions: &PermissionTable,
+    k: u32,
+    a: u32,
+) -> (bool, bool, bool)
+    requires curfews { AreCurfewsOf book.now curfews.now }
+    requires permissions { ArePermissionsOf book.now permissions.now }
+    requires aircraft { k < aircraft book.now }
+    requires activity { a < activities book.now }
+{
+    (
+        curfewed_by(book, curfews, k, a),
+        allowed_by(book, curfews, k, a),
+        permits(book, permissions, k, a),
+    )
+}
+
+// Each question of the tables is answered as the rules answer it. Counts what is allowed, and what a curfew stops.
+fn compare(
+    rt: &impl Abort,
+    book: &Book,
+    curfews: &CurfewTable,
+    permissions: &PermissionTable,
+) -> (u32, u32)
+    requires curfews { AreCurfewsOf book.now curfews.now }
+    requires permissions { ArePermissionsOf book.now permissions.now }
+{
     let (mut may, mut stopped) = (0u32, 0u32);
     for k in 0..book.tails.len() as u32 {
         for a in 0..book.activities.len() as u32 {
             let (want, closed) = (allowed(book, k, a), curfewed(book, k, a));
-            assert!(rt;
-                curfewed_by(book, &curfews, k, a) == closed,
-                "curfew of {k}, {a}"
-            );
-            assert!(rt; allowed_by(book, &curfews, k, a) == want, "{k} and {a}");
-            assert!(rt; permits(book, &permissions, k, a) == want, "{k} and {a}");
+            let found = answers(book, curfews, permissions, k, a);
+            assert!(rt; found == (closed, want, want), "{:?}", (k, a, found));
             may = may.saturating_add(want as u32);
             stopped = stopped.saturating_add(closed as u32);
         }
     }
-    Ok((may, stopped))
+    (may, stopped)
 }
 
-// Each link of a book is one by its table, and no other is.
-fn compare_links(rt: &impl Abort, alloc: Global, book: &Book) -> Result<u32, Fail> {
-    let permissions = PermissionTable::of(alloc, book)?;
+// Each link of a book is one by its table, and no other is. Counts them.
+fn compare_links(rt: &impl Abort, book: &Book, permissions: &PermissionTable) -> u32
+    requires { ArePermissionsOf book.now permissions.now }
+{
     let mut linked = 0u32;
     for k in 0..book.tails.len() as u32 {
         for x in 0..book.activities.len() as u32 {
@@ -166,30 +166,49 @@ fn compare_links(rt: &impl Abort, alloc: Global, book: &Book) -> Result<u32, Fai
                     Place::After(x)
                 };
                 let want = link(book, k, from, b);
-                assert!(rt;
-                    link_by(book, &permissions, k, from, b) == want,
-                    "{k}: {x}, {b}"
-                );
+                let found = link_by(book, permissions, k, from, b);
+                assert!(rt; found == want, "{:?}", (k, from, b));
                 linked = linked.saturating_add(want as u32);
             }
         }
     }
-    Ok(linked)
+    linked
+}
+
+// How many are allowed, stopped and linked.
+type Counts = (u32, u32, u32);
+
+fn compare_all(rt: &impl Abort, alloc: Global, book: &Book) -> Result<Counts, Fail> {
+    let curfews = CurfewTable::of(alloc, book)?;
+    let permissions = PermissionTable::of(alloc, book)?;
+    let (may, stopped) = compare(rt, book, &curfews, &permissions);
+    Ok((may, stopped, compare_links(rt, book, &permissions)))
+}
+
+fn compare_one(rt: &impl Abort, alloc: Global, seed: u64) -> Result<Counts, Fail> {
+    let book = book_by_chance(alloc, seed)?;
+    compare_all(rt, alloc, &book)
+}
+
+fn sum(one: Counts, other: Counts) -> Counts {
+    (
+        one.0.saturating_add(other.0),
+        one.1.saturating_add(other.1),
+        one.2.saturating_add(other.2),
+    )
+}
+
+fn are_varied((may, stopped, linked): Counts) -> bool {
+    may > 100 && may < 860 && stopped > 100 && stopped < 860 && linked > 10
 }
 
 // Of 40 books with 960 questions, some are answered yes and some no, and curfews stop some.
 #[test]
 fn tables_say_what_the_rules_say(rt: HostRuntime) -> Result<(), Fail> {
-    let (mut may, mut stopped, mut linked) = (0u32, 0u32, 0u32);
+    let mut counts = (0, 0, 0);
     for seed in 0..40u64 {
-        let book = book_by_chance(rt.alloc(), seed)?;
-        let (allowed, closed) = compare(&rt, rt.alloc(), &book)?;
-        may = may.saturating_add(allowed);
-        stopped = stopped.saturating_add(closed);
-        linked = linked.saturating_add(compare_links(&rt, rt.alloc(), &book)?);
+        counts = sum(counts, compare_one(&rt, rt.alloc(), seed)?);
     }
-    assert!(rt; may > 100 && may < 860, "{may} allowed");
-    assert!(rt; stopped > 100 && stopped < 860, "{stopped} stopped");
-    assert!(rt; linked > 10, "{linked} linked");
+    assert!(rt; are_varied(counts), "{counts:?}");
     Ok(())
 }

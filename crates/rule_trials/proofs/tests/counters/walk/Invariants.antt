@@ -4,4 +4,4 @@ use Rattle.rule_trials.proofs.tests.counters.walk.Given as goal
 
 -- the place is of the book, and the values are counts
 abbrev pub invariant-loop-b : goal.invariant-loop-b
-invariant-loop-b g l = record { place : IsPlaceOf l.book l.from; range : AreCounts l.values }
+invariant-loop-b l = record { place : IsPlaceOf l.book l.from; range : AreCounts l.values }
