@@ -9,3 +9,4 @@ mod rules_files;
 mod seeds;
 mod timetables;
 mod values;
+mod wanted;

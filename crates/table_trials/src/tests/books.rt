@@ -1,9 +1,10 @@
 //! Three tables as a planner types them, and the book that they make.
 
+use crate::tests::wanted::{is_airport, is_type};
 use book_maker::read_book;
 use std::alloc::Global;
 use std::test::Fail;
-use tail_book::Book;
+use tail_book::{Activity, AircraftType, Airport, Band, Book, Counter, Curfew, Tail};
 use tail_text::{Refusal, Stopped, Table};
 
 const TIMETABLE: &str = "id,kind,from,to,start,end,types,tags,tail,resets
@@ -171,19 +172,13 @@ fn the_first_fault_is_refused(rt: HostRuntime) -> Result<(), Fail> {
     let bad_rules = RULES.replacen(alloc, "airport = \"OSL\"", "airport = \"BGO\"", 1)?;
     let bad_fleet = FLEET.replacen(alloc, "LN-ABC", "SE-ROB", 1)?;
     let bad_timetable = TIMETABLE.replacen(alloc, "G9", "FB", 1)?;
-    let want = |code, table, place| Some((code, table, place));
-    assert_eq!(rt;
-        refusal_of(alloc, &bad_timetable, &bad_fleet, &bad_rules),
-        want(12, Table::Rules, 6)
+    assert!(rt;
+        refusal_of(alloc, &bad_timetable, &bad_fleet, &bad_rules) == Some((12, Table::Rules, 6))
     );
-    assert_eq!(rt;
-        refusal_of(alloc, &bad_timetable, &bad_fleet, RULES),
-        want(11, Table::Fleet, 3)
+    assert!(rt;
+        refusal_of(alloc, &bad_timetable, &bad_fleet, RULES) == Some((11, Table::Fleet, 3))
     );
-    assert_eq!(rt;
-        refusal_of(alloc, &bad_timetable, FLEET, RULES),
-        want(11, Table::Timetable, 5)
-    );
+    assert!(rt; refusal_of(alloc, &bad_timetable, FLEET, RULES) == Some((11, Table::Timetable, 5)));
     Ok(())
 }
 
@@ -252,107 +247,140 @@ fn book(alloc: Global) -> Result<Book, Fail> {
 #[test]
 fn activities_are_in_order(rt: HostRuntime) -> Result<(), Fail> {
     let book = book(rt.alloc())?;
-    let wants = [
-        ("G9", 2, 1, 29_013_540, None),
-        ("FA", 0, 1, 29_013_600, None),
-        ("FB", 2, 0, 29_013_600, Some(2)),
-        ("CK", 1, 1, 29_013_840, Some(1)),
-    ];
-    assert_eq!(rt; book.activities.len(), wants.len());
-    for (activity, (id, from, to, start, tail)) in book.activities.iter().zip(wants) {
-        assert_eq!(rt; activity.id.as_bytes(), id.as_bytes());
-        assert!(rt;
-            (activity.from, activity.to, activity.start, activity.tail) == (from, to, start, tail),
-            "{id}"
-        );
-    }
+    let [first, second, third, last] = book.activities.as_slice() else {
+        assert!(rt; false, "{} activities", book.activities.len());
+        return Ok(());
+    };
+    assert!(rt; is_activity(first, "G9", (2, 1), 29_013_540, None));
+    assert!(rt; is_activity(second, "FA", (0, 1), 29_013_600, None));
+    assert!(rt; is_activity(third, "FB", (2, 0), 29_013_600, Some(2)));
+    assert!(rt; is_activity(last, "CK", (1, 1), 29_013_840, Some(1)));
     Ok(())
+}
+
+fn is_activity(
+    activity: &Activity,
+    id: &str,
+    leg: (u32, u32),
+    start: i64,
+    tail: Option<u32>,
+) -> bool {
+    activity.id.as_bytes() == id.as_bytes()
+        && activity.from == leg.0
+        && activity.to == leg.1
+        && activity.start == start
+        && activity.tail == tail
 }
 
 // Types, tags and resets are numbers: types and counters as the rules have them, tags as they come, the fleet first.
 #[test]
 fn lists_of_activities_are_numbers(rt: HostRuntime) -> Result<(), Fail> {
     let book = book(rt.alloc())?;
-    let wants: [(&[u32], &[u32], &[u32]); 4] = [
-        (&[], &[], &[]),
-        (&[0], &[], &[]),
-        (&[1, 0], &[1], &[]),
-        (&[], &[2, 1], &[1, 0]),
-    ];
-    for (activity, (types, tags, resets)) in book.activities.iter().zip(wants) {
-        assert_eq!(rt; activity.types.as_slice(), types);
-        assert_eq!(rt; activity.tags.as_slice(), tags);
-        assert_eq!(rt; activity.resets.as_slice(), resets);
-    }
+    let [g9, fa, fb, ck] = book.activities.as_slice() else {
+        assert!(rt; false, "{} activities", book.activities.len());
+        return Ok(());
+    };
+    assert!(rt; has_lists(g9, &[], &[], &[]));
+    assert!(rt; has_lists(fa, &[0], &[], &[]));
+    assert!(rt; has_lists(fb, &[1, 0], &[1], &[]));
+    assert!(rt; has_lists(ck, &[], &[2, 1], &[1, 0]));
     Ok(())
+}
+
+fn has_lists(activity: &Activity, types: &[u32], tags: &[u32], resets: &[u32]) -> bool {
+    activity.types.as_slice() == types
+        && activity.tags.as_slice() == tags
+        && activity.resets.as_slice() == resets
 }
 
 // Aircraft stay in the order of the fleet. A counter that a carry does not name begins at 0.
 #[test]
 fn aircraft_are_numbers(rt: HostRuntime) -> Result<(), Fail> {
     let book = book(rt.alloc())?;
-    let names = ["SE-ROB", "LN-ABC", "SE-ROA"];
-    let numbers = [(1, 1, 0), (0, 2, 250), (1, 0, 0)];
-    let lists: [(&[u32], &[u32], &[i64]); 3] = [
-        (&[0, 1], &[0, 2], &[5, 1000]),
-        (&[], &[], &[7, 0]),
-        (&[1], &[1], &[0, 0]),
-    ];
-    assert_eq!(rt; book.tails.len(), names.len());
-    for (tail, name) in book.tails.iter().zip(names) {
-        assert_eq!(rt; tail.name.as_bytes(), name.as_bytes());
-    }
-    for (tail, want) in book.tails.iter().zip(numbers) {
-        assert_eq!(rt; (tail.kind, tail.at, tail.fixed), want);
-    }
-    for (tail, (tags, avoid, carry)) in book.tails.iter().zip(lists) {
-        assert_eq!(rt; tail.tags.as_slice(), tags);
-        assert_eq!(rt; tail.avoid.as_slice(), avoid);
-        assert_eq!(rt; tail.carry.as_slice(), carry);
-    }
+    let [first, second, third] = book.tails.as_slice() else {
+        assert!(rt; false, "{} aircraft", book.tails.len());
+        return Ok(());
+    };
+    assert!(rt; is_tail(first, "SE-ROB", 1, 1, 0));
+    assert!(rt; carries(first, &[0, 1], &[0, 2], &[5, 1000]));
+    assert!(rt; is_tail(second, "LN-ABC", 0, 2, 250));
+    assert!(rt; carries(second, &[], &[], &[7, 0]));
+    assert!(rt; is_tail(third, "SE-ROA", 1, 0, 0));
+    assert!(rt; carries(third, &[1], &[1], &[0, 0]));
     Ok(())
+}
+
+fn is_tail(tail: &Tail, name: &str, kind: u32, at: u32, fixed: u64) -> bool {
+    tail.name.as_bytes() == name.as_bytes()
+        && tail.kind == kind
+        && tail.at == at
+        && tail.fixed == fixed
+}
+
+fn carries(tail: &Tail, tags: &[u32], avoid: &[u32], carry: &[i64]) -> bool {
+    tail.tags.as_slice() == tags && tail.avoid.as_slice() == avoid && tail.carry.as_slice() == carry
 }
 
 // Each kind of rules stays in the order of its entries; a limit in days is in minutes.
 #[test]
 fn rules_are_numbers(rt: HostRuntime) -> Result<(), Fail> {
     let rules = book(rt.alloc())?.rules;
-    let kinds = [("A320", 2, 35), ("B738", 3, 40)];
-    assert_eq!(rt; rules.kinds.len(), kinds.len());
-    for (kind, (name, rate, turn)) in rules.kinds.iter().zip(kinds) {
-        assert_eq!(rt; kind.name.as_bytes(), name.as_bytes());
-        assert!(rt; (kind.rate, kind.turn) == (rate, turn), "{name}");
-    }
-    let airports = [("ARN", 60, 20), ("CPH", 60, 25), ("OSL", 60, 30)];
-    assert_eq!(rt; rules.airports.len(), airports.len());
-    for (airport, (name, offset, turn)) in rules.airports.iter().zip(airports) {
-        assert_eq!(rt; airport.name.as_bytes(), name.as_bytes());
-        assert!(rt; (airport.offset, airport.turn) == (offset, turn), "{name}");
-    }
-    let counters: [(&str, i64, &[u32], i64); 2] = [
-        ("fh", 600, &[2, 0], 480),
-        ("acheck", 8640, &[], 1),
-    ];
-    assert_eq!(rt; rules.counters.len(), counters.len());
-    for (counter, (name, limit, bases, stop)) in rules.counters.iter().zip(counters) {
-        assert_eq!(rt; counter.name.as_bytes(), name.as_bytes());
-        assert!(rt; (counter.limit, counter.stop) == (limit, stop), "{name}");
-        assert_eq!(rt; counter.bases.as_slice(), bases);
-    }
+    assert!(rt; are_types(&rules.kinds), "types");
+    assert!(rt; are_airports(&rules.airports), "airports");
+    assert!(rt; are_curfews(&rules.curfews), "curfews");
+    assert!(rt; are_counters(&rules.counters), "counters");
+    assert!(rt; are_bands(&rules.bands), "bands");
     Ok(())
 }
 
-#[test]
-fn curfews_and_bands_are_kept(rt: HostRuntime) -> Result<(), Fail> {
-    let rules = book(rt.alloc())?.rules;
-    assert_eq!(rt; (rules.curfews.len(), rules.bands.len()), (1, 1));
-    for curfew in &rules.curfews {
-        assert_eq!(rt; (curfew.airport, curfew.from, curfew.to), (2, 1380, 330));
-        assert_eq!(rt; curfew.types.as_slice(), [1].as_slice());
-        assert_eq!(rt; (curfew.starts, curfew.landings), (true, false));
+fn are_types(kinds: &[AircraftType]) -> bool {
+    match kinds {
+        [a, b] => is_type(a, "A320", 2, 35) && is_type(b, "B738", 3, 40),
+        _ => false,
     }
-    for band in &rules.bands {
-        assert_eq!(rt; (band.upto, band.cost), (2880, 5));
+}
+
+fn are_airports(airports: &[Airport]) -> bool {
+    match airports {
+        [arn, cph, osl] => {
+            is_airport(arn, "ARN", 60, 20)
+                && is_airport(cph, "CPH", 60, 25)
+                && is_airport(osl, "OSL", 60, 30)
+        }
+        _ => false,
     }
-    Ok(())
+}
+
+fn are_curfews(curfews: &[Curfew]) -> bool {
+    match curfews {
+        [night] => {
+            (night.airport, night.from, night.to) == (2, 1380, 330)
+                && night.types.as_slice() == [1].as_slice()
+                && (night.starts, night.landings) == (true, false)
+        }
+        _ => false,
+    }
+}
+
+fn are_counters(counters: &[Counter]) -> bool {
+    match counters {
+        [fh, acheck] => {
+            is_counter(fh, "fh", 600, &[2, 0], 480) && is_counter(acheck, "acheck", 8640, &[], 1)
+        }
+        _ => false,
+    }
+}
+
+fn is_counter(counter: &Counter, name: &str, limit: i64, bases: &[u32], stop: i64) -> bool {
+    counter.name.as_bytes() == name.as_bytes()
+        && counter.limit == limit
+        && counter.bases.as_slice() == bases
+        && counter.stop == stop
+}
+
+fn are_bands(bands: &[Band]) -> bool {
+    match bands {
+        [band] => band.upto == 2880 && band.cost == 5,
+        _ => false,
+    }
 }

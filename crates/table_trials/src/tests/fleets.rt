@@ -1,7 +1,8 @@
 //! Fleets as a planner types them: each refusal at its place, and what an aircraft's record says.
 
-use crate::tests::record_texts;
-use fleet_rules::read_fleet;
+use crate::tests::record_texts::{self, Told, each_end_is_read};
+use crate::tests::wanted::are_names;
+use fleet_rules::{RawCarry, read_fleet};
 use std::alloc::Global;
 use std::test::Fail;
 use tail_book::limits::TAIL_LIMIT;
@@ -12,7 +13,7 @@ const HEADER: &str = "tail,type,at,ready,fixed,tags,avoid,carry\n";
 const GOOD: &str = "D-1,A320,FRA,2026-03-01T05:00,0,,,\n";
 
 // How many aircraft a table has, or the code and the place of its refusal.
-fn read(alloc: Global, table: &[u8]) -> Result<usize, (u8, u64)> {
+fn read(alloc: Global, table: &[u8]) -> Told {
     match read_fleet(alloc, table) {
         Ok(tails) => Ok(tails.len()),
         Err(Stopped::Refused(Refusal { code, table, place })) if table == Table::Fleet => {
@@ -36,7 +37,7 @@ const USUAL: &[(&str, &str)] = &[
 
 // The table of a good record and of one with these fields in place of its own.
 fn with_fields(alloc: Global, changes: &[(&str, &str)]) -> Result<String, Fail> {
-    let front = format!(in alloc; "{HEADER}{GOOD}")?;
+    let front = table_of(alloc, 1)?;
     record_texts::with_fields(alloc, front.as_str(), USUAL, changes)
 }
 
@@ -200,7 +201,8 @@ fn fields_are_looked_at_from_left_to_right(rt: HostRuntime) -> Result<(), Fail> 
 // no record, and in quotes a comma, a quote and a line end are part of a field.
 #[test]
 fn records_are_looked_at_one_by_one(rt: HostRuntime) -> Result<(), Fail> {
-    for &(lines, want) in &[
+    let front = table_of(rt.alloc(), 1)?;
+    let rows: &[(&str, Told)] = &[
         ("D-2,A320,FRA,2026-03-01T05:00,0,,", Err((4, 3))),
         ("D-2,A320,FRA,2026-03-01T05:00,0,,,,", Err((4, 3))),
         ("D 2\n", Err((4, 3))),
@@ -227,16 +229,13 @@ fn records_are_looked_at_one_by_one(rt: HostRuntime) -> Result<(), Fail> {
         ("D-2,A320,FRA,2026-03-01T05:00,\"1,0\",,,\n", Err((9, 3))),
         ("\"D\"\"2\",A320,FRA,2026-03-01T05:00,0,,,\n", Err((5, 3))),
         ("D-2,A320,\"FR\nA\",2026-03-01T05:00,0,,,\n", Err((5, 3))),
-    ] {
-        let table = format!(in rt.alloc(); "{HEADER}{GOOD}{lines}")?;
-        assert!(rt; read(rt.alloc(), table.as_bytes()) == want, "{lines}");
-    }
-    Ok(())
+    ];
+    each_end_is_read(&rt, rt.alloc(), read, &front, rows)
 }
 
 #[test]
 fn a_table_is_refused_as_a_whole(rt: HostRuntime) -> Result<(), Fail> {
-    let rows: &[(&[u8], Result<usize, (u8, u64)>)] = &[
+    let rows: &[(&[u8], Told)] = &[
         (b"", Err((3, 1))),
         (b"\n", Err((3, 1))),
         (b"tail,type,at,ready,fixed,tags,avoid,carry", Ok(0)),
@@ -255,29 +254,26 @@ fn a_table_is_refused_as_a_whole(rt: HostRuntime) -> Result<(), Fail> {
         ),
     ];
     for &(table, want) in rows {
-        assert_eq!(rt; read(rt.alloc(), table), want);
+        assert!(rt; read(rt.alloc(), table) == want);
     }
     let large = vec![in rt.alloc(); 255; SIZE_LIMIT + 1]?;
-    assert_eq!(rt; read(rt.alloc(), large.as_slice()), Err((1, 0)));
+    assert!(rt; read(rt.alloc(), large.as_slice()) == Err((1, 0)));
     Ok(())
 }
 
 // The record past the limit is refused for its number of fields, and then for being there, whatever its fields say.
 #[test]
 fn a_fleet_has_at_most_200_aircraft(rt: HostRuntime) -> Result<(), Fail> {
-    assert_eq!(rt; TAIL_LIMIT, 200);
+    assert!(rt; TAIL_LIMIT == 200);
     let full = table_of(rt.alloc(), 200)?;
-    for &(more, want) in &[
+    let rows: &[(&str, Told)] = &[
         ("", Ok(200)),
         ("\n\r\n", Ok(200)),
         (GOOD, Err((10, 202))),
         ("-,,,,,,,\n", Err((10, 202))),
         ("-\n", Err((4, 202))),
-    ] {
-        let table = format!(in rt.alloc(); "{full}{more}")?;
-        assert!(rt; read(rt.alloc(), table.as_bytes()) == want, "{more}");
-    }
-    Ok(())
+    ];
+    each_end_is_read(&rt, rt.alloc(), read, &full, rows)
 }
 
 #[test]
@@ -288,27 +284,26 @@ fn an_aircraft_has_the_fields_of_its_record(rt: HostRuntime) -> Result<(), Fail>
         assert!(rt; false, "refused");
         return Ok(());
     };
-    assert_eq!(rt; tails.len(), 1);
+    assert!(rt; tails.len() == 1);
     let tail = &tails[0];
-    assert_eq!(rt; tail.name.as_bytes(), b"D-1".as_slice());
-    assert_eq!(rt; tail.kind.as_bytes(), b"A320".as_slice());
-    assert_eq!(rt; tail.at.as_bytes(), b"FRA".as_slice());
-    assert_eq!(rt; tail.ready, 29_539_020);
-    assert_eq!(rt; tail.fixed, 1200);
-    for (names, want) in [
-        (&tail.tags, ["etops", "wifi"].as_slice()),
-        (&tail.avoid, ["LHR"].as_slice()),
-    ] {
-        assert_eq!(rt; names.len(), want.len());
-        for (name, text) in names.iter().zip(want) {
-            assert_eq!(rt; name.as_bytes(), text.as_bytes());
-        }
-    }
-    let want = [("fh", 1500), ("fc", 10_000_000)];
-    assert_eq!(rt; tail.carry.len(), want.len());
-    for (item, (counter, value)) in tail.carry.iter().zip(want) {
-        assert_eq!(rt; item.counter.as_bytes(), counter.as_bytes());
-        assert!(rt; item.value == value, "{counter}");
-    }
+    assert!(rt; tail.name.as_bytes() == b"D-1".as_slice());
+    assert!(rt; tail.kind.as_bytes() == b"A320".as_slice());
+    assert!(rt; tail.at.as_bytes() == b"FRA".as_slice());
+    assert!(rt; tail.ready == 29_539_020);
+    assert!(rt; tail.fixed == 1200);
+    assert!(rt; are_names(&tail.tags, &["etops", "wifi"]));
+    assert!(rt; are_names(&tail.avoid, &["LHR"]));
+    assert!(rt; are_carried(&tail.carry));
     Ok(())
+}
+
+fn are_carried(items: &[RawCarry]) -> bool {
+    match items {
+        [fh, fc] => is_carried(fh, "fh", 1500) && is_carried(fc, "fc", 10_000_000),
+        _ => false,
+    }
+}
+
+fn is_carried(item: &RawCarry, counter: &str, value: i64) -> bool {
+    item.counter.as_bytes() == counter.as_bytes() && item.value == value
 }

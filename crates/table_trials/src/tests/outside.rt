@@ -1,6 +1,6 @@
 //! Callers through the bounds, and tables of calls over each implementation.
 
-ghost use Rattle.std.specs.Prelude.{◌≡◌, ◌≤◌, ◌++◌, false, IsTrue, IfOk, OnOk, OnErr, IsErrOf};
+ghost use Rattle.std.specs.Prelude.{◌≡◌, ◌≤◌, ◌++◌, ◌^◌, false, IsTrue, IfOk, OnOk, OnErr, IsErrOf};
 ghost use Rattle.tail_outside.specs.inside.Outside.{IsRead, SameOthers, StayCeased};
 ghost use Rattle.tail_outside.specs.Outside.{PieceHasFailed, Takes, TakesFront};
 
@@ -87,31 +87,85 @@ fn reads_back<F: Files>(files: &mut F, name: &str, piece: &[u8], want: &[u8]) ->
     requires writes { IsTrue ((F.shows files.old).lets_write name.now) }
 {
     let mut into = [0; 4];
-    rewrite(files, name, piece, &mut into) == Ok(want.len()) && into.starts_with(want)
+    match rewrite(files, name, piece, &mut into) {
+        Ok(count) => count == want.len() && into.starts_with(want),
+        Err(_) => false,
+    }
 }
 
-// The same pieces to each sink.
+// Whether a buffer of four bytes takes these of a file, from a place on.
+fn reads_at<F: Files>(files: &mut F, name: &str, at: u64, want: &[u8]) -> bool
+    requires reads { IsTrue ((F.shows files.old).lets_read name.now) }
+    requires near { at ≤ 2 ^ 40 }
+{
+    let mut into = [0; 4];
+    match files.read_at(name, at, &mut into) {
+        Ok(count) => count == want.len() && into.starts_with(want),
+        Err(_) => false,
+    }
+}
+
+// Whether these are all the bytes of a file, or its first up to a limit.
+fn reads_whole<F: Files>(
+    alloc: Global,
+    files: &mut F,
+    name: &str,
+    limit: usize,
+    want: &[u8],
+) -> bool
+    requires reads { IsTrue ((F.shows files.old).lets_read name.now) }
+    requires near { limit ≤ 2 ^ 40 }
+{
+    match read_all(alloc, files, name, limit) {
+        Ok(bytes) => bytes.as_slice() == want,
+        Err(_) => false,
+    }
+}
+
+// Two pieces and what they are together, for each kind of sink.
+const PIECES: &[(&[u8], &[u8], &[u8])] = &[
+    (b"ab", b"c", b"abc"),
+    (b"ab", b"", b"ab"),
+    (b"", b"c", b"c"),
+    (b"", b"", b""),
+];
+
 #[test]
-fn sinks_take_the_same_pieces(rt: HostRuntime) -> Result<(), Fail> {
-    for &(first, second, both) in &[
-        (b"ab".as_slice(), b"c".as_slice(), b"abc".as_slice()),
-        (b"ab".as_slice(), b"".as_slice(), b"ab".as_slice()),
-        (b"".as_slice(), b"c".as_slice(), b"c".as_slice()),
-        (b"".as_slice(), b"".as_slice(), b"".as_slice()),
-    ] {
-        let mut held = failing_sink(rt.alloc(), 0)?;
-        assert_eq!(rt; put_both(&mut held, first, second), Ok(()));
-        assert_eq!(rt; held.bytes(), both);
-        let mut sure = SureSink::new(rt.alloc(), 3)?;
-        assert_eq!(rt; put_both(&mut sure, first, second), Ok(()));
-        assert_eq!(rt; sure.bytes(), both);
-        let mut file = FileSink::new(failing_files(rt.alloc(), 0)?, "new");
-        assert_eq!(rt; put_both(&mut file, first, second), Ok(()));
-        assert_eq!(rt; file.into_files().bytes("new"), Some(both));
-        let mut real = RealOut::new(&rt);
-        assert_eq!(rt; put_both(&mut real, first, second), Ok(()));
+fn a_held_sink_takes_both_pieces(rt: HostRuntime) -> Result<(), Fail> {
+    for &(first, second, both) in PIECES {
+        let mut out = failing_sink(rt.alloc(), 0)?;
+        assert!(rt; put_both(&mut out, first, second).is_ok());
+        assert!(rt; out.bytes() == both);
     }
     Ok(())
+}
+
+#[test]
+fn a_sure_sink_takes_both_pieces(rt: HostRuntime) -> Result<(), Fail> {
+    for &(first, second, both) in PIECES {
+        let mut out = SureSink::new(rt.alloc(), 3)?;
+        assert!(rt; put_both(&mut out, first, second).is_ok());
+        assert!(rt; out.bytes() == both);
+    }
+    Ok(())
+}
+
+#[test]
+fn a_file_takes_both_pieces(rt: HostRuntime) -> Result<(), Fail> {
+    for &(first, second, both) in PIECES {
+        let mut out = FileSink::new(failing_files(rt.alloc(), 0)?, "new");
+        assert!(rt; put_both(&mut out, first, second).is_ok());
+        assert!(rt; out.into_files().bytes("new") == Some(both));
+    }
+    Ok(())
+}
+
+#[test]
+fn the_output_takes_both_pieces(rt: HostRuntime) {
+    for &(first, second, _) in PIECES {
+        let mut out = RealOut::new(&rt);
+        assert!(rt; put_both(&mut out, first, second).is_ok());
+    }
 }
 
 // The same calls to each kind of files: a piece that fits the buffer, one that is longer, and an empty one.
@@ -152,8 +206,8 @@ fn a_listed_put_takes_nothing(rt: HostRuntime) -> Result<(), Fail> {
 #[test]
 fn a_file_takes_pieces(rt: HostRuntime) -> Result<(), Fail> {
     let mut out = FileSink::new(failing_files(rt.alloc(), 2)?, "new");
-    assert_eq!(rt; put_both(&mut out, b"ab", b"c"), Err(Fault::Failed));
-    assert_eq!(rt; out.into_files().bytes("new"), Some(b"ab".as_slice()));
+    assert!(rt; put_both(&mut out, b"ab", b"c") == Err(Fault::Failed));
+    assert!(rt; out.into_files().bytes("new") == Some(b"ab".as_slice()));
     Ok(())
 }
 
@@ -195,7 +249,7 @@ fn a_file_is_read_at_a_place(rt: HostRuntime) -> Result<(), Fail> {
         );
         assert!(rt; into.starts_with(want), "at {at}");
     }
-    assert_eq!(rt; held.read_at("none", 0, &mut [0; 4]), Err(Failed));
+    assert!(rt; held.read_at("none", 0, &mut [0; 4]) == Err(Failed));
     Ok(())
 }
 
@@ -209,15 +263,13 @@ fn a_file_is_read_whole(rt: HostRuntime) -> Result<(), Fail> {
         (9, b"abcde".as_slice()),
     ] {
         let mut held = failing_files(rt.alloc(), 0)?;
-        let read = read_all(rt.alloc(), &mut held, "log", limit);
         assert!(rt;
-            matches!(&read, Ok(bytes) if bytes.as_slice() == want),
+            reads_whole(rt.alloc(), &mut held, "log", limit, want),
             "up to {limit}"
         );
         let mut sure = SureFiles::new(rt.alloc(), files(rt.alloc())?, 0)?;
-        let read = read_all(rt.alloc(), &mut sure, "log", limit);
         assert!(rt;
-            matches!(&read, Ok(bytes) if bytes.as_slice() == want),
+            reads_whole(rt.alloc(), &mut sure, "log", limit, want),
             "up to {limit}"
         );
     }
@@ -237,8 +289,11 @@ fn a_long_file_is_read_in_pieces(rt: HostRuntime) -> Result<(), Fail> {
         let listed = [number].to_vec(rt.alloc())?;
         let held = vec![in rt.alloc(); file(rt.alloc(), "long", &long)?]?;
         let mut held = MemFiles::new(rt.alloc(), held, listed)?;
-        let read = read_all(rt.alloc(), &mut held, "long", 100_000);
-        assert!(rt; read.map(|bytes| bytes.len()) == want, "at {number}");
+        let length = match read_all(rt.alloc(), &mut held, "long", 100_000) {
+            Ok(bytes) => Ok(bytes.len()),
+            Err(fail) => Err(fail),
+        };
+        assert!(rt; length == want, "at {number}");
     }
     Ok(())
 }
@@ -246,7 +301,7 @@ fn a_long_file_is_read_in_pieces(rt: HostRuntime) -> Result<(), Fail> {
 // The second piece fits, or passes the room by one byte and is dropped.
 #[test]
 fn a_sure_sink_drops_past_its_room(rt: HostRuntime) -> Result<(), Fail> {
-    for (room, bytes) in [
+    for &(room, bytes) in &[
         (3, b"abc".as_slice()),
         (2, b"ab".as_slice()),
         (1, b"".as_slice()),
@@ -281,12 +336,10 @@ fn a_sure_file_drops_past_its_room(rt: HostRuntime) -> Result<(), Fail> {
 fn a_real_file_is_rewritten(rt: HostRuntime) -> Result<(), Fail> {
     let name = "tail_outside_written";
     let mut real = RealFiles::new(rt.alloc(), &rt);
-    let mut into = [0; 4];
-    assert_eq!(rt; rewrite(&mut real, name, b"old", &mut into), Ok(3));
-    assert_eq!(rt; rewrite(&mut real, name, b"xyz", &mut into), Ok(3));
-    assert!(rt; into.starts_with(b"xyz"));
+    assert!(rt; reads_back(&mut real, name, b"old", b"old"));
+    assert!(rt; reads_back(&mut real, name, b"xyz", b"xyz"));
     fs::remove_file(&rt, name)?;
-    assert_eq!(rt; real.read_at(name, 0, &mut into), Err(Failed));
+    assert!(rt; real.read_at(name, 0, &mut [0; 4]) == Err(Failed));
     Ok(())
 }
 
@@ -295,8 +348,8 @@ fn a_real_file_is_rewritten(rt: HostRuntime) -> Result<(), Fail> {
 fn a_real_file_is_read_on(rt: HostRuntime) -> Result<(), Fail> {
     let name = "tail_outside_forward";
     let mut real = RealFiles::new(rt.alloc(), &rt);
-    assert_eq!(rt; real.begin(name), Ok(()));
-    assert_eq!(rt; real.append(name, b"abcdefg"), Ok(()));
+    assert!(rt; real.begin(name).is_ok());
+    assert!(rt; real.append(name, b"abcdefg").is_ok());
     for &(at, want) in &[
         (0, b"abcd".as_slice()),
         (4, b"efg".as_slice()),
@@ -306,12 +359,7 @@ fn a_real_file_is_read_on(rt: HostRuntime) -> Result<(), Fail> {
         (1, b"bcde".as_slice()),
         (5, b"fg".as_slice()),
     ] {
-        let mut into = [0; 4];
-        assert!(rt;
-            real.read_at(name, at, &mut into) == Ok(want.len()),
-            "at {at}"
-        );
-        assert!(rt; into.starts_with(want), "at {at}");
+        assert!(rt; reads_at(&mut real, name, at, want), "at {at}");
     }
     fs::remove_file(&rt, name)?;
     Ok(())
@@ -322,8 +370,8 @@ fn a_real_file_is_read_on(rt: HostRuntime) -> Result<(), Fail> {
 fn real_files_are_read_in_turn(rt: HostRuntime) -> Result<(), Fail> {
     let (first, second) = ("tail_outside_first", "tail_outside_second");
     let mut real = RealFiles::new(rt.alloc(), &rt);
-    assert_eq!(rt; real.append(first, b"abc"), Ok(()));
-    assert_eq!(rt; real.append(second, b"xyz"), Ok(()));
+    assert!(rt; real.append(first, b"abc").is_ok());
+    assert!(rt; real.append(second, b"xyz").is_ok());
     for &(name, at, want) in &[
         (first, 0, b"a"),
         (second, 1, b"y"),
@@ -332,7 +380,7 @@ fn real_files_are_read_in_turn(rt: HostRuntime) -> Result<(), Fail> {
         (second, 2, b"z"),
     ] {
         let mut into = [0; 1];
-        assert_eq!(rt; real.read_at(name, at, &mut into), Ok(1));
+        assert!(rt; real.read_at(name, at, &mut into) == Ok(1));
         assert!(rt; into == *want, "{name} at {at}");
     }
     fs::remove_file(&rt, first)?;
@@ -348,19 +396,14 @@ fn a_pipe_is_read_to_its_end(rt: HostRuntime) -> Result<(), Fail> {
     drop(writer);
     let name = format!(in rt.alloc(); "/dev/fd/{}", reader.as_raw_fd())?;
     let mut real = RealFiles::new(rt.alloc(), &rt);
-    for (at, want) in [
+    for &(at, want) in &[
         (0, b"abcd".as_slice()),
         (4, b"ef".as_slice()),
         (6, b"".as_slice()),
     ] {
-        let mut into = [0; 4];
-        assert!(rt;
-            real.read_at(&name, at, &mut into) == Ok(want.len()),
-            "at {at}"
-        );
-        assert!(rt; into.starts_with(want), "at {at}");
+        assert!(rt; reads_at(&mut real, &name, at, want), "at {at}");
     }
-    assert_eq!(rt; real.read_at(&name, 3, &mut [0; 4]), Err(Failed));
+    assert!(rt; real.read_at(&name, 3, &mut [0; 4]) == Err(Failed));
     Ok(())
 }
 
@@ -369,14 +412,11 @@ fn a_pipe_is_read_to_its_end(rt: HostRuntime) -> Result<(), Fail> {
 fn a_real_file_is_added_to(rt: HostRuntime) -> Result<(), Fail> {
     let name = "tail_outside_added";
     let mut real = RealFiles::new(rt.alloc(), &rt);
-    assert_eq!(rt; real.begin(name), Ok(()));
-    assert_eq!(rt; real.append(name, b"ab"), Ok(()));
-    assert_eq!(rt; real.append(name, b"c"), Ok(()));
-    let mut into = [0; 4];
-    assert_eq!(rt; real.read_at(name, 0, &mut into), Ok(3));
-    assert!(rt; into.starts_with(b"abc"));
-    assert_eq!(rt; real.read_at(name, 2, &mut into), Ok(1));
-    assert!(rt; into.starts_with(b"c"));
+    assert!(rt; real.begin(name).is_ok());
+    assert!(rt; real.append(name, b"ab").is_ok());
+    assert!(rt; real.append(name, b"c").is_ok());
+    assert!(rt; reads_at(&mut real, name, 0, b"abc"));
+    assert!(rt; reads_at(&mut real, name, 2, b"c"));
     fs::remove_file(&rt, name)?;
     Ok(())
 }
@@ -385,9 +425,9 @@ fn a_real_file_is_added_to(rt: HostRuntime) -> Result<(), Fail> {
 #[test]
 fn a_folder_is_no_file(rt: HostRuntime) {
     let mut real = RealFiles::new(rt.alloc(), &rt);
-    assert_eq!(rt; real.read_at(".", 0, &mut [0; 4]), Err(Failed));
-    assert_eq!(rt; real.begin("."), Err(Fault::Failed));
-    assert_eq!(rt; real.append(".", b"!"), Err(Fault::Failed));
+    assert!(rt; real.read_at(".", 0, &mut [0; 4]) == Err(Failed));
+    assert!(rt; real.begin(".") == Err(Fault::Failed));
+    assert!(rt; real.append(".", b"!") == Err(Fault::Failed));
     let mut out = RealOut::new(&rt);
-    assert_eq!(rt; put_both(&mut out, b"ab", b"c"), Ok(()));
+    assert!(rt; put_both(&mut out, b"ab", b"c").is_ok());
 }

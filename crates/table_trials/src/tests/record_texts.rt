@@ -1,6 +1,8 @@
-//! Tables of records as texts: so many good ones, and a good one before one of which some fields are others.
+//! Tables of records as texts: so many good ones, a good one before one of which some fields are others, and texts that
+//! end in several ways.
 
 use std::alloc::Global;
+use std::process::Abort;
 use std::test::Fail;
 
 // The field of this name among the changes, and else the usual one.
@@ -38,4 +40,24 @@ pub fn table_of(alloc: Global, header: &str, record: &str, count: usize) -> Resu
         table.push_str(record)?;
     }
     Ok(table)
+}
+
+// How many records a table has, or the code and the place of its refusal.
+pub type Told = Result<usize, (u8, u64)>;
+
+// Asks that a text with each of these ends behind it is read so.
+pub fn each_end_is_read<F: Fn(Global, &[u8]) -> Told>(
+    rt: &impl Abort,
+    alloc: Global,
+    read: F,
+    front: &str,
+    ends: &[(&str, Told)],
+) -> Result<(), Fail>
+    requires { F.IsAlwaysCallable read }
+{
+    for &(end, want) in ends {
+        let table = format!(in alloc; "{front}{end}")?;
+        assert!(rt; read(alloc, table.as_bytes()) == want, "{end}");
+    }
+    Ok(())
 }

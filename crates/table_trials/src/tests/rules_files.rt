@@ -1,14 +1,15 @@
 //! Tables of rules read whole: every key of every entry, the order of refusals, the limits, and a good table.
 
+use crate::tests::wanted::{are_names, is_airport, is_type};
 use fleet_rules::{RawCounter, RawCurfew, RawRules, read_rules};
 use std::alloc::{AllocError, Global};
 use std::test::Fail;
-use tail_book::{AircraftType, Airport, Band, CounterKind, Name};
+use tail_book::{AircraftType, Airport, Band, CounterKind};
 use tail_text::{Refusal, Stopped, Table};
 
 // How many entries each key has, or the code and the place of the refusal.
-fn read(alloc: Global, text: &str) -> Result<[usize; 5], (u8, u64)> {
-    match read_rules(alloc, text.as_bytes()) {
+fn read(alloc: Global, text: &[u8]) -> Result<[usize; 5], (u8, u64)> {
+    match read_rules(alloc, text) {
         Ok(rules) => Ok(sizes(&rules)),
         Err(Stopped::Refused(Refusal { code, table, place })) if table == Table::Rules => {
             Err((code, place))
@@ -100,7 +101,7 @@ fn changed(
         line = line_of(alloc, name, value)?;
     }
     let text = one_entry(alloc, key, begins.as_str(), line.as_str())?;
-    Ok(read(alloc, text.as_str()))
+    Ok(read(alloc, text.as_bytes()))
 }
 
 // Each key absent, of each other kind, and beside its range or its grammar.
@@ -223,12 +224,7 @@ fn ranges_end_where_they_say(rt: HostRuntime) -> Result<(), Fail> {
         ("band", "cost", "1000001", 9),
     ] {
         let got = changed(rt.alloc(), key, name, value)?;
-        let want = if code == 0 {
-            Ok(one(key))
-        } else {
-            Err((code, 1))
-        };
-        assert!(rt; got == want, "{key} with {name} = {value}");
+        assert!(rt; got == wanted(key, code), "{key} with {name} = {value}");
     }
     Ok(())
 }
@@ -241,6 +237,15 @@ fn one(key: &str) -> [usize; 5] {
         "curfew" => [0, 0, 1, 0, 0],
         "counter" => [0, 0, 0, 1, 0],
         _ => [0, 0, 0, 0, 1],
+    }
+}
+
+// The same, or the refusal of that entry with a code that is not 0.
+fn wanted(key: &str, code: u8) -> Result<[usize; 5], (u8, u64)> {
+    if code == 0 {
+        Ok(one(key))
+    } else {
+        Err((code, 1))
     }
 }
 
@@ -307,12 +312,7 @@ fn lists_of_names_have_a_limit(rt: HostRuntime) -> Result<(), Fail> {
     ] {
         let array = names_and(rt.alloc(), count, last)?;
         let got = changed(rt.alloc(), key, name, array.as_str())?;
-        let want = if code == 0 {
-            Ok(one(key))
-        } else {
-            Err((code, 1))
-        };
-        assert!(rt; got == want, "{count} {name} and {last}");
+        assert!(rt; got == wanted(key, code), "{count} {name} and {last}");
     }
     Ok(())
 }
@@ -334,8 +334,8 @@ fn each_key_has_a_limit_of_entries(rt: HostRuntime) -> Result<(), Fail> {
     push_entries(&mut text, "curfew", 400)?;
     push_entries(&mut text, "counter", 6)?;
     push_entries(&mut text, "band", 8)?;
-    assert_eq!(rt; read(rt.alloc(), text.as_str()), Ok([20, 200, 400, 6, 8]));
-    for (key, place) in [
+    assert!(rt; read(rt.alloc(), text.as_bytes()) == Ok([20, 200, 400, 6, 8]));
+    for &(key, place) in &[
         ("band", 635),
         ("counter", 627),
         ("curfew", 621),
@@ -344,7 +344,7 @@ fn each_key_has_a_limit_of_entries(rt: HostRuntime) -> Result<(), Fail> {
     ] {
         push_entry(&mut text, key, "", "speed = 1")?;
         assert!(rt;
-            read(rt.alloc(), text.as_str()) == Err((10, place)),
+            read(rt.alloc(), text.as_bytes()) == Err((10, place)),
             "{key}"
         );
     }
@@ -432,7 +432,7 @@ fn rules_are_read_up_to_their_first_refusal(rt: HostRuntime) -> Result<(), Fail>
             Err((14, 1)),
         ),
     ] {
-        assert!(rt; read(rt.alloc(), text) == want, "{text}");
+        assert!(rt; read(rt.alloc(), text.as_bytes()) == want, "{text}");
     }
     Ok(())
 }
@@ -459,7 +459,7 @@ fn texts_nest_at_most_80_deep(rt: HostRuntime) -> Result<(), Fail> {
         (81, Err((13, 0))),
     ] {
         let text = nested(rt.alloc(), deep)?;
-        assert!(rt; read(rt.alloc(), text.as_str()) == want, "{deep}");
+        assert!(rt; read(rt.alloc(), text.as_bytes()) == want, "{deep}");
     }
     Ok(())
 }
@@ -468,15 +468,8 @@ fn texts_nest_at_most_80_deep(rt: HostRuntime) -> Result<(), Fail> {
 #[test]
 fn rules_have_a_size_and_are_text(rt: HostRuntime) -> Result<(), Fail> {
     let large = vec![in rt.alloc(); 255; 16_777_217]?;
-    for (bytes, want) in [(large.as_slice(), 1), (b"[[type\xff".as_slice(), 2)] {
-        match read_rules(rt.alloc(), bytes) {
-            Err(Stopped::Refused(refusal)) => {
-                assert_eq!(rt; (refusal.code, refusal.place), (want, 0));
-                assert_eq!(rt; refusal.table, Table::Rules);
-            }
-            _ => assert!(rt; false, "not refused with {want}"),
-        }
-    }
+    assert!(rt; read(rt.alloc(), large.as_slice()) == Err((1, 0)));
+    assert!(rt; read(rt.alloc(), b"[[type\xff") == Err((2, 0)));
     Ok(())
 }
 
@@ -544,7 +537,7 @@ fn entries_have_the_values_of_their_keys(rt: HostRuntime) -> Result<(), Fail> {
 
 fn are_types(kinds: &[AircraftType]) -> bool {
     match kinds {
-        [p] => p.name.as_bytes() == b"P".as_slice() && p.rate == 7 && p.turn == 30,
+        [p] => is_type(p, "P", 7, 30),
         _ => false,
     }
 }
@@ -554,10 +547,6 @@ fn are_airports(airports: &[Airport]) -> bool {
         [arn, jfk] => is_airport(arn, "ARN", 60, 20) && is_airport(jfk, "JFK", -300, 45),
         _ => false,
     }
-}
-
-fn is_airport(airport: &Airport, name: &str, offset: i64, turn: i64) -> bool {
-    airport.name.as_bytes() == name.as_bytes() && airport.offset == offset && airport.turn == turn
 }
 
 fn are_curfews(curfews: &[RawCurfew]) -> bool {
@@ -600,16 +589,4 @@ fn are_bands(bands: &[Band]) -> bool {
         }
         _ => false,
     }
-}
-
-fn are_names(names: &[Name], texts: &[&str]) -> bool {
-    if names.len() != texts.len() {
-        return false;
-    }
-    for i in 0..names.len() {
-        if names[i].as_bytes() != texts[i].as_bytes() {
-            return false;
-        }
-    }
-    true
 }

@@ -1,6 +1,7 @@
 //! Timetables as a planner types them: each refusal at its place, and what a table may look like.
 
-use crate::tests::record_texts;
+use crate::tests::record_texts::{self, Told, each_end_is_read};
+use crate::tests::wanted::are_names;
 use std::alloc::Global;
 use std::test::Fail;
 use tail_book::limits::ACTIVITY_LIMIT;
@@ -14,7 +15,7 @@ const OUT: &str = "F1,flight,ARN,OSL,2025-03-01T07:30,2025-03-01T08:25,,,,\n";
 const BACK: &str = "F2,flight,OSL,ARN,2025-03-01T09:00,2025-03-03T09:00,,,,\n";
 
 // How many activities a table has, or the code and the place of its refusal.
-fn read(alloc: Global, table: &[u8]) -> Result<usize, (u8, u64)> {
+fn read(alloc: Global, table: &[u8]) -> Told {
     match read_timetable(alloc, table) {
         Ok(activities) => Ok(activities.len()),
         Err(Stopped::Refused(Refusal { code, table, place })) if table == Table::Timetable => {
@@ -40,7 +41,7 @@ const USUAL: &[(&str, &str)] = &[
 
 // The table of a good record and of one with these fields in place of its own.
 fn with_fields(alloc: Global, changes: &[(&str, &str)]) -> Result<String, Fail> {
-    let front = format!(in alloc; "{HEADER}{OUT}")?;
+    let front = table_of(alloc, 1)?;
     record_texts::with_fields(alloc, front.as_str(), USUAL, changes)
 }
 
@@ -223,7 +224,8 @@ fn fields_are_looked_at_from_left_to_right(rt: HostRuntime) -> Result<(), Fail> 
 // A record has ten fields, and that is looked at before them. Of two bad records the first counts.
 #[test]
 fn records_are_looked_at_one_by_one(rt: HostRuntime) -> Result<(), Fail> {
-    for &(lines, want) in &[
+    let front = table_of(rt.alloc(), 1)?;
+    let rows: &[(&str, Told)] = &[
         (
             "F2,flight,OSL,ARN,2025-03-01T09:00,2025-03-01T09:55,,,\n",
             Err((4, 3)),
@@ -241,16 +243,13 @@ fn records_are_looked_at_one_by_one(rt: HostRuntime) -> Result<(), Fail> {
             "F2,flight,OSL,ARN,2025-03-01T09:00,2025-03-01T09:55,,,,\nF 3,,,,,,,,,\nF4\n",
             Err((5, 4)),
         ),
-    ] {
-        let table = format!(in rt.alloc(); "{HEADER}{OUT}{lines}")?;
-        assert!(rt; read(rt.alloc(), table.as_bytes()) == want, "{lines}");
-    }
-    Ok(())
+    ];
+    each_end_is_read(&rt, rt.alloc(), read, &front, rows)
 }
 
 #[test]
 fn a_table_is_refused_as_a_whole(rt: HostRuntime) -> Result<(), Fail> {
-    let rows: &[(&[u8], Result<usize, (u8, u64)>)] = &[
+    let rows: &[(&[u8], Told)] = &[
         (b"", Err((3, 1))),
         (b"\n\r\n\r", Err((3, 1))),
         (b"\xef\xbb\xbf", Err((3, 1))),
@@ -292,7 +291,7 @@ fn a_table_is_refused_as_a_whole(rt: HostRuntime) -> Result<(), Fail> {
         ),
     ];
     for &(table, want) in rows {
-        assert_eq!(rt; read(rt.alloc(), table), want);
+        assert!(rt; read(rt.alloc(), table) == want);
     }
     Ok(())
 }
@@ -301,29 +300,26 @@ fn a_table_is_refused_as_a_whole(rt: HostRuntime) -> Result<(), Fail> {
 #[test]
 fn a_table_has_at_most_16_mebibytes(rt: HostRuntime) -> Result<(), Fail> {
     let mut large = vec![in rt.alloc(); 255; SIZE_LIMIT]?;
-    assert_eq!(rt; read(rt.alloc(), large.as_slice()), Err((2, 0)));
+    assert!(rt; read(rt.alloc(), large.as_slice()) == Err((2, 0)));
     large.push(255)?;
-    assert_eq!(rt; read(rt.alloc(), large.as_slice()), Err((1, 0)));
+    assert!(rt; read(rt.alloc(), large.as_slice()) == Err((1, 0)));
     Ok(())
 }
 
 // The record past the limit is refused for its number of fields, and then for being there, whatever its fields say.
 #[test]
 fn a_table_has_at_most_4000_activities(rt: HostRuntime) -> Result<(), Fail> {
-    assert_eq!(rt; ACTIVITY_LIMIT, 4000);
+    assert!(rt; ACTIVITY_LIMIT == 4000);
     let full = table_of(rt.alloc(), 4000)?;
-    for &(more, want) in &[
+    let rows: &[(&str, Told)] = &[
         ("", Ok(4000)),
         ("\n\r\n", Ok(4000)),
         (OUT, Err((10, 4002))),
         ("F 1,train,,,,,,,,\n", Err((10, 4002))),
         ("F 1,train\n", Err((4, 4002))),
         ("\n\nF 1,train,,,,,,,,\nF2\n", Err((10, 4002))),
-    ] {
-        let table = format!(in rt.alloc(); "{full}{more}")?;
-        assert!(rt; read(rt.alloc(), table.as_bytes()) == want, "{more}");
-    }
-    Ok(())
+    ];
+    each_end_is_read(&rt, rt.alloc(), read, &full, rows)
 }
 
 // An empty line is no record. In quotes a comma, a quote and a line end are part of a field, and so of no name.
@@ -410,23 +406,16 @@ fn an_activity_has_the_fields_of_its_record(rt: HostRuntime) -> Result<(), Fail>
         assert!(rt; false, "refused");
         return Ok(());
     };
-    assert_eq!(rt; activities.len(), 1);
+    assert!(rt; activities.len() == 1);
     let check = &activities[0];
     assert!(rt; !check.flight);
-    for &(names, want) in &[
-        (&check.types, ["A320", "B738"].as_slice()),
-        (&check.tags, ["etops"].as_slice()),
-        (&check.resets, ["hours", "cycles"].as_slice()),
-    ] {
-        assert_eq!(rt; names.len(), want.len());
-        for (name, text) in names.iter().zip(want) {
-            assert_eq!(rt; name.as_bytes(), text.as_bytes());
-        }
-    }
+    assert!(rt; are_names(&check.types, &["A320", "B738"]));
+    assert!(rt; are_names(&check.tags, &["etops"]));
+    assert!(rt; are_names(&check.resets, &["hours", "cycles"]));
     let Some(tail) = check.tail else {
         assert!(rt; false, "no tail");
         return Ok(());
     };
-    assert_eq!(rt; tail.as_bytes(), b"LN-ABC".as_slice());
+    assert!(rt; tail.as_bytes() == b"LN-ABC".as_slice());
     Ok(())
 }

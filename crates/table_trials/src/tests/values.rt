@@ -1,6 +1,7 @@
 //! The grammars of values, on both sides, and a line that grows.
 
 use std::test::Fail;
+use tail_book::Memory;
 use tail_text::{Bad, Line, Parts, clock, name, number, stamp};
 
 // The first and the last moment, leap days, and texts that miss the grammar by one thing.
@@ -93,11 +94,7 @@ fn parts_stand_between_bytes(rt: HostRuntime) -> Result<(), Fail> {
         let mut left = Parts::new(text.as_bytes(), b' ');
         for part in parts {
             assert!(rt; !left.is_done(), "in {text}");
-            let taken = left.take();
-            assert!(rt;
-                taken.is_some_and(|taken| taken == part.as_bytes()),
-                "in {text}"
-            );
+            assert!(rt; left.take() == Some(part.as_bytes()), "in {text}");
         }
         assert!(rt; left.is_done(), "in {text}");
         assert!(rt; left.take().is_none(), "in {text}");
@@ -105,17 +102,21 @@ fn parts_stand_between_bytes(rt: HostRuntime) -> Result<(), Fail> {
     Ok(())
 }
 
-// Each call appends, and a cleared line begins anew.
-#[test]
-fn lines_answer_with_ample_memory(rt: HostRuntime) -> Result<(), Fail> {
-    let mut line = Line::new(rt.alloc())?;
-    assert!(rt; line.bytes().is_empty());
+fn add_costs(line: &mut Line) -> Result<(), Memory> {
     line.text(b"cost ")?;
     line.unsigned(u64::MAX)?;
     line.text(b" from ")?;
     line.signed(i64::MIN)?;
     line.text(b" to ")?;
-    line.signed(7)?;
+    line.signed(7)
+}
+
+// Each call appends, and a cleared line begins anew.
+#[test]
+fn lines_answer_with_ample_memory(rt: HostRuntime) -> Result<(), Fail> {
+    let mut line = Line::new(rt.alloc())?;
+    assert!(rt; line.bytes().is_empty());
+    add_costs(&mut line)?;
     assert!(rt;
         line.bytes() == b"cost 18446744073709551615 from -9223372036854775808 to 7".as_slice()
     );
