@@ -1,0 +1,53 @@
+//! The finder by itself: what it finds of a book at given facts and duals, from an empty pool.
+
+ghost use Rattle.std.specs.Prelude.{IfOk, IfSome};
+ghost use Rattle.tail_book.specs.inside.CostTable.{IsTableFor};
+ghost use Rattle.tail_book.specs.inside.Truth.{IsPlanIn};
+
+use crate::failed::Failed;
+use branch_marks::Fact;
+use connection_net::Net;
+use plan_finder::{Problem, Sought, find_by_dives};
+use pool_plans::Found;
+use restricted_master::Pool;
+use std::alloc::Global;
+use tail_book::{Book, CostTable, Duals};
+use trial_books::{are_duals, marks};
+
+// For each activity and aircraft so many labels and routes are looked at, at most, as in the search.
+const WORK: u64 = 1000;
+
+fn work_for(book: &Book) -> u64 {
+    let (n, m) = (book.activities.len() as u64, book.tails.len() as u64);
+    n.saturating_mul(m).saturating_mul(WORK)
+}
+
+/// The plan that dives from these duals find, or nothing where they find none.
+pub fn found_at(
+    alloc: Global,
+    book: &Book,
+    table: &CostTable,
+    facts: &[Fact],
+    duals: &Duals,
+) -> Result<Option<Found>, Failed>
+    requires table { IsTableFor book.now table.now }
+    ensures plan { IfOk result (λ found. IfSome found (λ plan. IsPlanIn table.now book.now plan.cost plan.plan)) }
+{
+    if !are_duals(book, table, duals) {
+        return Err(Failed::Duals);
+    }
+    let net = Net::new(alloc, book)?;
+    let marks = marks(alloc, book, facts)?;
+    let mut pool = Pool::new(alloc)?;
+    let problem = Problem {
+        book,
+        table,
+        net: &net,
+    };
+    let sought = Sought {
+        marks: &marks,
+        duals,
+        work: work_for(book),
+    };
+    Ok(find_by_dives(alloc, &problem, &sought, &mut pool)?)
+}
