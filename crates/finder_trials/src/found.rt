@@ -14,13 +14,8 @@ use std::alloc::Global;
 use tail_book::{Book, CostTable, Duals};
 use trial_books::{are_duals, marks};
 
-// For each activity and aircraft so many labels and routes are looked at, at most, as in the search.
-const WORK: u64 = 1000;
-
-fn work_for(book: &Book) -> u64 {
-    let (n, m) = (book.activities.len() as u64, book.tails.len() as u64);
-    n.saturating_mul(m).saturating_mul(WORK)
-}
+// For each activity so many labels and routes are looked at, at most, as in the search.
+const WORK: u64 = 15_000;
 
 /// The plan that dives from these duals find, or nothing where they find none.
 pub fn found_at(
@@ -47,7 +42,7 @@ pub fn found_at(
     let sought = Sought {
         marks: &marks,
         duals,
-        work: work_for(book),
+        work: (book.activities.len() as u64).saturating_mul(WORK),
     };
     Ok(find_by_dives(alloc, &problem, &sought, &mut pool)?)
 }
