@@ -2,6 +2,7 @@
 
 mod books;
 
+use crate::tests::books::has_routes;
 use books::*;
 use plan_audit::*;
 use std::alloc::Global;
@@ -27,6 +28,13 @@ fn is_broken(alloc: Global, book: &Book, text: &[u8], want: &[Broken]) -> Result
     }
 }
 
+// Whether these routes are left of a plan.
+fn is_kept(alloc: Global, book: &Book, text: &[u8], want: &[&[u32]]) -> Result<bool, Memory> {
+    let read = plan(alloc, text)?;
+    let found = kept(alloc, book, &read)?;
+    Ok(has_routes(&found, want))
+}
+
 // There and back, with the gap of exactly the turn.
 fn two_flights(alloc: Global) -> Result<Book, Fail> {
     let there = flight(b"F1", ARN, OSL, 360, 420);
@@ -44,14 +52,14 @@ fn two_at_once(alloc: Global) -> Result<Book, Fail> {
 fn legal_plans(rt: HostRuntime) -> Result<(), Fail> {
     let alloc = rt.alloc();
     let two = two_flights(alloc)?;
-    for (text, want) in [
+    for &(text, want) in &[
         (b"A1:F1 F2 ".as_slice(), 120),
         (b"A2:F1 F2 A1:".as_slice(), 240),
     ] {
         assert!(rt; cost_of(alloc, &two, text)? == Some(want), "{text:?}");
     }
     let pair = two_at_once(alloc)?;
-    for (text, want) in [
+    for &(text, want) in &[
         (b"A1:F2 A2:F1 ".as_slice(), 240),
         (b"A2:F2 A1:F1 ".as_slice(), 300),
     ] {
@@ -101,22 +109,19 @@ fn names_of_two_flights(rt: HostRuntime) -> Result<(), Fail> {
 // The routes that are left of the same kinds of plans, legal or not: each aircraft has one, in the book's order.
 #[test]
 fn kept_plans(rt: HostRuntime) -> Result<(), Fail> {
-    let (alloc, none) = (rt.alloc(), [].as_slice());
+    let alloc = rt.alloc();
     let book = two_flights(alloc)?;
-    for &(text, want) in &[
-        (b"A1:F1 F2 ".as_slice(), [[0, 1].as_slice(), none]),
-        (b"A2:F2 F1 A1:".as_slice(), [none, [1, 0].as_slice()]),
-        (b"A2:F1 A1:F2 ".as_slice(), [[1].as_slice(), [0].as_slice()]),
-        (b"A1:F1 F9 F1 F2 ".as_slice(), [[0, 1].as_slice(), none]),
-        (b"B7:F2 A1:F1 A1:F2 ".as_slice(), [[0].as_slice(), none]),
-        (
-            b"A1:F2 A2:F1 F2 ".as_slice(),
-            [[1].as_slice(), [0].as_slice()],
-        ),
-        (b"".as_slice(), [none, none]),
-    ] {
-        let found = kept(alloc, &book, &plan(alloc, text)?)?;
-        assert!(rt; found == routes(alloc, want.as_slice())?, "{text:?}");
+    let rows: &[(&[u8], &[&[u32]])] = &[
+        (b"A1:F1 F2 ", &[&[0, 1], &[]]),
+        (b"A2:F2 F1 A1:", &[&[], &[1, 0]]),
+        (b"A2:F1 A1:F2 ", &[&[1], &[0]]),
+        (b"A1:F1 F9 F1 F2 ", &[&[0, 1], &[]]),
+        (b"B7:F2 A1:F1 A1:F2 ", &[&[0], &[]]),
+        (b"A1:F2 A2:F1 F2 ", &[&[1], &[0]]),
+        (b"", &[&[], &[]]),
+    ];
+    for &(text, want) in rows {
+        assert!(rt; is_kept(alloc, &book, text, want)?, "{text:?}");
     }
     Ok(())
 }
@@ -137,7 +142,7 @@ fn lines_in_reading_order(rt: HostRuntime) -> Result<(), Fail> {
     ];
     let book = flights(alloc, &legs)?;
     let (first, second) = (Broken::NotAllowed(0, 0), Broken::NotAllowed(1, 1));
-    for (text, want) in [
+    for &(text, want) in &[
         (b"A1:FA A2:FB ".as_slice(), [first, second].as_slice()),
         (b"A2:FB A1:FA ".as_slice(), [second, first].as_slice()),
     ] {
@@ -211,22 +216,30 @@ fn a_counter_twice(rt: HostRuntime) -> Result<(), Fail> {
 #[test]
 fn days_below_zero(rt: HostRuntime) -> Result<(), Fail> {
     let alloc = rt.alloc();
-    for (end, past) in [(6440, false), (6441, true)] {
-        let legs = [
-            flight(b"F1", ARN, OSL, 360, 420),
-            check(b"C1", 4940, 5000),
-            flight(b"F2", OSL, ARN, end - 60, end),
-        ];
-        let rules = rules(alloc, CounterKind::Days, 1440)?;
-        let book = book(alloc, rules, [aircraft(P, ARN), aircraft(Q, ARN)], &legs)?;
-        let lines = [Broken::NoLink(0, 0), Broken::Counter(0, 2, 0)];
-        let want = if past { lines.as_slice() } else { &lines[..1] };
+    let (backwards, past) = (Broken::NoLink(0, 0), Broken::Counter(0, 2, 0));
+    for &(end, want) in &[
+        (6440, [backwards].as_slice()),
+        (6441, [backwards, past].as_slice()),
+    ] {
+        let book = days_until(alloc, end)?;
         assert!(rt;
             is_broken(alloc, &book, b"A1:C1 F1 F2 ".as_slice(), want)?,
             "{end}"
         );
     }
     Ok(())
+}
+
+// A day between checks, of which one ends at 5,000, and the last flight ends at this minute.
+fn days_until(alloc: Global, end: u16) -> Result<Book, Fail> {
+    let end = end as i64;
+    let legs = [
+        flight(b"F1", ARN, OSL, 360, 420),
+        check(b"C1", 4940, 5000),
+        flight(b"F2", OSL, ARN, end - 60, end),
+    ];
+    let rules = rules(alloc, CounterKind::Days, 1440)?;
+    book(alloc, rules, [aircraft(P, ARN), aircraft(Q, ARN)], &legs)
 }
 
 // A landing at ARN at the minute at which the curfew begins.
@@ -302,11 +315,13 @@ fn plans_by_number(rt: HostRuntime) -> Result<(), Fail> {
     Ok(())
 }
 
-// By a table of prices that are not the book's own, with a price for half an hour on the ground.
-#[test]
-fn plans_by_another_table(rt: HostRuntime) -> Result<(), Fail> {
-    let (alloc, none) = (rt.alloc(), [].as_slice());
-    let book = two_flights(alloc)?;
+// What a plan of two flights costs by prices that are not the book's own, with one for half an hour on the ground.
+fn cost_by_other_prices(
+    alloc: Global,
+    book: &Book,
+    listed: &[&[u32]],
+) -> Result<Option<u64>, Fail> {
+    let plan = routes(alloc, listed)?;
     let fly = vec![in alloc; 5, 7, 11, 17]?;
     let bands = vec![in alloc; Band { upto: 30, cost: 3 }]?;
     let Some(table) = CostTable::new(2, 2, fly, bands, 100, 100) else {
@@ -315,14 +330,21 @@ fn plans_by_another_table(rt: HostRuntime) -> Result<(), Fail> {
     if book.activities.len() != 2 || book.tails.len() != 2 {
         return Err(Fail::new("another book"));
     }
-    for &(listed, want) in &[
-        ([[0, 1].as_slice(), none], Some(15)),
-        ([none, [0, 1].as_slice()], Some(31)),
-        ([[1, 0].as_slice(), none], None),
-    ] {
-        let plan = routes(alloc, listed.as_slice())?;
+    Ok(audit_plan(alloc, book, &table, &plan)?)
+}
+
+#[test]
+fn plans_by_another_table(rt: HostRuntime) -> Result<(), Fail> {
+    let alloc = rt.alloc();
+    let book = two_flights(alloc)?;
+    let rows: &[(&[&[u32]], Option<u64>)] = &[
+        (&[&[0, 1], &[]], Some(15)),
+        (&[&[], &[0, 1]], Some(31)),
+        (&[&[1, 0], &[]], None),
+    ];
+    for &(listed, want) in rows {
         assert!(rt;
-            audit_plan(alloc, &book, &table, &plan)? == want,
+            cost_by_other_prices(alloc, &book, listed)? == want,
             "{listed:?}"
         );
     }

@@ -270,3 +270,15 @@ pub fn book(alloc: Global, rules: Rules, rows: &[TailRow], legs: &[Leg]) -> Resu
         None => Err(Fail::new("no book")),
     }
 }
+
+pub fn has_routes(plan: &Plan, routes: &[&[u32]]) -> bool {
+    if plan.0.len() != routes.len() {
+        return false;
+    }
+    for k in 0..routes.len() {
+        if plan.0[k].0.as_slice() != routes[k] {
+            return false;
+        }
+    }
+    true
+}

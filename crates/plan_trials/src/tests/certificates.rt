@@ -4,6 +4,7 @@ ghost use Rattle.std.specs.Prelude.{◌≡◌, ◌<◌, length};
 
 use cert_checker::{Verdict, judge};
 use std::alloc::Global;
+use std::process::Abort;
 use std::test::Fail;
 use tail_book::*;
 
@@ -83,24 +84,41 @@ fn rates(alloc: Global) -> Result<Book, Fail> {
     Ok(Book::new(flights, tails, rules(alloc, (1, 30), (2, 30))?).ok_or("no book")?)
 }
 
+// The claim that a certificate shows, or the line and the reason of its first failure.
+type Want = Result<Claim, (u64, u8)>;
+
 // A failure of a line.
 fn fails(line: u64, reason: u8) -> Verdict {
     Verdict::No { line, reason }
 }
 
-// The verdict that is wanted: yes for a claim, or a failure of a line.
-fn verdict(want: Result<Claim, (u64, u8)>) -> Verdict {
+// The verdict that is wanted.
+fn verdict(want: Want) -> Verdict {
     match want {
         Ok(claim) => Verdict::Yes(claim),
         Err((line, reason)) => fails(line, reason),
     }
 }
 
+// Asks that the texts have the verdicts beside them.
+fn each_is_judged(
+    rt: &impl Abort,
+    alloc: Global,
+    book: &Book,
+    rows: &[(&str, Want)],
+) -> Result<(), Fail> {
+    for &(text, want) in rows {
+        let told = judge(alloc, book, text.as_bytes())?;
+        assert!(rt; told == verdict(want), "{text}");
+    }
+    Ok(())
+}
+
 // Steps, splits, holes and stuck leaves, where two flights are a minute too close.
 #[test]
 fn trees_without_a_bound(rt: HostRuntime) -> Result<(), Fail> {
     let book = late(rt.alloc())?;
-    let rows: &[(&str, Result<Claim, (u64, u8)>)] = &[
+    let rows: &[(&str, Want)] = &[
         (
             "tailcert 1 2 1 0\nbar 0 1\nhole 1\nclaim infeasible\n",
             Ok(Claim::Infeasible),
@@ -180,31 +198,36 @@ fn trees_without_a_bound(rt: HostRuntime) -> Result<(), Fail> {
         ("", Err((1, 10))),
         ("\n", Err((1, 1))),
     ];
-    for &(text, want) in rows {
-        assert!(rt;
-            judge(rt.alloc(), &book, text.as_bytes())? == verdict(want),
-            "{text}"
-        );
-    }
-    Ok(())
+    each_is_judged(&rt, rt.alloc(), &book, rows)
 }
 
-// A bound leaf without covers, and bytes that no newline ends.
+// A hole, and a bound leaf without covers.
 #[test]
-fn nobody_and_nothing(rt: HostRuntime) -> Result<(), Fail> {
+fn nobody_covers(rt: HostRuntime) -> Result<(), Fail> {
     let book = nobody(rt.alloc())?;
-    let (hole, low) = (
-        "tailcert 1 1 0 0\nhole 0\nclaim infeasible\n",
-        "tailcert 1 1 0 0\nbound\ndual 0 1001\nclaim limit 2 -\n",
-    );
-    let told = judge(rt.alloc(), &book, hole.as_bytes())?;
-    assert!(rt; told == Verdict::Yes(Claim::Infeasible));
-    let told = judge(rt.alloc(), &book, low.as_bytes())?;
-    assert!(rt; told == Verdict::Yes(Claim::Limit { low: 2, high: None }));
-    for (length, want) in [(200, fails(1, 10)), (201, fails(1, 1))] {
-        let bytes = vec![in rt.alloc(); b'0'; length]?;
-        assert!(rt; judge(rt.alloc(), &book, &bytes)? == want, "{length}");
-    }
+    let low = Claim::Limit { low: 2, high: None };
+    let rows: &[(&str, Want)] = &[
+        (
+            "tailcert 1 1 0 0\nhole 0\nclaim infeasible\n",
+            Ok(Claim::Infeasible),
+        ),
+        (
+            "tailcert 1 1 0 0\nbound\ndual 0 1001\nclaim limit 2 -\n",
+            Ok(low),
+        ),
+    ];
+    each_is_judged(&rt, rt.alloc(), &book, rows)
+}
+
+// Bytes that no newline ends.
+#[test]
+fn nothing_but_zeros(rt: HostRuntime) -> Result<(), Fail> {
+    let book = nobody(rt.alloc())?;
+    let zeros = [b'0'; 201];
+    let told = judge(rt.alloc(), &book, &zeros[..200])?;
+    assert!(rt; told == fails(1, 10));
+    let told = judge(rt.alloc(), &book, &zeros)?;
+    assert!(rt; told == fails(1, 1));
     Ok(())
 }
 
@@ -239,11 +262,26 @@ fn with_lines(alloc: Global, from: usize, until: usize, put: &str) -> Result<Str
     Ok(text)
 }
 
+// Asks that a certificate of the least cost, with these texts in place of some of its lines, has the verdicts beside them.
+fn each_change_is_judged(
+    rt: &impl Abort,
+    alloc: Global,
+    book: &Book,
+    rows: &[(usize, usize, &str, Want)],
+) -> Result<(), Fail> {
+    for &(from, until, put, want) in rows {
+        let text = with_lines(alloc, from, until, put)?;
+        let told = judge(alloc, book, text.as_bytes())?;
+        assert!(rt; told == verdict(want), "{from}: {put}");
+    }
+    Ok(())
+}
+
 // A certificate of the least cost, and one line of it left out, or another.
 #[test]
 fn one_line_away(rt: HostRuntime) -> Result<(), Fail> {
     let book = rates(rt.alloc())?;
-    let rows: &[(usize, usize, &str, Result<Claim, (u64, u8)>)] = &[
+    let rows: &[(usize, usize, &str, Want)] = &[
         (0, 0, "", Ok(Claim::Optimal(240))),
         (0, 1, "", Err((1, 2))),
         (1, 2, "", Err((2, 2))),
@@ -288,21 +326,14 @@ fn one_line_away(rt: HostRuntime) -> Result<(), Fail> {
         (13, 14, "claim limit 100 -\n", Err((14, 8))),
         (13, 14, "claim optimal 240\nx", Err((15, 10))),
     ];
-    for &(from, until, put, want) in rows {
-        let text = with_lines(rt.alloc(), from, until, put)?;
-        assert!(rt;
-            judge(rt.alloc(), &book, text.as_bytes())? == verdict(want),
-            "{from}: {put}"
-        );
-    }
-    Ok(())
+    each_change_is_judged(&rt, rt.alloc(), &book, rows)
 }
 
 // Each line of a certificate of the least cost twice, and before the one that it comes behind.
 #[test]
 fn lines_twice_and_early(rt: HostRuntime) -> Result<(), Fail> {
     let book = rates(rt.alloc())?;
-    let rows: &[(usize, usize, &str, Result<Claim, (u64, u8)>)] = &[
+    let rows: &[(usize, usize, &str, Want)] = &[
         (1, 1, "tailcert 1 2 2 0\n", Err((2, 2))),
         (2, 2, "bound\n", Err((3, 2))),
         (3, 3, "dual 0 120000\n", Err((4, 2))),
@@ -336,14 +367,7 @@ fn lines_twice_and_early(rt: HostRuntime) -> Result<(), Fail> {
         (11, 13, "fly 1 0\nfly 0 1\n", Err((12, 2))),
         (12, 14, "claim optimal 240\nfly 1 0\n", Err((13, 2))),
     ];
-    for &(from, until, put, want) in rows {
-        let text = with_lines(rt.alloc(), from, until, put)?;
-        assert!(rt;
-            judge(rt.alloc(), &book, text.as_bytes())? == verdict(want),
-            "{from}: {put}"
-        );
-    }
-    Ok(())
+    each_change_is_judged(&rt, rt.alloc(), &book, rows)
 }
 
 // A certificate of the least cost that is cut before any of its bytes is unfinished in the line of that byte.
@@ -458,7 +482,7 @@ fn one_byte_from_a_bare_leaf(rt: HostRuntime) -> Result<(), Fail> {
 #[test]
 fn branches_and_low_sums(rt: HostRuntime) -> Result<(), Fail> {
     let book = rates(rt.alloc())?;
-    let rows: &[(&str, Result<Claim, (u64, u8)>)] = &[
+    let rows: &[(&str, Want)] = &[
         (
             "tailcert 1 2 2 0\nsplit fly 0 0\nbound\ndual 1 240000\ncover 0 60000\nlabel 0 60000\ncover 1 0\nlabel 1 0\nplan\n",
             Err((9, 10)),
@@ -484,11 +508,5 @@ fn branches_and_low_sums(rt: HostRuntime) -> Result<(), Fail> {
             Err((11, 10)),
         ),
     ];
-    for &(text, want) in rows {
-        assert!(rt;
-            judge(rt.alloc(), &book, text.as_bytes())? == verdict(want),
-            "{text}"
-        );
-    }
-    Ok(())
+    each_is_judged(&rt, rt.alloc(), &book, rows)
 }

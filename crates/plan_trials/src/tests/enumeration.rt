@@ -6,28 +6,16 @@ use std::alloc::Global;
 use std::test::Fail;
 use tail_book::*;
 
-fn has_routes(plan: &Plan, routes: &[&[u32]]) -> bool {
-    if plan.0.len() != routes.len() {
-        return false;
-    }
-    for k in 0..routes.len() {
-        if plan.0[k].0.as_slice() != routes[k] {
-            return false;
-        }
-    }
-    true
-}
-
 // Whether these routes are the least plan, and cost this.
 fn is_least(
     alloc: Global,
-    rules: Rules,
+    rules: Result<Rules, Memory>,
     rows: &[TailRow],
     legs: &[Leg],
     cost: u64,
     routes: &[&[u32]],
 ) -> Result<bool, Fail> {
-    let made = book(alloc, rules, rows, legs)?;
+    let made = book(alloc, rules?, rows, legs)?;
     match least_plan(alloc, &made)? {
         Outcome::Optimal(plan, least) => Ok(least == cost && has_routes(&plan, routes)),
         _ => Ok(false),
@@ -37,12 +25,12 @@ fn is_least(
 // Whether some least plan costs this.
 fn costs(
     alloc: Global,
-    rules: Rules,
+    rules: Result<Rules, Memory>,
     rows: &[TailRow],
     legs: &[Leg],
     cost: u64,
 ) -> Result<bool, Fail> {
-    let made = book(alloc, rules, rows, legs)?;
+    let made = book(alloc, rules?, rows, legs)?;
     match least_plan(alloc, &made)? {
         Outcome::Optimal(_, least) => Ok(least == cost),
         _ => Ok(false),
@@ -50,9 +38,19 @@ fn costs(
 }
 
 // Whether no plan is legal.
-fn has_none(alloc: Global, rules: Rules, rows: &[TailRow], legs: &[Leg]) -> Result<bool, Fail> {
-    let made = book(alloc, rules, rows, legs)?;
+fn has_none(
+    alloc: Global,
+    rules: Result<Rules, Memory>,
+    rows: &[TailRow],
+    legs: &[Leg],
+) -> Result<bool, Fail> {
+    let made = book(alloc, rules?, rows, legs)?;
     Ok(matches!(least_plan(alloc, &made)?, Outcome::Infeasible))
+}
+
+// One counter with this limit, and no band.
+fn limited(alloc: Global, kind: CounterKind, limit: i64) -> Result<Rules, Memory> {
+    counted(alloc, kind, limit, Vec::new(alloc))
 }
 
 // No activities, and no aircraft.
@@ -60,9 +58,9 @@ fn has_none(alloc: Global, rules: Rules, rows: &[TailRow], legs: &[Leg]) -> Resu
 fn nothing_to_fly(rt: HostRuntime) -> Result<(), Fail> {
     let (alloc, none) = (rt.alloc(), [].as_slice());
     let rows = [aircraft(P), aircraft(P)];
-    assert!(rt; is_least(alloc, plain(alloc, 30)?, &rows, &[], 0, &[none, none])?);
-    assert!(rt; is_least(alloc, plain(alloc, 30)?, &[], &[], 0, &[])?);
-    assert!(rt; has_none(alloc, plain(alloc, 30)?, &[], &[flight(ARN, OSL, 360, 420)])?);
+    assert!(rt; is_least(alloc, plain(alloc, 30), &rows, &[], 0, &[none, none])?);
+    assert!(rt; is_least(alloc, plain(alloc, 30), &[], &[], 0, &[])?);
+    assert!(rt; has_none(alloc, plain(alloc, 30), &[], &[flight(ARN, OSL, 360, 420)])?);
     Ok(())
 }
 
@@ -72,8 +70,8 @@ fn gap_is_exactly_the_turn(rt: HostRuntime) -> Result<(), Fail> {
     let (alloc, rows) = (rt.alloc(), [aircraft(P)]);
     let legs = [flight(ARN, OSL, 360, 420), flight(OSL, ARN, 450, 510)];
     let both = [0, 1].as_slice();
-    assert!(rt; is_least(alloc, plain(alloc, 30)?, &rows, &legs, 120, &[both])?);
-    assert!(rt; has_none(alloc, plain(alloc, 31)?, &rows, &legs)?);
+    assert!(rt; is_least(alloc, plain(alloc, 30), &rows, &legs, 120, &[both])?);
+    assert!(rt; has_none(alloc, plain(alloc, 31), &rows, &legs)?);
     Ok(())
 }
 
@@ -84,12 +82,12 @@ fn turn_of_the_airport(rt: HostRuntime) -> Result<(), Fail> {
     let there = flight(ARN, CPH, 360, 420);
     let both = [0, 1].as_slice();
     let late = [there, flight(CPH, ARN, 470, 530)];
-    assert!(rt; is_least(alloc, plain(alloc, 30)?, &rows, &late, 120, &[both])?);
+    assert!(rt; is_least(alloc, plain(alloc, 30), &rows, &late, 120, &[both])?);
     let early = [there, flight(CPH, ARN, 469, 529)];
-    assert!(rt; has_none(alloc, plain(alloc, 30)?, &rows, &early)?);
+    assert!(rt; has_none(alloc, plain(alloc, 30), &rows, &early)?);
     let around = [there, ground(CPH, 420, 430), flight(CPH, ARN, 430, 490)];
     let all = [0, 1, 2].as_slice();
-    assert!(rt; is_least(alloc, plain(alloc, 30)?, &rows, &around, 120, &[all])?);
+    assert!(rt; is_least(alloc, plain(alloc, 30), &rows, &around, 120, &[all])?);
     Ok(())
 }
 
@@ -99,7 +97,7 @@ fn longer_flight_to_the_cheaper_type(rt: HostRuntime) -> Result<(), Fail> {
     let (alloc, rows) = (rt.alloc(), [aircraft(P), aircraft(Q)]);
     let legs = [flight(ARN, OSL, 360, 420), flight(ARN, OSL, 360, 480)];
     let routes = [[1].as_slice(), [0].as_slice()];
-    assert!(rt; is_least(alloc, plain(alloc, 30)?, &rows, &legs, 240, &routes)?);
+    assert!(rt; is_least(alloc, plain(alloc, 30), &rows, &legs, 240, &routes)?);
     Ok(())
 }
 
@@ -119,51 +117,46 @@ fn ground_time_costs_the_fixed_amount(rt: HostRuntime) -> Result<(), Fail> {
     ];
     let routes = [[].as_slice(), [0].as_slice()];
     let legs = [ground(ARN, 360, 420)];
-    assert!(rt; is_least(alloc, plain(alloc, 30)?, &rows, &legs, 5, &routes)?);
+    assert!(rt; is_least(alloc, plain(alloc, 30), &rows, &legs, 5, &routes)?);
     Ok(())
+}
+
+// Whether of two aircraft the second flies an hour, for twice as much.
+fn second_flies(alloc: Global, rows: &[TailRow], leg: Leg) -> Result<bool, Fail> {
+    is_least(alloc, plain(alloc, 30), rows, &[leg], 120, &[&[], &[0]])
 }
 
 // Each rule of who may fly what sends the flight to the type that costs more.
 #[test]
 fn only_the_dearer_type_may(rt: HostRuntime) -> Result<(), Fail> {
     let alloc = rt.alloc();
-    let routes = [[].as_slice(), [0].as_slice()];
     let (leg, p, q) = (flight(ARN, OSL, 360, 420), aircraft(P), aircraft(Q));
     let typed = Leg {
         kind: Some(Q),
         ..leg
     };
-    assert!(rt; is_least(alloc, plain(alloc, 30)?, &[p, q], &[typed], 120, &routes)?);
+    assert!(rt; second_flies(alloc, &[p, q], typed)?);
     let tagged = Leg {
         tag: Some(7),
         ..leg
     };
     let able = TailRow { tag: Some(7), ..q };
-    assert!(rt;
-        is_least(
-            alloc,
-            plain(alloc, 30)?,
-            &[p, able],
-            &[tagged],
-            120,
-            &routes
-        )?
-    );
+    assert!(rt; second_flies(alloc, &[p, able], tagged)?);
     let wary = TailRow {
         avoid: Some(ARN),
         ..p
     };
-    assert!(rt; is_least(alloc, plain(alloc, 30)?, &[wary, q], &[leg], 120, &routes)?);
+    assert!(rt; second_flies(alloc, &[wary, q], leg)?);
     let wary = TailRow {
         avoid: Some(OSL),
         ..p
     };
-    assert!(rt; is_least(alloc, plain(alloc, 30)?, &[wary, q], &[leg], 120, &routes)?);
+    assert!(rt; second_flies(alloc, &[wary, q], leg)?);
     let assigned = Leg {
         tail: Some(1),
         ..leg
     };
-    assert!(rt; is_least(alloc, plain(alloc, 30)?, &[p, q], &[assigned], 120, &routes)?);
+    assert!(rt; second_flies(alloc, &[p, q], assigned)?);
     Ok(())
 }
 
@@ -183,7 +176,7 @@ fn each_its_own(rt: HostRuntime) -> Result<(), Fail> {
         },
     ];
     let routes = [[1].as_slice(), [0].as_slice()];
-    assert!(rt; is_least(alloc, plain(alloc, 30)?, &rows, &legs, 120, &routes)?);
+    assert!(rt; is_least(alloc, plain(alloc, 30), &rows, &legs, 120, &routes)?);
     Ok(())
 }
 
@@ -197,9 +190,9 @@ fn closed_for_landings(rt: HostRuntime) -> Result<(), Fail> {
     }];
     for (end, lands) in [(1319, true), (1320, false), (299, false), (300, true)] {
         let legs = [flight(OSL, ARN, end - 60, end)];
-        let found = costs(alloc, closed(alloc, false)?, &rows, &legs, 60)?;
+        let found = costs(alloc, closed(alloc, false), &rows, &legs, 60)?;
         assert!(rt; found == lands, "at {end}");
-        let none = has_none(alloc, closed(alloc, false)?, &rows, &legs)?;
+        let none = has_none(alloc, closed(alloc, false), &rows, &legs)?;
         assert!(rt; none == !lands, "at {end}");
     }
     Ok(())
@@ -210,12 +203,12 @@ fn closed_for_landings(rt: HostRuntime) -> Result<(), Fail> {
 fn closed_for_starts(rt: HostRuntime) -> Result<(), Fail> {
     let (alloc, p, q) = (rt.alloc(), [aircraft(P)], [aircraft(Q)]);
     let legs = [flight(ARN, OSL, 299, 359)];
-    assert!(rt; has_none(alloc, closed(alloc, true)?, &p, &legs)?);
-    assert!(rt; costs(alloc, closed(alloc, true)?, &q, &legs, 120)?);
+    assert!(rt; has_none(alloc, closed(alloc, true), &p, &legs)?);
+    assert!(rt; costs(alloc, closed(alloc, true), &q, &legs, 120)?);
     let legs = [flight(ARN, OSL, 300, 360)];
-    assert!(rt; costs(alloc, closed(alloc, true)?, &p, &legs, 60)?);
+    assert!(rt; costs(alloc, closed(alloc, true), &p, &legs, 60)?);
     let legs = [ground(ARN, 0, 60)];
-    assert!(rt; costs(alloc, closed(alloc, true)?, &p, &legs, 0)?);
+    assert!(rt; costs(alloc, closed(alloc, true), &p, &legs, 0)?);
     Ok(())
 }
 
@@ -234,13 +227,33 @@ fn there_and_back_twice(third: u16) -> [Leg; 4] {
 #[test]
 fn stop_at_the_base_clears_minutes(rt: HostRuntime) -> Result<(), Fail> {
     let (alloc, rows, all) = (rt.alloc(), [aircraft(P)], [0, 1, 2, 3].as_slice());
-    let rules = counted(alloc, CounterKind::Minutes, 120, Vec::new(alloc))?;
     let legs = there_and_back_twice(570);
-    assert!(rt; is_least(alloc, rules, &rows, &legs, 240, &[all])?);
-    let rules = counted(alloc, CounterKind::Minutes, 120, Vec::new(alloc))?;
-    assert!(rt; has_none(alloc, rules, &rows, &there_and_back_twice(569))?);
-    let rules = counted(alloc, CounterKind::Minutes, 119, Vec::new(alloc))?;
-    assert!(rt; has_none(alloc, rules, &rows, &legs)?);
+    assert!(rt;
+        is_least(
+            alloc,
+            limited(alloc, CounterKind::Minutes, 120),
+            &rows,
+            &legs,
+            240,
+            &[all]
+        )?
+    );
+    assert!(rt;
+        has_none(
+            alloc,
+            limited(alloc, CounterKind::Minutes, 120),
+            &rows,
+            &there_and_back_twice(569)
+        )?
+    );
+    assert!(rt;
+        has_none(
+            alloc,
+            limited(alloc, CounterKind::Minutes, 119),
+            &rows,
+            &legs
+        )?
+    );
     Ok(())
 }
 
@@ -260,11 +273,25 @@ fn check_resets_days(rt: HostRuntime) -> Result<(), Fail> {
         resets: true,
         ..check
     };
-    let rules = counted(alloc, CounterKind::Days, 1440, Vec::new(alloc))?;
     let both = [0, 1].as_slice();
-    assert!(rt; is_least(alloc, rules, &rows, &[reset, home], 74, &[both])?);
-    let rules = counted(alloc, CounterKind::Days, 1440, Vec::new(alloc))?;
-    assert!(rt; has_none(alloc, rules, &rows, &[check, home])?);
+    assert!(rt;
+        is_least(
+            alloc,
+            limited(alloc, CounterKind::Days, 1440),
+            &rows,
+            &[reset, home],
+            74,
+            &[both]
+        )?
+    );
+    assert!(rt;
+        has_none(
+            alloc,
+            limited(alloc, CounterKind::Days, 1440),
+            &rows,
+            &[check, home]
+        )?
+    );
     Ok(())
 }
 
@@ -273,12 +300,18 @@ fn check_resets_days(rt: HostRuntime) -> Result<(), Fail> {
 fn a_day_is_1440_minutes(rt: HostRuntime) -> Result<(), Fail> {
     let (alloc, rows) = (rt.alloc(), [aircraft(P)]);
     let away = flight(ARN, OSL, 0, 60);
-    let rules = counted(alloc, CounterKind::Days, 1440, Vec::new(alloc))?;
     let legs = [away, flight(OSL, ARN, 1400, 1440)];
-    assert!(rt; costs(alloc, rules, &rows, &legs, 100)?);
-    let rules = counted(alloc, CounterKind::Days, 1440, Vec::new(alloc))?;
+    assert!(rt;
+        costs(
+            alloc,
+            limited(alloc, CounterKind::Days, 1440),
+            &rows,
+            &legs,
+            100
+        )?
+    );
     let legs = [away, flight(OSL, ARN, 1400, 1441)];
-    assert!(rt; has_none(alloc, rules, &rows, &legs)?);
+    assert!(rt; has_none(alloc, limited(alloc, CounterKind::Days, 1440), &rows, &legs)?);
     Ok(())
 }
 
@@ -291,13 +324,34 @@ fn carried_above_the_limit(rt: HostRuntime) -> Result<(), Fail> {
         ..aircraft(P)
     };
     let away = TailRow { at: OSL, ..used };
-    let rules = counted(alloc, CounterKind::Minutes, 120, Vec::new(alloc))?;
     let none = [].as_slice();
-    assert!(rt; is_least(alloc, rules, &[away], &[], 0, &[none])?);
-    let rules = counted(alloc, CounterKind::Minutes, 120, Vec::new(alloc))?;
-    assert!(rt; has_none(alloc, rules, &[away], &[flight(OSL, ARN, 360, 420)])?);
-    let rules = counted(alloc, CounterKind::Minutes, 120, Vec::new(alloc))?;
-    assert!(rt; costs(alloc, rules, &[used], &[flight(ARN, OSL, 360, 420)], 60)?);
+    assert!(rt;
+        is_least(
+            alloc,
+            limited(alloc, CounterKind::Minutes, 120),
+            &[away],
+            &[],
+            0,
+            &[none]
+        )?
+    );
+    assert!(rt;
+        has_none(
+            alloc,
+            limited(alloc, CounterKind::Minutes, 120),
+            &[away],
+            &[flight(OSL, ARN, 360, 420)]
+        )?
+    );
+    assert!(rt;
+        costs(
+            alloc,
+            limited(alloc, CounterKind::Minutes, 120),
+            &[used],
+            &[flight(ARN, OSL, 360, 420)],
+            60
+        )?
+    );
     Ok(())
 }
 
@@ -313,7 +367,7 @@ fn dear_connection_saves_a_landing(rt: HostRuntime) -> Result<(), Fail> {
             cost: 500
         },
     ]?;
-    let rules = counted(alloc, CounterKind::Landings, 3, bands)?;
+    let rules = counted(alloc, CounterKind::Landings, 3, bands);
     let first = Some(0);
     let legs = [
         Leg {
@@ -350,7 +404,7 @@ fn first_band_that_reaches(rt: HostRuntime) -> Result<(), Fail> {
             Band { upto: 400, cost: 1 },
             Band { upto: 40, cost: 3 },
         ]?;
-        let rules = counted(alloc, CounterKind::Landings, 10, bands)?;
+        let rules = counted(alloc, CounterKind::Landings, 10, bands);
         let legs = [
             flight(ARN, OSL, 360, 420),
             flight(OSL, ARN, start, start + 60),
@@ -388,10 +442,10 @@ fn ten_flights_on_four_aircraft(rt: HostRuntime) -> Result<(), Fail> {
         let start = 360 + 60 * a as i64;
         legs[a] = flight(ARN, ARN, start, start + 90);
     }
-    assert!(rt; costs(alloc, plain(alloc, 30)?, &rows, &legs, 925)?);
+    assert!(rt; costs(alloc, plain(alloc, 30), &rows, &legs, 925)?);
     for a in 5..10 {
         legs[a] = flight(ARN, ARN, 900, 990);
     }
-    assert!(rt; has_none(alloc, plain(alloc, 30)?, &rows, &legs)?);
+    assert!(rt; has_none(alloc, plain(alloc, 30), &rows, &legs)?);
     Ok(())
 }

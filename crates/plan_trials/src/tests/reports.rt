@@ -197,6 +197,18 @@ fn repeated(
     Ok(text)
 }
 
+// What the reading of such a text answers.
+fn answer_to(
+    alloc: Global,
+    front: &[u8],
+    piece: &[u8],
+    times: u32,
+    end: &[u8],
+) -> Result<Vec<u8>, Fail> {
+    let text = repeated(alloc, front, piece, times, end)?;
+    answered(alloc, &text)
+}
+
 // Whether what was taken is the front of a text, of so many bytes.
 fn is_front(taken: &[u8], text: &str, length: usize) -> bool {
     taken.len() == length && text.as_bytes().starts_with(taken)
@@ -234,15 +246,23 @@ fn a_plan_is_reported(rt: HostRuntime) -> Result<(), Fail> {
     fails_in_turn(&rt, rt.alloc(), &book, &outcome, whole)
 }
 
+// Whether an outcome is reported so.
+fn is_reported(alloc: Global, book: &Book, outcome: &Outcome, text: &str) -> Result<bool, Fail>
+    requires { HasPlanFor book.now outcome.now }
+{
+    let seen = reported(alloc, book, outcome, 0)?;
+    Ok(seen.1.as_slice() == text.as_bytes())
+}
+
 // The other outcomes: no plan, a bound with a plan that leaves an aircraft at home, and a bound alone.
 #[test]
 fn each_outcome_is_reported(rt: HostRuntime) -> Result<(), Fail> {
     let book = book(rt.alloc())?;
-    let none = reported(rt.alloc(), &book, &Outcome::Infeasible, 0)?;
-    assert!(rt; none.1.as_slice() == b"infeasible\n".as_slice());
+    let none = Outcome::Infeasible;
+    assert!(rt; is_reported(rt.alloc(), &book, &none, "infeasible\n")?);
     let (low, nodes) = (u64::MAX, 3);
-    let above = reported(rt.alloc(), &book, &Outcome::Above { low, nodes }, 0)?;
-    assert!(rt; above.1.as_slice() == b"limit 18446744073709551615 -\n".as_slice());
+    let above = Outcome::Above { low, nodes };
+    assert!(rt; is_reported(rt.alloc(), &book, &above, "limit 18446744073709551615 -\n")?);
     let plan = plan(rt.alloc(), &book, &[], &[F1, F2, F3])?;
     let (low, high) = (0, 180);
     let between = Outcome::Between {
@@ -251,8 +271,8 @@ fn each_outcome_is_reported(rt: HostRuntime) -> Result<(), Fail> {
         high,
         nodes,
     };
-    let between = reported(rt.alloc(), &book, &between, 0)?;
-    assert!(rt; between.1.as_slice() == b"limit 0 180\nA1:\nA2: F1 F2 F3\n".as_slice());
+    let text = "limit 0 180\nA1:\nA2: F1 F2 F3\n";
+    assert!(rt; is_reported(rt.alloc(), &book, &between, text)?);
     Ok(())
 }
 
@@ -264,6 +284,15 @@ fn a_report_is_read_back(rt: HostRuntime) -> Result<(), Fail> {
     let seen = reported(rt.alloc(), &book, &outcome, 0)?;
     let names = answered(rt.alloc(), &seen.1)?;
     assert!(rt; names.as_slice() == b"A1,F2,F1,;A2,;".as_slice());
+    Ok(())
+}
+
+// Asks that each text is answered with the one beside it.
+fn each_is_answered(rt: &impl Abort, alloc: Global, rows: &[(&[u8], &[u8])]) -> Result<(), Fail> {
+    for &(text, want) in rows {
+        let seen = answered(alloc, text)?;
+        assert!(rt; seen.as_slice() == want, "{text:?}");
+    }
     Ok(())
 }
 
@@ -305,11 +334,7 @@ fn first_lines(rt: HostRuntime) -> Result<(), Fail> {
         (b"legal 1\n", b"refused 3 plan 1\n"),
         (b"infeasible\nA1\n", b"refused 3 plan 1\n"),
     ];
-    for &(text, want) in rows {
-        let seen = answered(rt.alloc(), text)?;
-        assert!(rt; seen.as_slice() == want, "{text:?}");
-    }
-    Ok(())
+    each_is_answered(&rt, rt.alloc(), rows)
 }
 
 // Later lines: names need not be of any book, and may be repeated. The first bad line decides.
@@ -349,33 +374,24 @@ fn later_lines(rt: HostRuntime) -> Result<(), Fail> {
         ),
         (b"optimal 1\noptimal 1\n", b"refused 4 plan 2\n"),
     ];
-    for &(text, want) in rows {
-        let seen = answered(rt.alloc(), text)?;
-        assert!(rt; seen.as_slice() == want, "{text:?}");
-    }
-    Ok(())
+    each_is_answered(&rt, rt.alloc(), rows)
 }
 
 // 200 later lines are taken, and one more is too many before it is looked at, but not before the lines above it.
 #[test]
 fn lines_too_many(rt: HostRuntime) -> Result<(), Fail> {
     let front = b"optimal 1\n".as_slice();
+    let most = answer_to(rt.alloc(), front, b"A:\n", 199, b"B: F\n")?;
+    let names = repeated(rt.alloc(), b"", b"A,;", 199, b"B,F,;")?;
+    assert!(rt; most.as_slice() == names.as_slice());
     for &(times, end, want) in &[
-        (199, b"B: F\n".as_slice(), b"".as_slice()),
-        (200, b"A:\n", b"refused 10 plan 202\n"),
+        (200, b"A:\n".as_slice(), b"refused 10 plan 202\n".as_slice()),
         (200, b"not a line", b"refused 10 plan 202\n"),
         (201, b"A:\n", b"refused 10 plan 202\n"),
         (199, b"A\nA:\n", b"refused 4 plan 201\n"),
     ] {
-        let text = repeated(rt.alloc(), front, b"A:\n", times, end)?;
-        let seen = answered(rt.alloc(), &text)?;
-        let expected = repeated(rt.alloc(), b"", b"A,;", 199, b"B,F,;")?;
-        let wanted = if want.is_empty() {
-            expected.as_slice()
-        } else {
-            want
-        };
-        assert!(rt; seen.as_slice() == wanted, "{times} lines");
+        let seen = answer_to(rt.alloc(), front, b"A:\n", times, end)?;
+        assert!(rt; seen.as_slice() == want, "{times} lines");
     }
     Ok(())
 }
@@ -384,22 +400,17 @@ fn lines_too_many(rt: HostRuntime) -> Result<(), Fail> {
 #[test]
 fn ids_too_many(rt: HostRuntime) -> Result<(), Fail> {
     let front = b"optimal 1\nA1:".as_slice();
+    let most = answer_to(rt.alloc(), front, b" F", 4000, b"\n")?;
+    let names = repeated(rt.alloc(), b"A1,", b"F,", 4000, b";")?;
+    assert!(rt; most.as_slice() == names.as_slice());
     for &(times, end, want) in &[
-        (4000, b"\n".as_slice(), b"".as_slice()),
-        (4001, b"\n", b"refused 10 plan 2\n"),
+        (4001, b"\n".as_slice(), b"refused 10 plan 2\n".as_slice()),
         (4001, b"\nA2\n", b"refused 10 plan 2\n"),
         (4001, b" -\n", b"refused 4 plan 2\n"),
         (4001, b"", b"refused 4 plan 2\n"),
     ] {
-        let text = repeated(rt.alloc(), front, b" F", times, end)?;
-        let seen = answered(rt.alloc(), &text)?;
-        let expected = repeated(rt.alloc(), b"A1,", b"F,", 4000, b";")?;
-        let wanted = if want.is_empty() {
-            expected.as_slice()
-        } else {
-            want
-        };
-        assert!(rt; seen.as_slice() == wanted, "{times} ids");
+        let seen = answer_to(rt.alloc(), front, b" F", times, end)?;
+        assert!(rt; seen.as_slice() == want, "{times} ids");
     }
     Ok(())
 }
@@ -407,7 +418,7 @@ fn ids_too_many(rt: HostRuntime) -> Result<(), Fail> {
 // A file of the greatest size is looked at, and one of a byte more is not.
 #[test]
 fn files_too_big(rt: HostRuntime) -> Result<(), Fail> {
-    for (size, want) in [
+    for &(size, want) in &[
         (16_777_216, b"refused 3 plan 1\n".as_slice()),
         (16_777_217, b"refused 1 plan 0\n".as_slice()),
     ] {
@@ -461,13 +472,21 @@ curfew A2 F2\nnolink A2 F1\ncounter A1 F3 fh\n";
     audit_fails(&rt, rt.alloc(), &book, &Audit::Broken(rules), whole)
 }
 
+// Whether an audit is written so.
+fn is_written(alloc: Global, book: &Book, audit: &Audit, text: &str) -> Result<bool, Fail>
+    requires { AreOfBook book.now audit.now }
+{
+    let seen = audited(alloc, book, audit, 0)?;
+    Ok(seen.1.as_slice() == text.as_bytes())
+}
+
 // An audit of a legal plan, and one without broken rules.
 #[test]
 fn legal_plans_are_written(rt: HostRuntime) -> Result<(), Fail> {
     let book = book(rt.alloc())?;
-    let legal = audited(rt.alloc(), &book, &Audit::Legal(u64::MAX), 0)?;
-    assert!(rt; legal.1.as_slice() == b"legal 18446744073709551615\n".as_slice());
-    let none = audited(rt.alloc(), &book, &Audit::Broken(Vec::new(rt.alloc())), 0)?;
-    assert!(rt; none.1.as_slice() == b"broken 0\n".as_slice());
+    let legal = Audit::Legal(u64::MAX);
+    assert!(rt; is_written(rt.alloc(), &book, &legal, "legal 18446744073709551615\n")?);
+    let none = Audit::Broken(Vec::new(rt.alloc()));
+    assert!(rt; is_written(rt.alloc(), &book, &none, "broken 0\n")?);
     Ok(())
 }
