@@ -325,11 +325,19 @@ fn goings(
     goings_of(alloc, book, &net, &steps, &marks, a, b)
 }
 
+// A limit, a fact and two activities, and how the first aircraft then goes on.
+type Going = (i64, Option<Fact>, u32, u32, (bool, bool, bool));
+
+fn goes_so(alloc: Global, &(limit, fact, a, b, want): &Going) -> Result<bool, Fail> {
+    let book = book(alloc, limit, 60)?;
+    Ok(goings(alloc, &book, fact, a, b)? == want)
+}
+
 // With 100 minutes the aircraft cannot come back from the long flight; a Cut leaves nothing behind the short one, though
 // the step would stay within the limits; behind a Bar there is no floor.
 #[test]
 fn going_on(rt: HostRuntime) -> Result<(), Fail> {
-    for &(limit, fact, a, b, want) in &[
+    for row in &[
         (120, None, LONG, BACK, (true, true, true)),
         (120, None, LONG, SHORT, (true, false, true)),
         (100, None, LONG, BACK, (false, false, false)),
@@ -350,8 +358,7 @@ fn going_on(rt: HostRuntime) -> Result<(), Fail> {
         ),
         (120, None, AGAIN, BACK, (false, false, true)),
     ] {
-        let book = book(rt.alloc(), limit, 60)?;
-        assert!(rt; goings(rt.alloc(), &book, fact, a, b)? == want);
+        assert!(rt; goes_so(rt.alloc(), row)?, "{row:?}");
     }
     Ok(())
 }

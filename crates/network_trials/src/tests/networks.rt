@@ -67,9 +67,8 @@ fn aircraft(alloc: Global, name: Name, carried: &Carried) -> Tail {
     }
 }
 
-// Types with these turns, and airports that turn in 20 minutes.
-fn rules(alloc: Global, turns: &[i64], ports: usize) -> Result<Rules, Memory> {
-    let (mut kinds, mut airports) = (Vec::new(alloc), Vec::new(alloc));
+fn kinds(alloc: Global, turns: &[i64]) -> Result<Vec<AircraftType>, Memory> {
+    let mut kinds = Vec::new(alloc);
     for (name, turn) in names().iter().zip(turns) {
         kinds.push(AircraftType {
             name: *name,
@@ -77,6 +76,11 @@ fn rules(alloc: Global, turns: &[i64], ports: usize) -> Result<Rules, Memory> {
             turn: *turn,
         })?;
     }
+    Ok(kinds)
+}
+
+fn airports(alloc: Global, ports: usize) -> Result<Vec<Airport>, Memory> {
+    let mut airports = Vec::new(alloc);
     for name in names().iter().take(ports) {
         airports.push(Airport {
             name: *name,
@@ -84,6 +88,12 @@ fn rules(alloc: Global, turns: &[i64], ports: usize) -> Result<Rules, Memory> {
             turn: 20,
         })?;
     }
+    Ok(airports)
+}
+
+// Types with these turns, and airports that turn in 20 minutes.
+fn rules(alloc: Global, turns: &[i64], ports: usize) -> Result<Rules, Memory> {
+    let (kinds, airports) = (kinds(alloc, turns)?, airports(alloc, ports)?);
     Ok(Rules {
         kinds,
         airports,
@@ -93,41 +103,79 @@ fn rules(alloc: Global, turns: &[i64], ports: usize) -> Result<Rules, Memory> {
     })
 }
 
-fn book(alloc: Global, legs: &[Leg], tails: &[Carried], turns: &[i64]) -> Result<Book, Fail> {
-    let (mut activities, mut fleet) = (Vec::new(alloc), Vec::new(alloc));
+fn activities(alloc: Global, legs: &[Leg]) -> Result<Vec<Activity>, Memory> {
+    let mut activities = Vec::new(alloc);
     for (name, leg) in names().iter().zip(legs) {
         activities.push(activity(alloc, *name, leg))?;
     }
+    Ok(activities)
+}
+
+fn fleet(alloc: Global, tails: &[Carried]) -> Result<Vec<Tail>, Memory> {
+    let mut fleet = Vec::new(alloc);
     for (name, carried) in names().iter().zip(tails) {
         fleet.push(aircraft(alloc, *name, carried))?;
     }
-    Ok(Book::new(activities, fleet, rules(alloc, turns, 2)?).ok_or("no book")?)
+    Ok(fleet)
 }
 
-// The rows of a book's network: successors, predecessors, heads.
-fn rows(alloc: Global, book: &Book, net: &Net) -> Result<String, Fail>
+// The book of these parts, or a failure.
+fn made(activities: Vec<Activity>, fleet: Vec<Tail>, rules: Rules) -> Result<Book, Fail> {
+    match Book::new(activities, fleet, rules) {
+        Some(book) => Ok(book),
+        None => Err(Fail::new("no book")),
+    }
+}
+
+fn book(alloc: Global, legs: &[Leg], tails: &[Carried], turns: &[i64]) -> Result<Book, Fail> {
+    let (activities, fleet) = (activities(alloc, legs)?, fleet(alloc, tails)?);
+    made(activities, fleet, rules(alloc, turns, 2)?)
+}
+
+fn push_row(alloc: Global, text: &mut String, row: &[u32]) -> Result<(), Fail> {
+    text.push_str(&format!(in alloc; "{row:?}")?)?;
+    Ok(())
+}
+
+// Adds the rows of a book's network to a text: successors, predecessors, heads.
+fn push_rows(alloc: Global, text: &mut String, book: &Book, net: &Net) -> Result<(), Fail>
     requires { net.now ≡ net_of book.now }
 {
     rows_for_each();
-    let mut text = String::new(alloc);
     for a in 0..book.activities.len() as u32 {
-        text.push_str(&format!(in alloc; "{:?}", net.successors(a))?)?;
+        push_row(alloc, text, net.successors(a))?;
     }
     text.push_str(" ")?;
     for b in 0..book.activities.len() as u32 {
-        text.push_str(&format!(in alloc; "{:?}", net.predecessors(b))?)?;
+        push_row(alloc, text, net.predecessors(b))?;
     }
     text.push_str(" ")?;
     for k in 0..book.tails.len() as u32 {
-        text.push_str(&format!(in alloc; "{:?}", net.heads(k))?)?;
+        push_row(alloc, text, net.heads(k))?;
     }
-    Ok(text)
+    Ok(())
 }
 
-// The same of the network that is made of the book.
-fn text_of(alloc: Global, book: &Book) -> Result<String, Fail> {
+// Whether these are the rows of the network that is made of a book.
+fn has_rows(alloc: Global, book: &Book, want: &str) -> Result<bool, Fail> {
     let net = Net::new(alloc, book)?;
-    rows(alloc, book, &net)
+    let mut text = String::new(alloc);
+    push_rows(alloc, &mut text, book, &net)?;
+    Ok(text.as_str() == want)
+}
+
+// Activities, aircraft, the turns of the types, and the rows of the network.
+type Row = (
+    &'static [Leg],
+    &'static [Carried],
+    &'static [i64],
+    &'static str,
+);
+
+fn is_right(alloc: Global, row: &Row) -> Result<bool, Fail> {
+    let &(legs, tails, turns, want) = row;
+    let book = book(alloc, legs, tails, turns)?;
+    has_rows(alloc, &book, want)
 }
 
 // There and back with half an hour between, which ground time may fill; and each for one aircraft alone, with an hour between.
@@ -152,7 +200,7 @@ const LATE: &[Carried] = &[(0, ARN, 361), (1, ARN, 360)];
 // and nobody.
 #[test]
 fn small_networks(rt: HostRuntime) -> Result<(), Fail> {
-    let rows: &[(&[Leg], &[Carried], &[i64], &str)] = &[
+    let rows: &[Row] = &[
         (&[THERE, BACK], &[EARLY], &[30], "[1][] [][0] [0]"),
         (&[THERE, BACK], &[EARLY], &[31], "[][] [][] [0]"),
         (&[THERE, BACK], LATE, &[31, 30], "[1][] [][0] [][0]"),
@@ -166,10 +214,8 @@ fn small_networks(rt: HostRuntime) -> Result<(), Fail> {
         (&[], &[EARLY], &[30], "  []"),
         (&[THERE, BACK], &[], &[30], "[][] [][] "),
     ];
-    for &(legs, tails, turns, want) in rows {
-        let book = book(rt.alloc(), legs, tails, turns)?;
-        let text = text_of(rt.alloc(), &book)?;
-        assert!(rt; text.as_str() == want, "turns {turns:?}");
+    for row in rows {
+        assert!(rt; is_right(rt.alloc(), row)?, "{row:?}");
     }
     Ok(())
 }

@@ -7,7 +7,7 @@ ghost use Rattle.branch_marks.specs.inside.MarkTables.{AreMarksOf};
 ghost use Rattle.branch_marks.specs.declared.fact.Fact.{Fact as MarkFact};
 ghost use Rattle.propagator.specs.Keeping.{IsKeptFor, IsMadeFor};
 
-use super::closed;
+use super::{closed, made};
 use branch_marks::{Fact, Marks};
 use connection_net::Net;
 use dice::Dice;
@@ -43,24 +43,23 @@ fn two_counters(alloc: Global, dice: &mut Dice) -> Result<Vec<Counter>, Memory> 
         Name::new(b"hours".as_slice()),
         Name::new(b"landings".as_slice()),
     );
-    let (one, both) = (vec![in alloc; 0]?, vec![in alloc; 0, 1]?);
     let stop = 30 + dice.below(120) as i64;
-    Ok(vec![in alloc;
-        Counter {
-            name: hours,
-            kind: CounterKind::Minutes,
-            limit: 120 + dice.below(60) as i64,
-            bases: one,
-            stop
-        },
-        Counter {
-            name: landings,
-            kind: CounterKind::Landings,
-            limit: 1 + dice.below(3) as i64,
-            bases: both,
-            stop: 100
-        },
-    ]?)
+    let (limit, most) = (120 + dice.below(60) as i64, 1 + dice.below(3) as i64);
+    let mut counters = Vec::new(alloc);
+    let rows: &[(Name, CounterKind, i64, &[u32], i64)] = &[
+        (hours, CounterKind::Minutes, limit, &[0], stop),
+        (landings, CounterKind::Landings, most, &[0, 1], 100),
+    ];
+    for &(name, kind, limit, bases, stop) in rows {
+        counters.push(Counter {
+            name,
+            kind,
+            limit,
+            bases: Vec::from_slice(alloc, bases)?,
+            stop,
+        })?;
+    }
+    Ok(counters)
 }
 
 // One to three aircraft.
@@ -91,8 +90,7 @@ fn six_flights(alloc: Global, dice: &mut Dice) -> Result<Vec<Row>, Memory> {
 fn book_by_chance(alloc: Global, dice: &mut Dice) -> Result<Book, Fail> {
     let rules = rules(alloc, 20, two_counters(alloc, dice)?, Vec::new(alloc))?;
     let fleet = few_tails(alloc, dice)?;
-    let flights = activities(alloc, &six_flights(alloc, dice)?)?;
-    Ok(Book::new(flights, fleet, rules).ok_or("no book")?)
+    made(activities(alloc, &six_flights(alloc, dice)?)?, fleet, rules)
 }
 
 // Two values, of the hours and of the landings.
