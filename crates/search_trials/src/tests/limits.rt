@@ -131,14 +131,14 @@ fn first_wrong(
     })
 }
 
-// Each tree has four nodes or more.
+// Each tree branches, so that it has three nodes or more.
 #[test]
 fn bounds_rise_to_the_least_cost(rt: HostRuntime) -> Result<(), Fail> {
     for (texts, least) in &BRANCHING {
         let book = book_of(rt.alloc(), texts)?;
         let table = costs(rt.alloc(), &book)?;
         let size = size_of(rt.alloc(), &book, &table)?;
-        assert!(rt; size >= 4, "{texts:?}");
+        assert!(rt; size >= 3, "{texts:?}");
         let wrong = first_wrong(rt.alloc(), &book, &table, size, *least)?;
         assert_eq!(rt; wrong, None, "{texts:?}");
     }
