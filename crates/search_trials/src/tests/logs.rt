@@ -7,6 +7,7 @@ use super::{Failing, book_of};
 use branch_marks::{Event, MemTree};
 use branch_tree::{Limit, Stop, search};
 use std::alloc::Global;
+use std::process::Abort;
 use std::test::Fail;
 use tail_book::*;
 use trial_books::costs;
@@ -55,16 +56,39 @@ fn first_wrong(
     Ok(None)
 }
 
-// Without a limit, and at one that leaves places open.
-#[test]
-fn failing_logs_have_a_front(rt: HostRuntime) -> Result<(), Fail> {
-    for (texts, _) in &BRANCHING {
-        let book = book_of(rt.alloc(), texts)?;
-        let table = costs(rt.alloc(), &book)?;
-        for limit in [Limit::Free, Limit::Nodes(2)] {
-            let wrong = first_wrong(rt.alloc(), &book, &table, limit)?;
-            assert_eq!(rt; wrong, None, "{texts:?}");
-        }
+// Asks that the searches of these books stop where their logs fail.
+fn each_stops(
+    rt: &impl Abort,
+    alloc: Global,
+    books: &[([&str; 3], Option<u64>)],
+    limit: Limit,
+) -> Result<(), Fail> {
+    for (texts, _) in books {
+        let book = book_of(alloc, texts)?;
+        let table = costs(alloc, &book)?;
+        let wrong = first_wrong(alloc, &book, &table, limit)?;
+        assert_eq!(rt; wrong, None, "{texts:?}");
     }
     Ok(())
+}
+
+#[test]
+fn failing_logs_have_a_front(rt: HostRuntime) -> Result<(), Fail> {
+    each_stops(&rt, rt.alloc(), &BRANCHING[..5], Limit::Free)
+}
+
+#[test]
+fn failing_logs_of_other_books_have_a_front(rt: HostRuntime) -> Result<(), Fail> {
+    each_stops(&rt, rt.alloc(), &BRANCHING[5..], Limit::Free)
+}
+
+// At a limit that leaves places open.
+#[test]
+fn failing_logs_at_a_limit_have_a_front(rt: HostRuntime) -> Result<(), Fail> {
+    each_stops(&rt, rt.alloc(), &BRANCHING[..5], Limit::Nodes(2))
+}
+
+#[test]
+fn failing_logs_of_other_books_at_a_limit_have_a_front(rt: HostRuntime) -> Result<(), Fail> {
+    each_stops(&rt, rt.alloc(), &BRANCHING[5..], Limit::Nodes(2))
 }
