@@ -1,4 +1,7 @@
 -- What the definitions say of small lists, computed by them.
+--
+-- The rows show that a number is a name's first place, that of two faults the earlier entry or item decides, and that a
+-- counter which no item names begins at 0.
 use Rattle.std.proofs.Common.{◌≡◌, ℕ, ℤ, pos, List, [], ◌∷◌, Result, Ok, Err, Some, refl}
 use Rattle.std.specs.Prelude.{codes}
 use Rattle.tail_text.specs.Reading.{refusal_at}

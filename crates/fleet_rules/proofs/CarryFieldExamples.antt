@@ -1,4 +1,7 @@
 -- What carry fields say, computed by the definitions.
+--
+-- The rows show the greatest value and one more, a second `=`, a zero in front, and that of two faults the first
+-- decides.
 use Rattle.std.proofs.Common.{◌≡◌, pos, [], ◌∷◌, Ok, Err, refl}
 use Rattle.std.specs.Prelude.{codes}
 use Rattle.fleet_rules.specs.CarryField.{carry_in, item_in}

@@ -1,4 +1,7 @@
 -- The rules at the texts that a reader tries first.
+--
+-- The rows show rules without entries, two spellings of one array, what is refused as a whole, and that refusals come
+-- in the order of the keys and not of the text.
 use Rattle.std.proofs.Common.{◌≡◌, [], ◌∷◌, Ok, Err, pos, refl}
 use Rattle.std.specs.Prelude.{codes}
 use Rattle.std.specs.Str.{chars, is_utf8}

@@ -1,4 +1,8 @@
 -- A step by the rows of a table is the step of the book.
+--
+-- A step asks three things: whether the stop clears the counter, what is added, and whether the activity resets it.
+-- Each reads numbers of the rows that are the book's own, so each has the book's answer. By the kind of the counter,
+-- and for days by whether it was cleared.
 use Rattle.std.proofs.Common.{◌≡◌, ◌∙◌, ℕ, ◌<◌, ℤ, pos, ◌+ℤ◌, ◌-ℤ◌, Bool, true, false, refl, ap, ap₂, length}
 use Rattle.std.specs.Prelude.{◌&&◌, if◌then◌else◌}
 use Rattle.tail_book.specs.Seen.{BookSeen}

@@ -1,4 +1,7 @@
 -- The definitions of this crate, at the texts that a reader tries first.
+--
+-- The rows show lists with a space too many at each place, a field that may be empty, an empty line, and a comma in
+-- quotes.
 use Rattle.std.proofs.Common.{◌≡◌, [], ◌∷◌, Ok, Err, Some, None, refl}
 use Rattle.std.specs.Prelude.{codes}
 use Rattle.csv.specs.Machine.{next_record}

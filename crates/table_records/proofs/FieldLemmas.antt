@@ -1,4 +1,7 @@
 -- The fields of a record by their numbers, and record and texts compared from a field on.
+--
+-- Where they differ at that field, the record is another one; where they agree, the fields behind it decide. So a loop
+-- over the numbers of the fields, which stops at the first that differs, compares the whole.
 use Rattle.std.proofs.Common.{◌≡◌, ◌∙◌, ◌<◌, ◌+◌, ℕ, zero, suc, Bool, true, false, not, List, [], ◌∷◌, length, map, drop, get_or, refl, ◌&&◌}
 use Rattle.std.specs.Borrow.{Bor}
 use Rattle.std.specs.Option.{unwrap_or}

@@ -1,4 +1,9 @@
 -- What one read of a record takes from the records that are left.
+--
+-- These are defined with a number of turns, one more than bytes are left. The hard part is that the number does not
+-- matter where it is large enough. Between two records the end of the text gives none, so a record that is found took a
+-- byte at least; and a step that ends a record leaves the machine between two again, state by state. So a read that
+-- finds a record takes the first that is left, and one that finds none is at the end.
 use Rattle.std.proofs.Common.{◌≡◌, ◌∙◌, ◌+◌, ◌<◌, ◌≤◌, ℕ, zero, suc, Bool, true, false, List, [], ◌∷◌, ◌++◌, Option, Some, None, length, refl, ap, inl, arith, add-one, if◌then◌else◌, ◌==◌, ◌&&◌}
 use Rattle.csv.specs.Machine.{Read, next_record, step, in_field, start_field, start_record, is_end, ends_at_end, ends_with, after_end, is_byte, fields_after, field_after}
 use Rattle.csv.specs.Reading.{default_config, records_from, records_next, Reached, ReadRecord, source_of, Ready, is_flexible, reader_trim, took_first}

@@ -1,4 +1,5 @@
--- Whether a text is UTF-8, as std tells.
+-- Whether a text is UTF-8, as std tells: where std gives the text, the test of the definition holds, and where it gives
+-- an error, it does not. So both have one answer.
 use Rattle.std.proofs.Common.{◌≡◌, ℕ, Bool, true, false, List, Result, Ok, Err, sym, refl}
 use Rattle.std.proofs.lemmas.Str.{IsUtf8-from_is_utf8, is_utf8-from_IsUtf8}
 use Rattle.std.specs.Result.{MatchResult, is_ok}

@@ -1,4 +1,4 @@
--- The fields of one record.
+-- The fields of one record, by their numbers from 0 on.
 use Rattle.std.specs.Prelude.{ℕ, List, [], Bool, slice_index_or}
 use Rattle.std.specs.Str.{bytes_eq}
 use Rattle.std.specs.Cmp.Lexicographic.{pointwise}

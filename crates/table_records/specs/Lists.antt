@@ -1,4 +1,4 @@
--- A list of items in one field.
+-- A list of items in one field: a bad item, wherever it stands, is told before one too many.
 use Rattle.std.specs.Prelude.{ℕ, List, [], length, ◌==◌, nat_le, if◌then◌else◌, Result, Ok}
 use Rattle.tail_book.specs.declared.limits.TheConstants.{ITEM_LIMIT}
 use Rattle.tail_text.specs.Checks.{look, look_each, must}

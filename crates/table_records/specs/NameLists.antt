@@ -1,4 +1,4 @@
--- A list of names in one field.
+-- A list of names in one field, at most 20 of them.
 use Rattle.std.specs.Prelude.{ℕ, List, Result}
 use Rattle.table_records.specs.Lists.{list_of}
 use Rattle.table_records.specs.Values.{name_in}

@@ -1,4 +1,4 @@
--- The records of a text.
+-- The records of a text, as `csv` reads them: what is wrong with one is not asked here.
 use Rattle.std.specs.Prelude.{ℕ, List}
 use Rattle.csv.specs.Reading.{default_config, records, strip_bom}
 

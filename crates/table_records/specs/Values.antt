@@ -1,4 +1,4 @@
--- Fields that several tables have.
+-- Fields that several tables have, each with the code of its kind where it is bad.
 use Rattle.std.specs.Prelude.{ℕ, List, length, ◌==◌, if◌then◌else◌, Option, Some, None, Result, Ok, ℤ}
 use Rattle.tail_text.specs.Checks.{look, or_code}
 use Rattle.tail_text.specs.NameText.{name_of}

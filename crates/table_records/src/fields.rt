@@ -1,4 +1,5 @@
-//! The fields of one record.
+//! The fields of one record. One value takes in all records of a table, one after the other, and keeps its buffer; a
+//! field is a part of that, and whoever keeps one copies it.
 
 ghost use Rattle.std.specs.Prelude.{◌≡◌, [], length, map};
 ghost use Rattle.table_records.specs.Fields.{are_same, field_at};

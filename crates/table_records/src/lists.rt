@@ -1,4 +1,7 @@
 //! Lists of items in one field, whatever the items are.
+//!
+//! Items are looked at up to the first bad one, also behind the limit, since a bad one is told rather than the one too
+//! many. No more than the limit are kept, so a long field takes no more memory than a list that is good.
 
 ghost use Rattle.std.specs.Prelude.{◌≡◌, ◌≤◌, ℕ, List, Result, length, All, IfOk};
 ghost use Rattle.table_records.specs.Lists.{items_of, list_of};

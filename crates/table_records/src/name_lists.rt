@@ -1,4 +1,5 @@
-//! Lists of names in one field.
+//! Lists of names in one field. All but what one name is stands in `lists`: the names keep the order of the field, and
+//! one may stand in it twice.
 
 ghost use Rattle.std.specs.Prelude.{◌≡◌, true, IfOk};
 ghost use Rattle.tail_book.specs.Name.{is_name};

@@ -1,4 +1,7 @@
 //! The records of a text, one after the other.
+//!
+//! The reader of `csv` takes no record for a header and any number of fields, so what is wrong with a record is for the
+//! table to say. What is left of its errors is want of memory. Behind that, and behind the end, no record is left.
 
 ghost use Rattle.std.specs.Prelude.{◌≡◌, ◌∷◌, [], IfOk};
 ghost use Rattle.std.specs.Bool.{MatchBool};

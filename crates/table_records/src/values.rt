@@ -1,4 +1,5 @@
-//! Fields that several tables have.
+//! Fields that several tables have: names, moments and numbers, each read exactly or refused with the code of its kind.
+//! Nothing is allocated.
 
 ghost use Rattle.std.specs.Prelude.{◌≡◌, ◌≤◌, true, IfOk, IfSome};
 ghost use Rattle.tail_book.specs.Name.{is_name};

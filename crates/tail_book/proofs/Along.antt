@@ -1,4 +1,9 @@
--- Legality along a route and legality by the counters after its first activities, by induction on the route from any place on.
+-- A route is legal exactly where it is linked and, after each of its first activities, the counters are within their
+-- limits. By induction on the route from any place on.
+--
+-- Legality asks for link and limits at one activity after the other; here the links go by recursion, and the limits by
+-- how many activities were flown, from 1 on. Behind the head that number is one less, and the counters begin with the
+-- values of the head's step. That an activity is of the book is not asked apart: the link to it says so.
 use Rattle.std.proofs.Common.{◌≡◌, ℕ, zero, suc, ℤ, ◌+◌, ◌<◌, ◌≤◌, arith, List, [], ◌∷◌, length, take, get_or, ap, ◌∙◌}
 use Rattle.std.proofs.lemmas.List.{take_more}
 use Rattle.std.specs.Prelude.{◌↔◌}

@@ -1,4 +1,9 @@
--- The bounds on what activities, connections and legal plans cost.
+-- What activities, connections and legal plans cost at most.
+--
+-- Each number that a cost reads keeps a limit of every book, and so does the default of a look-up. An activity lasts at
+-- most 2,880 minutes, which with the greatest rate and fixed amount come to its bound; a connection costs one band or
+-- nothing. So a route costs at most two million for each of its activities, by induction on it, and the routes of a
+-- legal plan have as many activities as the book.
 use Rattle.std.proofs.Common.{◌≡◌, ℕ, suc, ℤ, pos, negsuc, ◌+◌, ◌*◌, ◌+ℤ◌, ◌-ℤ◌, ◌≤ℤ◌, ◌<◌, ◌≤◌, Bool, true, false, cond, arith, List, [], ◌∷◌, length, Option, Some, if◌then◌else◌}
 use Rattle.std.proofs.lemmas.Int.{ints}
 use Rattle.std.proofs.lemmas.List.{length-append}

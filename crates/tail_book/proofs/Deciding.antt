@@ -1,4 +1,7 @@
--- The tests of legality decide their facts.
+-- The tests of legality decide their facts: each is true exactly where the fact of its name holds.
+--
+-- A test joins the tests of the fact's parts, so each part is decided by itself. Routes and counters go by induction on
+-- their lists; where there are more values than counters, or fewer, the test is false and the fact is absurd.
 use Rattle.std.specs.Prelude.{⊤, int_lt, not, ◌==◌}
 use Rattle.std.proofs.Common.{◌≡◌, ℕ, ℤ, ◌+ℤ◌, ◌≤ℤ◌, Bool, true, false, arith, List, [], ◌∷◌, refl, sym, length}
 use lib.Signed.{◌<ℤ◌}

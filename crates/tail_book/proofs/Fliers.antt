@@ -1,4 +1,10 @@
 -- From fliers to routes and back: an activity stands in the one route of its flier, and rising numbers have one order.
+--
+-- The route of `k` by fliers picks, of all activities in their order, those whose flier is `k`. So it rises, it has
+-- these once each and no other, and all routes together have each activity once. The flier of an activity is the first
+-- whose route has it, in a legal plan the only one. The hard case is that the fliers of a legal plan give the same
+-- lists again: its routes rise, those by fliers rise too and have the same numbers, and two such lists are equal
+-- (`RisingLists`).
 use Rattle.std.proofs.Common.{◌≡◌, ℕ, zero, suc, ◌+◌, ◌<◌, ◌≤◌, inl, inr, Bool, true, false, cond, arith, List, [], ◌∷◌, length, get_or, refl, ap, sym, subst, ◌∙◌}
 use Rattle.std.proofs.lemmas.Bool.{cases_eq, cases_lt, both_ways, eq-eqb, ne_eqb}
 use Rattle.std.proofs.lemmas.Grind.{same_number_lists}

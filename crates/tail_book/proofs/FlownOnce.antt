@@ -1,4 +1,7 @@
--- Where an activity is flown once in all, it stands in one route.
+-- Where an activity is flown at all, some route has it; where it is flown once in all, only one does.
+--
+-- By induction on the plan: what a plan flies is what its first route and the rest fly. A route that has the activity
+-- counts at least 1. So two such routes would make 2, and a test that only such routes pass is passed by no other.
 use Rattle.std.proofs.Common.{◌≡◌, ℕ, zero, suc, ◌+◌, ◌<◌, ◌≤◌, ◌⊎◌, inl, inr, Bool, true, false, cond, arith, List, [], ◌∷◌, length, refl, ap}
 use Rattle.std.proofs.lemmas.Bool.{or_cases, or_left, or_right, both_ways, cases_Bool}
 use Rattle.std.proofs.lemmas.List.Sums.{sum_by-cons, sum_by-append}

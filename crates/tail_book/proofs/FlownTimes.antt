@@ -1,4 +1,8 @@
--- Counts of how often routes fly an activity, and what they say of where it stands.
+-- How often routes fly an activity, and what the count says of where it stands.
+--
+-- Never means that no route has it. Once means that exactly one does, where routes rise: a route that rises has it at
+-- most once, and the others count 0. The search for the least activity that is not flown once goes on from `s` with all
+-- before `s` flown once, and so stops at the least.
 use Rattle.std.proofs.Common.{◌≡◌, ℕ, zero, suc, ◌+◌, ◌<◌, inl, inr, Bool, true, false, cond, arith, List, [], ◌∷◌, ◌++◌, length, refl, ap, ◌∙◌, subst, Some}
 use Rattle.std.proofs.lemmas.Bool.{cases_Bool, cases_lt, both_ways}
 use Rattle.std.proofs.lemmas.Bool.Decides.{Decides-eqb, Decides-like}

@@ -1,4 +1,7 @@
--- A route with one activity more at its end, by induction on the route from any place on.
+-- A route with one activity `b` more at its end: its place, counters, costs, rise and legality.
+--
+-- Each of these is defined from the front, so all go by induction on the route from any place on. The empty route
+-- leaves what is asked of `b` at that place, and a head takes its step and leaves the same for the rest.
 use Rattle.std.proofs.Common.{◌≡◌, ℕ, ℤ, ◌+◌, ◌<◌, arith, List, [], ◌∷◌, ◌++◌, refl}
 use Rattle.std.specs.Prelude.{◌↔◌}
 use Rattle.tail_book.specs.Seen.{BookSeen}

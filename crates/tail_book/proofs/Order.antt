@@ -1,4 +1,7 @@
 -- A step keeps the order of values, counter by counter: reset, cleared or counted on, none of which reads the value.
+--
+-- So lower values stay lower along a route, by induction on it. Limits bound from above alone, so what is legal with
+-- some values is legal with lower ones.
 use Rattle.std.proofs.Common.{◌≡◌, ℕ, ℤ, pos, ◌+◌, ◌+ℤ◌, ◌≤ℤ◌, Bool, true, false, cond, arith, List, [], ◌∷◌, length, refl}
 use Rattle.std.proofs.lemmas.Int.{ints}
 use Rattle.std.proofs.lemmas.Bool.Decides.{Decides-and}

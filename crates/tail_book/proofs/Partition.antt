@@ -1,4 +1,7 @@
--- What the routes of a legal plan have, all together.
+-- What the routes of a legal plan have, all together: each activity of the book once, and nothing else.
+--
+-- That activities are of the book goes by induction on each route, and that each is flown once is a part of a legal
+-- plan. So the list of all that is flown is a partition, and what `Sums` says of sums and lengths holds of it.
 use Rattle.std.proofs.Common.{◌≡◌, ℕ, ℤ, ◌+ℤ◌, ◌<◌, arith, List, [], ◌∷◌, map, length, refl, ap, sym, ◌∙◌}
 use Rattle.std.proofs.lemmas.List.{map-append}
 use Rattle.std.proofs.lemmas.List.Elements.{All-head, All-tail, All-cons, All-append, All-from_get_or}

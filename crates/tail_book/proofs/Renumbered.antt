@@ -1,4 +1,9 @@
--- Each rule reads an activity's record alone: what it says of two activities it says in the book that has just these two.
+-- Each rule reads an activity's record alone: what it says of two activities it says in the book that has just these
+-- two.
+--
+-- So routes of the same activities in two books with the same aircraft and rules are legal in both or in neither, and
+-- have the same counters and costs. By induction on both routes side by side, from two places that have the same
+-- record.
 use Rattle.std.specs.Prelude.{⊤, ◌↔◌, IsTrue}
 use Rattle.std.proofs.Common.{◌≡◌, ℕ, ℤ, ◌+◌, ◌+ℤ◌, ◌≤ℤ◌, ◌<◌, arith, List, [], ◌∷◌, length, get_or, false, refl, ap, ap₂, sym, subst, ◌∙◌}
 use Rattle.std.specs.List.{list_all}

@@ -1,4 +1,7 @@
 -- Linked activities rise in number, and so do the numbers of a legal route.
+--
+-- Were `b` not behind `x`, it would start no later than `x` does. But `x` lasts at least a minute, and a link wants `b`
+-- to start no earlier than `x` ends. A route goes by induction from place to place; the carry-in is before any number.
 use Rattle.std.proofs.Common.{ℕ, ℤ, pos, ◌≤ℤ◌, ◌<◌, ◌≤◌, Bool, true, false, arith, if◌then◌else◌, List, [], ◌∷◌}
 use Rattle.std.proofs.lemmas.Int.{ints, int_max_is}
 use Rattle.std.proofs.Math.Nat.{lt_of_not-le}

@@ -1,4 +1,8 @@
 -- Numbers that rise strictly: each stands at most once, and two such lists with the same numbers are the same.
+--
+-- What follows a number is above it, so it does not come again. Two lists go by induction side by side. Were their
+-- heads not the same, the lesser one would be missing from the other list; with equal heads, the rests have the same
+-- numbers.
 use Rattle.std.proofs.Common.{◌≡◌, ℕ, ◌+◌, ◌<◌, ◌≤◌, inl, inr, Bool, true, false, cond, arith, List, [], ◌∷◌, refl, ap, ap₂, ◌∙◌}
 use Rattle.std.proofs.lemmas.Bool.{cases_Bool, cases_eq, cases_order}
 use Rattle.std.proofs.lemmas.List.Sums.{sum_by-cons}

@@ -1,4 +1,8 @@
 -- Rising numbers below n are at most n, so a rising route costs at most what n activities do.
+--
+-- Behind a number `x` each is above the one before it, so `x` and the length of what follows stay below n. With duals
+-- in the box a reduced cost lies within 2^61 of 0: a cost table asks that n ends of the box and the greatest cost, in
+-- thousandths, come to no more.
 use Rattle.std.proofs.Common.{◌≡◌, ℕ, ℤ, pos, suc, ◌+◌, ◌*◌, ◌^◌, ◌+ℤ◌, ◌-ℤ◌, ◌≤ℤ◌, ◌<◌, ◌≤◌, arith, List, [], ◌∷◌, length, map}
 use Rattle.std.proofs.lemmas.Int.{ints}
 use Rattle.std.proofs.lemmas.List.Elements.{All-head, All-tail, All-cons}

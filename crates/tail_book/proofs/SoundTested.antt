@@ -1,4 +1,8 @@
--- The tests of books and cost tables decide their facts.
+-- The tests of books and cost tables decide their facts: each joins the tests of the fact's parts.
+--
+-- Two need more than that. That names differ, and that activities are in order, is tested of each element beside the
+-- later ones, by induction on the list. A limit of days is a whole number of days as a fact, and in the test a number
+-- of minutes with no rest when divided by 1,440.
 use Rattle.std.proofs.Common.{◌≡◌, ◌≤◌, ◌<◌, ◌+◌, ◌*◌, ◌/◌, ◌%◌, ◌^◌, ℕ, ℤ, pos, negsuc, Bool, true, arith, ap, List, [], ◌∷◌, refl, length, suc}
 use Rattle.std.proofs.Math.Nat.{mul-mod_left}
 use Rattle.std.proofs.lemmas.Int.{ints}

@@ -1,4 +1,9 @@
--- Sums of whole numbers over lists and below a number, and what a partition makes of them.
+-- Sums of whole numbers over lists and below a number: over a partition of the numbers below n they are the sum below
+-- n.
+--
+-- A sum over any list of numbers below n counts each number as often as it stands there. This goes by induction on the
+-- list, since a number more at its front changes the sum below n at that number alone. In a partition each stands once;
+-- its length is its sum of ones.
 use Rattle.std.proofs.Common.{◌≡◌, ◌≢◌, ℕ, zero, suc, ℤ, pos, ◌+◌, ◌+ℤ◌, ◌<◌, Bool, true, false, cond, arith, List, [], ◌∷◌, ◌++◌, map, length, get_or, sym, refl, ap, ◌∙◌}
 use Rattle.std.proofs.lemmas.Int.{ints}
 use Rattle.std.proofs.lemmas.Bool.{eq-eqb, ne_eqb, both_ways}

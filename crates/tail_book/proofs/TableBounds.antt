@@ -1,4 +1,7 @@
 -- What a legal plan costs by a table at most: for each activity the most that an entry and a band cost.
+--
+-- An entry that is looked up keeps the table's maximum, and so does a band; where there is none, the cost is 0. Routes
+-- and plans go by induction, and a legal plan flies as many activities as the table has.
 use Rattle.std.proofs.Common.{◌≡◌, ℕ, ℤ, suc, ◌+◌, ◌*◌, ◌≤◌, arith, List, [], ◌∷◌, length}
 use Rattle.std.proofs.lemmas.List.{length-append}
 use Rattle.std.specs.Prelude.{All}

@@ -1,4 +1,9 @@
--- The book's own costs: the entry of aircraft k and activity a stands behind k rows, and so each cost by the table is the book's.
+-- The book's own costs: the entry of aircraft k and activity a stands behind k rows, and so each cost by the table is
+-- the book's. The entry goes by induction on the rows, all of one length, and routes and plans by induction on their
+-- lists.
+--
+-- That it is a cost table comes from the book's limits: no entry and no band passes its maximum, and with at most 4,000
+-- activities at two million each the sums of duals and costs stay within 2^61.
 use Rattle.std.proofs.Common.{◌≡◌, ℕ, zero, suc, ◌+◌, ◌*◌, ◌^◌, ◌<◌, ◌≤◌, arith, List, [], ◌∷◌, ◌++◌, length, sym, refl, ap, ap₂, ◌∙◌, subst, get_or}
 use Rattle.std.proofs.Math.Nat.{mul-le-mul}
 use Rattle.std.proofs.lemmas.List.{append-nil, append_assoc, get_or_append_left, get_or-append-add, length-append}

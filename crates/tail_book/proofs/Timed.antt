@@ -1,4 +1,7 @@
 -- What rising needs of a book: activities in order of their starts, each of at least a minute, and no turn below 0.
+--
+-- A book's order is by start first and by id only where starts are equal, so a larger number starts no earlier. The
+-- others are ranges that a book keeps, and the turn of a look-up past the end is not below 0 either.
 use Rattle.std.proofs.Common.{◌≡◌, ℕ, zero, suc, ℤ, pos, ◌+ℤ◌, ◌≤ℤ◌, ◌<◌, ◌≤◌, inl, inr, true, arith, List, [], ◌∷◌, subst, get_or}
 use Rattle.std.proofs.lemmas.Int.{ints}
 use Rattle.std.proofs.lemmas.Bool.{and_parts, cases_order, or_cases}

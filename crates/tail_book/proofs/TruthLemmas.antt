@@ -1,4 +1,7 @@
 -- Where two ways to cost agree on every legal plan, they make the same claims and answers true.
+--
+-- Claims and answers speak only of what legal plans cost, so each part is carried over by itself. The book's own costs
+-- and those of its table agree so.
 use Rattle.std.specs.Prelude.{◌↔◌}
 use Rattle.std.proofs.Common.{◌≡◌, ℕ, ◌≤◌, List, None, Some, ◌∙◌, sym, subst}
 use Rattle.tail_book.specs.Seen.{BookSeen}

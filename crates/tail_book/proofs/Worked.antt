@@ -1,4 +1,7 @@
 -- Worked books: the definitions computed on books whose answers are known from outside.
+--
+-- Turns, stops, limits and curfews stand at the minute where the answer changes and beside it; costs, bands, landings,
+-- days since a check and preassigned flights are worked on a book of a few activities each.
 use Rattle.std.proofs.Common.{◌≡◌, ℕ, ℤ, pos, ◌+◌, ◌+ℤ◌, true, false, List, [], ◌∷◌, Option, Some, None, refl}
 use Rattle.std.specs.Prelude.{codes}
 use Rattle.tail_book.specs.Seen.{ActivitySeen, TailSeen, CurfewSeen, CounterSeen, RulesSeen, BookSeen}

@@ -1,4 +1,7 @@
 -- Worked lists: the definitions over routes, fliers, sums and counters that need no book.
+--
+-- The rows show values that are at most others and values that are not, a sum with a negative, an activity that is
+-- flown twice and one that nobody flies, and a plan with its fliers, each from the other.
 use Rattle.std.proofs.Common.{◌≡◌, ℕ, pos, negsuc, ◌*◌, true, false, List, [], ◌∷◌, Some, None, refl}
 use Rattle.tail_book.specs.declared.flown.Flown.TheVariants.{Never, Once, More}
 use Rattle.tail_book.specs.inside.Order.{each_at_most}

@@ -2,7 +2,8 @@
 //!
 //! A search is asked for any such table, of which the book's own costs are one. The two maxima bound what a legal plan
 //! costs, and so the box of duals; `IsCostTable` asks that sums of costs and duals in thousandths stay below 2^61, so that
-//! they fit 64 bits wherever they are taken. A cost is one read, and a connection's a walk over at most eight bands.
+//! they fit 64 bits wherever they are taken. A cost is one read, and a connection's a walk over the table's bands, of
+//! which the book's own has at most eight.
 
 ghost use Rattle.std.specs.Prelude.{◌≡◌, ◌↔◌, ◌<◌, ◌≤◌, ◌+◌, ◌*◌, ◌^◌, ◌++◌, ℕ, All, IfOk, IfSome, IsSome, length, pos, unsigned_abs, nat_le};
 ghost use Rattle.std.specs.List.{list_all};
@@ -77,7 +78,7 @@ impl CostTable {
         }
     }
 
-    /// The book's own costs, with the greatest cost of an entry and of a band as maxima.
+    /// The book's own costs. The maxima are those of every book, `ENTRY_LIMIT` and `BAND_COST_LIMIT`.
     pub fn of(alloc: Global, book: &Book) -> Result<CostTable, Memory>
         ensures { IfOk result (λ table. table ≡ costs_of book.now) }
     {
@@ -171,7 +172,7 @@ impl CostTable {
     }
 }
 
-/// The cost of the first band, in the table's order, that reaches so many minutes, and 0 where none does.
+/// The cost of the first band in the table's order that reaches so many minutes, and 0 where none does; in cost units.
 pub fn band_cost(bands: &[Band], minutes: i64) -> u64
     ensures value { result ≡ band_cost bands.now minutes }
     ensures most { (most : ℕ) → All (λ band. band.cost ≤ most) bands.now → result ≤ most }

@@ -1,4 +1,7 @@
 //! Laws over the definitions alone: the contract of each function is the law.
+//!
+//! A crate above calls one where its proof needs the law. A call computes nothing: the bodies are empty, or look at one
+//! field.
 
 ghost use Rattle.tail_book.specs.inside.Rising.{LinksRise, LegalRoutesRise, EachIsFlownOnce};
 ghost use Rattle.tail_book.specs.inside.Bounds.{ActivitiesCostAtMost, ConnectionsCostAtMost, LegalPlansCostAtMost};

@@ -4,6 +4,7 @@ use crate::Plan;
 
 /// What a planner answers of a book: a plan of least cost, that no plan is legal, or, where it stopped at a limit
 /// of nodes, a bound that every legal plan costs at least, with the best plan found if there is one.
+/// Costs and bounds are in cost units.
 #[derive(Debug, Drop)]
 pub enum Outcome {
     /// A plan of least cost, and its cost.

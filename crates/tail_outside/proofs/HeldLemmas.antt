@@ -1,5 +1,9 @@
 -- What stands under a name, where a file is written or added.
--- The first of the name is at the place that `position` gives, and a write there keeps its name.
+--
+-- The first of the name is at the place that `position` gives, and a write there keeps its name. So what was written is
+-- found under that name; under any other, the file that changed was not the one that is found, and is not after it. A
+-- file is added only where none has its name, and behind all others, so it is found under its own name and hides no
+-- other.
 use Rattle.std.proofs.Common.{◌≡◌, ◌≢◌, ◌∙◌, ◌<◌, ◌≤◌, ℕ, Bool, true, false, List, [], ◌∷◌, ◌++◌, Option, Some, None, length, cond, get_or, option_map, position, find, refl, sym, ap, arith}
 use Rattle.std.proofs.Math.ListN.{set}
 use Rattle.std.proofs.lemmas.Bool.Decides.{nat_tests}

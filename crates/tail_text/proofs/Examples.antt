@@ -1,4 +1,7 @@
 -- The definitions of the readers, at the texts that a reader tries first.
+--
+-- The rows show the greatest number that is allowed and one more, a zero in front, the last minute of a day, 29
+-- February of 2000 and of 2100, and the first and the last moment.
 use Rattle.std.proofs.Common.{◌≡◌, pos, Ok, Err, refl}
 use Rattle.std.specs.Prelude.{codes}
 use Rattle.jiff_core.specs.Calendar.{days_from_civil, day_count, days_of_years, days_of_months}

@@ -1,4 +1,7 @@
--- How the value of digits grows from one to the next.
+-- How the value of digits grows from one to the next: a digit more takes it ten times and adds itself.
+--
+-- So more digits make no smaller number, and a reader may stop at the first digit that passes the greatest number
+-- allowed: whatever follows, the text is refused.
 use Rattle.std.proofs.Common.{◌≡◌, ℕ, ◌+◌, ◌*◌, ◌-◌, ◌≤◌, ◌<◌, true, false, List, [], ◌∷◌, length, drop, slice_index, nat_le, Err, refl, arith}
 use Rattle.std.proofs.lemmas.Bool.Decides.{nat_tests}
 use Rattle.std.proofs.lemmas.List.{drop_more}

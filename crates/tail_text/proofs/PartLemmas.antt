@@ -1,4 +1,8 @@
 -- The parts of a text: the first one ends at the first byte of the value that separates them.
+--
+-- What is behind that byte has the other parts, and a text without such a byte is one part. So whoever cuts one part
+-- off and keeps what is behind it has the others still to take. Every text has a part, so none is left only where the
+-- last was taken.
 use Rattle.std.proofs.Common.{◌≡◌, ℕ, ◌+◌, ◌-◌, ◌<◌, ◌≤◌, Bool, true, false, cond, List, [], ◌∷◌, Option, Some, None, length, length-drop, take, drop, refl, arith, nat_lt, ◌==◌}
 use Rattle.std.proofs.lemmas.Bool.Decides.{nat_tests}
 use Rattle.std.proofs.lemmas.List.{take_all}

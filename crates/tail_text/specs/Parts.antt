@@ -1,4 +1,4 @@
--- The parts of a text between bytes of one value.
+-- The parts of a text between bytes of one value: an empty text is one part, which is empty.
 use Rattle.std.specs.Prelude.{ℕ, List, ◌==◌}
 use Rattle.std.specs.List.{slice_split}
 

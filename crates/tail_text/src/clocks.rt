@@ -1,4 +1,5 @@
-//! Times of day, `HH:MM`, as minutes since midnight.
+//! Times of day, `HH:MM`, as minutes since midnight. Each has one spelling, since its two parts have fixed places and
+//! widths; the shape is tested before the two numbers are read.
 
 ghost use Rattle.std.specs.Prelude.{◌≡◌, ◌+◌, ◌<◌, ◌≤◌, length, pos, IfOk, IfSome};
 ghost use Rattle.jiff_core.specs.Calendar.{IsBetween};

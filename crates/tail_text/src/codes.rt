@@ -1,4 +1,5 @@
-//! The codes of refusals: what is wrong with a table, or with a plan's file.
+//! The codes of refusals: what is wrong with a table, or with a plan's file. Each code stands here once, for all
+//! readers; `docs/FORMATS.md` tells the author of a table what it means where.
 
 /// More bytes than a text may have.
 pub const TOO_BIG: u8 = 1;

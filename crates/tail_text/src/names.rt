@@ -1,4 +1,5 @@
-//! Names as the tables write them.
+//! Names as the tables write them. A text is tested byte by byte and then copied into the name, so nothing is
+//! allocated.
 
 ghost use Rattle.std.specs.Prelude.{◌≡◌};
 ghost use Rattle.std.specs.List.{list_all};

@@ -1,4 +1,5 @@
-//! Numbers of two digits at a place of a text.
+//! Numbers of two digits at a place of a text, of which clocks and stamps are made. Whether they are digits is asked
+//! first, so that reading them cannot fail.
 
 ghost use Rattle.std.specs.Prelude.{◌≡◌, ◌+◌, ◌<◌, length, true};
 ghost use Rattle.tail_text.specs.Pair.{pair_at, are_digits_at};

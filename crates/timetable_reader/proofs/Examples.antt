@@ -1,4 +1,7 @@
 -- What records of a timetable say, computed by the definitions.
+--
+-- The rows show the longest span and a minute more, and that of two faults the one further left decides, before what is
+-- wrong with the record as a whole.
 use Rattle.std.proofs.Common.{◌≡◌, List, ℕ, pos, true, [], ◌∷◌, Ok, Err, None, refl}
 use Rattle.std.specs.Prelude.{codes}
 use Rattle.jiff_core.specs.Calendar.{days_from_civil, day_count, days_of_years, days_of_months}

@@ -1,4 +1,7 @@
 -- The names in a trial's tables are all found, and so the three texts are a book.
+--
+-- Airports and types are few, so each is looked up by cases. The ids of flights and the names of aircraft are new one
+-- after the other, so no entry is refused as a second one. Flights and aircraft go by induction on their lists.
 use Rattle.std.proofs.Common.{◌≡◌, ◌+◌, ◌%◌, ◌<◌, ◌==◌, ℕ, zero, suc, Bool, true, false, if◌then◌else◌, List, [], ◌∷◌, ◌++◌, Some, Ok, map, All, arith, refl}
 use Rattle.std.specs.Prelude.{codes}
 use Rattle.std.proofs.lemmas.List.Elements.{All-head, All-tail}

@@ -1,4 +1,5 @@
--- The first lines of the first seeds, computed by the definitions.
+-- The first lines of the first seeds, computed by the definitions: the texts that seeds 0 and 1 begin with, byte by
+-- byte.
 use Rattle.std.proofs.Common.{◌≡◌, take, refl}
 use Rattle.std.specs.Prelude.{codes}
 use Rattle.trial_tables.specs.Draws.{after, drawn, next}

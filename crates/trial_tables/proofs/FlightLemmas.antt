@@ -1,4 +1,8 @@
 -- Flights, and the lines that tell them, one more at a time.
+--
+-- A text so far with the lines of what is still to come is the whole text. With one flight's line, one aircraft's
+-- flights or one line of the fleet added, the same holds of those behind it. A flight moves the state on by three
+-- draws.
 use Rattle.std.proofs.Common.{◌≡◌, ◌∙◌, ◌+◌, ◌++◌, ◌∷◌, ℕ, suc, List, map, append_assoc, [], refl, sym, ap}
 use Rattle.std.proofs.lemmas.List.{append-nil}
 use Rattle.trial_tables.specs.declared.flight.Flight.{Flight}

@@ -1,4 +1,7 @@
 -- Lines of records are read back as these records: no field has a byte that CSV sets apart.
+--
+-- So each field is written as it stands, a line is what CSV writes of its record, and reading gives the record again.
+-- Records go by induction, with more turns of the reader than there are lines.
 use Rattle.std.proofs.Common.{◌≡◌, ◌<◌, ℕ, zero, suc, Bool, true, false, ◌&&◌, List, [], ◌∷◌, ◌++◌, Some, length, append_assoc, arith, refl, sym, ap}
 use Rattle.std.specs.List.{list_any, list_all}
 use Rattle.std.proofs.lemmas.Bool.Decides.{nat_tests}

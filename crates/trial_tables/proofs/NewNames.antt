@@ -1,4 +1,7 @@
--- Names that are new one after the other differ, and each stands at one place.
+-- Names that are new one after the other differ.
+--
+-- A name that is new after others is none of them, so by induction no name behind the first is the first. That the ids
+-- of a trial's flights are such names is computed from all of them.
 use Rattle.std.proofs.Common.{◌≡◌, ◌≢◌, ◌∙◌, ◌<◌, ℕ, zero, suc, Bool, true, false, not, ◌||◌, List, [], ◌∷◌, ◌++◌, length, get_or, AllPairs, arith, refl, sym}
 use Rattle.std.specs.List.{list_any}
 use Rattle.std.specs.Str.{bytes_eq}

@@ -1,4 +1,8 @@
 -- Activities by their ids, in any order: each has one place, and all places are taken once.
+--
+-- Ids differ, so the first that equals an activity's own is its own. In their own order the activities have the places
+-- from 0 on, each once. Another order of the same activities has the same places in another order, and a count does not
+-- see the order.
 use Rattle.std.proofs.Common.{◌≡◌, ◌≢◌, ◌∙◌, ◌+◌, ◌<◌, ◌≤◌, inl, inr, ℕ, zero, suc, Bool, true, false, cond, List, [], ◌∷◌, map, length, get_or, AllPairs, Contains, IsPermutation, nat_eq, nat_lt, count_by, arith, refl, sym, ap, subst}
 use Rattle.std.specs.List.{position, position_or_len, range_with_len}
 use Rattle.std.specs.Option.{unwrap_or}

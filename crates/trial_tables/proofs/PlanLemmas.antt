@@ -1,4 +1,9 @@
 -- What each aircraft was made to fly is a legal route, all of them a plan, and they cost what the making says.
+--
+-- A book puts activities in order, so a flight is found by its id, whatever the order is; then each activity is flown
+-- once (`PlaceLemmas`). Route `k` is made from the state behind the draws of `k` aircraft, and `RouteLemmas` has its
+-- legality and cost. What every legal plan pays at least is the same sum over the book, so none costs less
+-- (`LeastLemmas`).
 use Rattle.std.proofs.Common.{◌≡◌, ◌≢◌, ◌∙◌, ◌+◌, ◌<◌, ◌≤◌, ℕ, zero, suc, ℤ, pos, List, [], ◌∷◌, ◌++◌, map, length, get_or, All, AllPairs, Contains, IsPermutation, slice_index_or, sum_by, arith, refl, sym, ap, subst}
 use Rattle.std.specs.List.{flat_map}
 use Rattle.std.proofs.lemmas.List.{get_or-map, length-map, map-append}

@@ -1,4 +1,8 @@
 -- The timetable and the fleet of a trial are read as they are written.
+--
+-- Each field is plain and each line is short, so `TableLemmas` gives the records back. Then each field is read by its
+-- own reader: names have digits in their places, moments are those of `StampLemmas`, and a flight takes from 1 to 179
+-- minutes.
 use Rattle.std.proofs.Common.{◌≡◌, ◌+◌, ◌-◌, ◌/◌, ◌%◌, ◌<◌, ◌≤◌, ◌==◌, ◌&&◌, ℕ, suc, pos, Bool, true, false, if◌then◌else◌, List, [], ◌∷◌, ◌++◌, Ok, map, length, All, nat_le, nat_lt, arith, refl, ap}
 use Rattle.std.specs.Prelude.{codes}
 use Rattle.std.specs.List.{list_all}

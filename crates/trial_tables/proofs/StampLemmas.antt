@@ -1,4 +1,7 @@
 -- The moments of a trial are read back as they are written.
+--
+-- Two digits give back a number below 100, and the first five days, from 3 March 2025 on, are computed one by one. So
+-- day, hour and minute come back, and together they are the minute.
 use Rattle.std.proofs.Common.{◌≡◌, ◌∙◌, ◌+◌, ◌*◌, ◌-◌, ◌/◌, ◌%◌, ◌<◌, ℕ, zero, suc, pos, true, [], ◌∷◌, ◌++◌, Some, Ok, arith, refl, ap, nat_le}
 use Rattle.std.specs.Prelude.{codes}
 use Rattle.std.specs.Char.{is_ascii_digit}

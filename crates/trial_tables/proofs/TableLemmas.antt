@@ -1,4 +1,7 @@
 -- A table that is written line by line is read back, record by record.
+--
+-- It passes what is asked of a whole table: plain bytes are below 128, and so UTF-8, and at most 1,001 lines of at most
+-- 100 bytes are no text too big. Its records are those of `LineLemmas`, and their values go by induction on them.
 use Rattle.std.proofs.Common.{◌≡◌, ◌+◌, ◌*◌, ◌-◌, ◌<◌, ◌≤◌, ℕ, Bool, true, ◌==◌, List, [], ◌∷◌, ◌++◌, Result, Ok, map, length, All, length-append, arith, refl, nat_le, nat_lt}
 use Rattle.std.specs.List.{list_all}
 use Rattle.std.specs.Str.{is_utf8}

@@ -1,4 +1,5 @@
--- A trial is a book with a legal plan of least cost.
+-- A trial is a book with a legal plan of least cost: its texts are read as that book, what was made is a legal plan of
+-- it, and no legal plan costs less. Each of the three is shown in a file of its own.
 use Rattle.std.proofs.Common.{ℕ}
 use Rattle.trial_tables.specs.Making.{HasBook}
 use Rattle.trial_tables.specs.Trial.{trial_of}

@@ -1,4 +1,4 @@
--- The three texts of a trial.
+-- The three texts of a trial: the seed makes the timetable and the fleet, and the rules are the same for all.
 use Rattle.std.specs.Prelude.{ℕ, ◌+◌, List, [], ◌∷◌, ◌++◌, codes, map}
 use Rattle.trial_tables.specs.Flights.{all_flights, first_airports}
 use Rattle.trial_tables.specs.Rows.{aircraft_fields, flight_fields, lines_of}

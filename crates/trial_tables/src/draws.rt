@@ -1,4 +1,6 @@
 //! Numbers that look like chance, the same ones for the same seed.
+//!
+//! A step multiplies and adds in 64 bits. A draw takes the upper 31 bits alone, since the low ones repeat soon.
 
 ghost use Rattle.std.specs.Prelude.{◌≡◌, ◌<◌};
 ghost use Rattle.trial_tables.specs.Draws.{drawn, next};

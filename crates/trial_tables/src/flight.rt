@@ -1,4 +1,5 @@
-//! One flight of a trial.
+//! One flight of a trial, made of three draws: the stop before it, the minutes aloft, and which other airport it goes
+//! to. Stops before flights 5 and 10 are ten hours longer, so that they clear the minutes flown.
 
 ghost use Rattle.std.specs.Prelude.{◌≡◌, ◌<◌, ◌≤◌, ◌+◌};
 ghost use Rattle.trial_tables.specs.Draws.{next};

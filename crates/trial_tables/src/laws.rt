@@ -1,4 +1,4 @@
-//! Laws over the definitions alone: the contract of each function is the law.
+//! Laws over the definitions alone: the contract of each function is the law. A call computes nothing.
 
 ghost use Rattle.trial_tables.specs.Making.{HasBook};
 ghost use Rattle.trial_tables.specs.Trial.{trial_of};

@@ -1,4 +1,5 @@
-//! The lines of a trial's timetable and fleet.
+//! The lines of a trial's timetable and fleet. Names and moments have their digits at fixed places and no field needs
+//! quotes, so a line is written from left to right at the end of the text.
 
 ghost use Rattle.std.specs.Prelude.{◌≡◌, ◌++◌, ◌+◌, ◌%◌, codes, OnOk};
 ghost use Rattle.trial_tables.specs.Rows.{aircraft_fields, airport_name, digit, flight_fields, flight_id, line_of, stamp_text, type_name, types_field};

@@ -1,4 +1,5 @@
-//! Files in memory, and words, of pieces of text.
+//! Files in memory, and words, of pieces of text. A table is given as pieces that are put together, so a test writes
+//! what is its own and takes the usual ones for the rest.
 
 use crate::tables::{FLEET, RULES, TIMETABLE};
 use std::alloc::Global;

@@ -1,4 +1,5 @@
-//! What is seen of a run.
+//! What is seen of a run: its status, and the bytes that its sink took. A test compares them whole, or looks for one
+//! piece.
 
 use std::alloc::Global;
 use std::test::Fail;

@@ -1,4 +1,8 @@
--- Sets as the bits of a word: what a bit says after a number is added, or two sets are joined.
+-- Sets as the bits of a word: with a number `k` added, bit `i` says what it said or that `i` is `k`, and of two sets
+-- joined it says what either said.
+--
+-- A joined bit is the greater of two bits, which is four cases. An added number is a join with the word of that bit
+-- alone.
 use Rattle.std.proofs.Common.{◌≡◌, ◌∙◌, ℕ, zero, suc, ◌*◌, ◌%◌, ◌^◌, ◌<◌, arith, ap, Bool, true, false, refl, sym, w32, ⊎_elim}
 use Rattle.std.specs.Prelude.{◌||◌, nat_eq, bit_or, max}
 use Rattle.std.specs.Int.{bit_at}

@@ -1,4 +1,7 @@
--- A table of rows of one length: where an entry stands.
+-- A table of rows of one length n: the entry `a` of row `k` stands at `k * n + a`, behind k rows.
+--
+-- By induction on the rows: the entry is in the first one, or that is passed with its n elements. So the table of
+-- permissions has there whether aircraft `k` may fly activity `a`.
 use Rattle.std.proofs.Common.{◌≡◌, ℕ, zero, suc, ◌+◌, ◌*◌, ◌<◌, ◌∙◌, arith, List, ◌++◌, length, sym, ap, get_or}
 use Rattle.std.proofs.lemmas.List.{append-nil, append_assoc, get_or_append_left, get_or-append-add, length-append}
 use Rattle.std.proofs.lemmas.List.FromFn.{length-map-range_with_len, get_or-map-range_with_len}

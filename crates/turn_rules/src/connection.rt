@@ -30,7 +30,7 @@ pub fn port(book: &Book, k: u32, from: Place) -> u32
     }
 }
 
-/// The minute from which an aircraft is free at its place.
+/// The moment from which an aircraft is free at its place, in minutes since 1970-01-01T00:00 UTC.
 pub fn free_from(book: &Book, k: u32, from: Place) -> i64
     requires aircraft { k < aircraft book.now }
     requires place { IsPlaceOf book.now from }
@@ -132,7 +132,8 @@ fn is_there(book: &Book, k: u32, from: Place, b: u32) -> bool
     port(book, k, from) == book.activities[b as usize].from
 }
 
-/// The earliest minute at which an activity may start after a place: the turn is over then.
+/// The earliest moment at which an activity may start after a place, in minutes since 1970-01-01T00:00 UTC: the turn is
+/// over then.
 pub fn earliest_start(book: &Book, k: u32, from: Place, b: u32) -> i64
     requires aircraft { k < aircraft book.now }
     requires place { IsPlaceOf book.now from }

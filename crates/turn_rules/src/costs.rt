@@ -1,4 +1,5 @@
-//! What connections cost by bands: the book's own, or those of a table.
+//! What connections cost by bands: the book's own, or those of a table. The minutes on the ground decide, by the first
+//! band that reaches them, so a cost is a walk over the bands.
 
 ghost use Rattle.std.specs.Prelude.{◌≡◌, ◌<◌, ◌≤◌, ℕ, All};
 ghost use Rattle.tail_book.specs.Cost.{connection_cost};

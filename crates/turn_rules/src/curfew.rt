@@ -12,7 +12,7 @@ ghost use Rattle.tail_book.specs.Curfew.{local_minute, in_window, covers_type, f
 use tail_book::limits::DAY;
 use tail_book::{Book, Curfew};
 
-/// The minute of the airport's local day.
+/// The minute of the airport's local day, 0 to 1439, at a moment in minutes since 1970-01-01T00:00 UTC.
 pub fn local_minute(book: &Book, port: u32, moment: i64) -> i64
     requires port { port < length book.now.rules.airports }
     requires moment { IsMoment moment }

@@ -1,4 +1,4 @@
--- How large the values of counters are.
+-- How large the values of counters are: within their limits, as large as can be counted on, and after a step.
 use Rattle.std.specs.Prelude.{ℕ, ℤ, pos, ◌+◌, ◌^◌, List, All}
 use Rattle.tail_book.specs.declared.limits.TheConstants.{COUNT_LIMIT}
 use Rattle.tail_book.specs.inside.Sound.{IsWithin}

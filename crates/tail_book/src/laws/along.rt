@@ -1,4 +1,5 @@
-//! Laws of legality by the counters after the first activities of a route.
+//! Laws of legality by the counters after the first activities of a route: legal is linked, and within the limits after
+//! each of them. So links and limits can be told apart, activity by activity.
 
 ghost use Rattle.tail_book.specs.inside.Along.{CountersAlongStep, LegalIsLegalAlong};
 

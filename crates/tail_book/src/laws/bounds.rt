@@ -1,4 +1,5 @@
-//! Laws of what routes cost at most.
+//! Laws of what routes cost at most. None asks for a legal route: numbers that rise, or that are of the book, are
+//! enough. With duals in the box every reduced cost lies within 2^61 of 0, and so fits 64 bits.
 
 ghost use Rattle.tail_book.specs.inside.RouteBounds.{RisingRoutesAreShort, RisingRoutesAreBelow, RoutesCostAtMost, RisingRoutesCostAtMost, RoutesCostAtMostIn, RisingRoutesCostAtMostIn, ReducedCostsAreSmall};
 

@@ -1,4 +1,5 @@
-//! Laws of a plan as an assignment of aircraft to activities.
+//! Laws of a plan as an assignment of aircraft to activities. Each legal plan is that of its fliers, so whoever goes
+//! through all assignments misses none.
 
 ghost use Rattle.tail_book.specs.inside.Fliers.{RoutesByFliersRise, PlansByFliersPartition, FliersOfTheirPlan, PlansByFliersAreLegal, FliersFly, PlansOfTheirFliers};
 

@@ -1,4 +1,5 @@
-//! Laws of how often routes fly an activity.
+//! Laws of how often routes fly an activity: what never, once and more say of the routes that have it, and that the
+//! least activity that is not flown exactly once can be found.
 
 ghost use Rattle.tail_book.specs.inside.Flown.{FlownIsCount, FlownWithOneMore, TimesWithOneMoreRoute, FlownOnceDecides, NeverFlownIsNowhere, FlownOnceIsInOneRoute, LeastNotOnceIsLeast};
 

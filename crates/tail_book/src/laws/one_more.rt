@@ -1,4 +1,5 @@
-//! Laws of a route with one activity more at its end.
+//! Laws of a route with one activity more at its end. The definitions go from the front and a search adds at the end,
+//! so it takes from here what one step changes.
 
 ghost use Rattle.tail_book.specs.inside.OneMore.{LegalWithOneMore, CountersWithOneMore, PlaceWithOneMore, CostWithOneMore, CostWithOneMoreIn, RisingWithOneMore};
 

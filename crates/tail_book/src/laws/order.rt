@@ -1,4 +1,5 @@
-//! Laws of the order of counter values.
+//! Laws of the order of counter values: no higher before a step is no higher after it, and what is legal with some
+//! values is legal with lower ones.
 
 ghost use Rattle.tail_book.specs.inside.Order.{EachAtMostDecides, EachAtMostItself, EachAtMostChains, StepsKeepOrder, RoutesKeepOrder, LowerStaysWithin, LowerStaysLegal, StepsKeepCount, RoutesKeepCount};
 

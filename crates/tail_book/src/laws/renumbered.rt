@@ -1,4 +1,5 @@
-//! Laws of the same activities under other numbers.
+//! Laws of the same activities under other numbers: in two books with the same aircraft and rules, a route is worth
+//! what the records of its activities say, and not their numbers.
 
 ghost use Rattle.tail_book.specs.inside.Renumbered.{RenumberedRoutesAreLegal, RenumberedRoutesCount, RenumberedRoutesCost};
 

@@ -1,4 +1,5 @@
-//! Laws of sums: over lists, over partitions, and over the routes of a legal plan.
+//! Laws of sums: over lists, over partitions, and over the routes of a legal plan. A legal plan has each activity once,
+//! so its sum of any number for each activity, as of the duals, is the sum over the book.
 
 ghost use Rattle.tail_book.specs.inside.Sums.{TotalOfTwoLists, TotalByNumber, TotalOfPartition, LengthOfPartition};
 ghost use Rattle.tail_book.specs.inside.Partition.{LegalPlansPartition, LegalPlansFlyTheBook, LegalPlansFlyAll, TotalOfRoutes, TotalOfLegalPlan};

@@ -1,4 +1,4 @@
--- The answer of a reader, for which memory may be wanting.
+-- The answer of a reader, for which memory may be wanting: the one that the definition gives, or want of memory.
 use Rattle.std.specs.Prelude.{◌≡◌, ⊤, Result, Ok, Err}
 use Rattle.tail_text.specs.declared.refusal.Refusal.{Refusal}
 use Rattle.tail_text.specs.declared.refusal.Stopped.{Stopped}

@@ -1,4 +1,4 @@
--- The line of a flight in two halves.
+-- The line of a flight in two halves, as the program adds them.
 use Rattle.std.specs.Prelude.{ℕ, List, ◌++◌, codes}
 use Rattle.trial_tables.specs.declared.flight.Flight.{Flight}
 use Rattle.trial_tables.specs.Rows.{airport_name, flight_id, stamp_text, types_field}

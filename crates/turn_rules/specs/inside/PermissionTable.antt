@@ -1,4 +1,4 @@
--- Who may fly what, as a table.
+-- Who may fly what, as a table: a row for each aircraft, one behind the other.
 use Rattle.std.specs.Prelude.{ℕ, ◌+◌, ◌*◌, ◌<◌, ◌≡◌, List, Bool, false, length, map, slice_index_or}
 use Rattle.std.specs.List.{range_with_len}
 use Rattle.tail_book.specs.Seen.{BookSeen}
