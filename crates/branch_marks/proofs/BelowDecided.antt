@@ -1,4 +1,6 @@
--- Tests over the numbers below a number decide their definitions.
+-- A test of each number below n is an `and` over these numbers, and one for some number below n is an `or`. So where
+-- each number's test decides what is said of it, the whole decides what is said of all of them, or of one: by induction
+-- on n.
 use Rattle.std.proofs.Common.{ℕ, ◌<◌, Bool, refl}
 use Rattle.std.specs.Bool.{Decides}
 use Rattle.std.proofs.lemmas.Bool.Decides.{Decides-below_and, Decides-below_or}

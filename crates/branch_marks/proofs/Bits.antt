@@ -1,4 +1,7 @@
--- Bits of a number in a list of words of 64: what a word's change does to each of them, and where the lowest one stands.
+-- Bits of a number in a list of words of 64: bit p is bit p % 64 of word p / 64, and no other number has both. So a
+-- word that changes in one bit changes one number's. The next bit from a place on is sought word by word: a word is
+-- moved down to the place, and where it is 0 none of its bits is set from there on; else its lowest bit is the next
+-- one, and all before it are 0.
 use Rattle.std.proofs.Common.{◌≡◌, ◌≢◌, ◌∙◌, ℕ, ◌+◌, ◌-◌, ◌*◌, ◌/◌, ◌%◌, ◌^◌, ◌<◌, ◌≤◌, arith, ap, Bool, true, false, sym, List, length, get_or, w64, ⊎_elim}
 use Rattle.std.proofs.Math.ListN.{set}
 use Rattle.std.specs.Prelude.{◌||◌, ◌&&◌, not, nat_eq}

@@ -1,4 +1,7 @@
--- Tests and their definitions: how a test of a part decides a definition of the whole.
+-- How a test of a whole is put together from tests of its parts. Where each part's test decides what is said of the
+-- part, an `and` over a list decides that it holds of all, and an `or` that it holds of one; `not x || y` decides that
+-- the one brings the other, by the two values of x; and a test of each pair decides it of all pairs, by induction: the
+-- first element beside all others, and then these among themselves.
 use Rattle.std.specs.Prelude.{⊤, not, nat_le, int_lt, ◌&&◌, ◌||◌, All, Any, AllPairs}
 use Rattle.std.proofs.Common.{◌≡◌, ℕ, ℤ, ◌≤ℤ◌, ◌≤◌, Bool, true, false, arith, List, refl, suc, [], ◌∷◌}
 use lib.Signed.{◌<ℤ◌}

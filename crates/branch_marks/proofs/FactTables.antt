@@ -1,4 +1,7 @@
--- Tables that say what facts say still do when they note one fact more.
+-- Tables that say what facts say still do when they note one fact more. What all facts let, or some fact says, is an
+-- `and` or an `or` over their list, so the new fact at its end is one operand more: the entry it had, joined with what
+-- the new fact says there. What facts name is kept from the left, and the last one is noted upon the rest. Tables of no
+-- facts say what the rules alone say. And a fact is of the book exactly where its numbers are within the tables' own.
 use Rattle.std.proofs.Common.{◌≡◌, ◌∙◌, ℕ, arith, ap, Bool, true, false, refl, sym, List, [], ◌∷◌, ◌++◌, length, get_or, Option}
 use Rattle.std.specs.Prelude.{◌||◌, ◌&&◌}
 use Rattle.std.specs.List.{list_all, list_any}

@@ -1,4 +1,6 @@
--- Whether marks have a fact is decided by its test.
+-- Whether marks have a fact is decided by its test. Two facts are the same where they are of one kind and both numbers
+-- are equal, which is decided kind by kind; marks have a fact where the test of sameness holds for some fact of their
+-- list.
 use Rattle.std.proofs.Common.{◌≡◌, ℕ, true, false, List, refl, sym, get_or, subst}
 use Rattle.std.proofs.lemmas.Bool.{eqb-true, eq-eqb, and_from, and_parts, both_ways}
 use Rattle.std.proofs.lemmas.List.Folds.{Any-from_list_any, list_any-from_Any}

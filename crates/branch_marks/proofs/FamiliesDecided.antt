@@ -1,4 +1,7 @@
--- The tests of dominance and of closed families decide their definitions.
+-- The tests of dominance and of closed families decide their definitions. Each test has the shape of its definition,
+-- part by part, so it decides it once its parts are decided: places, weights and counters of labels; for each activity
+-- below the book's number, whether it is usable and within the limits, and whether some member covers its label; and
+-- for each member of the family, that this holds of what comes behind it, or that it is no end.
 use Rattle.std.proofs.Common.{ℕ, ℤ, pos, ◌≤ℤ◌, List}
 use Rattle.std.specs.Prelude.{not, ◌&&◌, ◌||◌}
 use Rattle.std.specs.Bool.{Decides}

@@ -1,4 +1,7 @@
--- The tests of the rules of propagation decide their definitions.
+-- The tests of the rules of propagation decide their definitions: each has the shape of its rule, over numbers below
+-- those of the book. Whether an activity is dead for an aircraft, or it cannot go over a connection, is read off its
+-- floor, and where it has no floor that is so at once. Marks are shut where no fact of the book follows; a Tie never
+-- does, so the test goes over Bars, Musts and Cuts.
 use Rattle.std.proofs.Common.{◌≡◌, ℕ, ℤ, ◌<◌, List, Option, Some, None}
 use Rattle.std.specs.Prelude.{Contains}
 use Rattle.std.specs.Bool.{Decides}

@@ -1,4 +1,6 @@
--- Facts that follow one after the other: each is new, and all of them hold where the marks do.
+-- Facts that follow one after the other. Each is new, since each rule asks for what the fact itself would end. One fact
+-- more at the end follows from the marks with all before it, by induction over these. And where the marks hold of a
+-- legal plan all of them do: the first holds, so the marks with it hold, and so on along the list.
 use Rattle.std.proofs.Common.{◌≡◌, ℕ, List, [], ◌∷◌, ◌++◌, refl, sym, subst, append_assoc}
 use Rattle.std.proofs.lemmas.List.{append-nil}
 use Rattle.std.proofs.lemmas.List.Elements.{All-contains, All-push}

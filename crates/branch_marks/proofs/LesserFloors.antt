@@ -1,4 +1,6 @@
--- The lesser of two floors is at or below both, where all floors have as many values.
+-- The lesser of two floors takes at each counter the smaller value. So it is at or below both, and has as many values,
+-- by induction over them; that needs both to have as many, which all floors of a book have. Where only one is a floor
+-- it is the lesser one itself.
 use Rattle.std.specs.Prelude.{⊤}
 use Rattle.std.proofs.Common.{◌≡◌, ℕ, zero, suc, ℤ, ◌<◌, arith, List, [], ◌∷◌, ◌++◌, length, refl, get_or, subst, Option, Some, None}
 use Rattle.std.proofs.lemmas.Int.{ints, clamps}

@@ -1,4 +1,7 @@
--- The tests of what marks leave open decide their definitions: fact by fact, and then over all marks.
+-- The tests of what marks leave open decide their definitions. What one fact lets is told by its kind and by the kind
+-- of the place, and each of these cases is a comparison of numbers or nothing at all. Marks let what each of their
+-- facts lets, so the test over the list decides it, and with permission and link that is alive, usable, and may end. A
+-- route fits by induction along it.
 use Rattle.std.specs.Prelude.{not, nat_eq, nat_le, ◌&&◌, ◌||◌}
 use Rattle.std.proofs.Common.{ℕ, List, [], ◌∷◌}
 use Rattle.std.specs.Bool.{Decides}

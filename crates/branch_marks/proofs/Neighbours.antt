@@ -1,4 +1,7 @@
--- What comes directly after what in a route and in a plan, where numbers rise.
+-- What comes directly after what in a route and in a plan. Neighbours in a route of a plan are neighbours in the plan,
+-- and the other way round, by induction over the routes. Where numbers rise, what a route has lies behind its place,
+-- and of two neighbours the second is larger. So of a whole route the rest from any place on tells what the whole has
+-- behind that place: what is passed lies up to the place and is not met again, by induction along the route.
 use Rattle.std.proofs.Common.{◌≡◌, ℕ, zero, suc, ◌<◌, ◌≤◌, inl, inr, ◌⊎◌, true, false, arith, List, [], ◌∷◌, length, refl, sym}
 use Rattle.std.proofs.lemmas.Bool.{eqb-true, eq-eqb, or_cases, or_left, or_right, and_from, and_parts, both_ways}
 use Rattle.std.specs.Prelude.{nat_eq, ◌&&◌}

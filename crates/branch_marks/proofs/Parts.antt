@@ -1,4 +1,9 @@
--- What facts leave open is what those of each kind do, and what each table says of its kind.
+-- What facts leave open, told kind by kind, as the tables keep it. A fact is of one kind, and for the other kinds its
+-- test holds by itself: so the test of a fact is the `and` of one test for each kind, and over all facts it is the
+-- `and` of what all Musts, all Cuts and all Ties let. Musts let an aircraft pass where the least of its Musts behind
+-- its place is no less than where it goes; Cuts, where none is of that link. Ties are the work: what is kept is
+-- nothing, one number, or that several differ, and by induction over the facts this lets a number through exactly where
+-- each Tie does.
 use Rattle.std.proofs.Common.{◌≡◌, ◌≢◌, ◌∙◌, ℕ, ◌<◌, ◌≤◌, arith, ap, ap₂, Bool, true, false, refl, sym, List, [], ◌∷◌, Option, Some, None, ⊎_elim, ◌⊎◌, inl, inr}
 use Rattle.std.specs.Prelude.{◌||◌, ◌&&◌, not, nat_eq, nat_lt, nat_le, All, if◌then◌else◌}
 use Rattle.std.specs.List.{list_all, list_any}

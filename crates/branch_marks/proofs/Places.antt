@@ -1,4 +1,7 @@
--- The numbers of pairs in rows of one length: which pair has which.
+-- Pairs in rows of n columns: the pair of a row and a column has the number row times n plus column. Since columns are
+-- below n, two pairs have one number only where both parts are the same. So to set or clear one bit changes one pair.
+-- To keep one pair of a row, the bits before it and behind it are cleared: these are the numbers from the row's
+-- beginning to the pair and from behind the pair to the next row, and no other row has any of them.
 use Rattle.std.proofs.Common.{◌≡◌, ◌∙◌, ℕ, ◌+◌, ◌*◌, ◌/◌, ◌%◌, ◌<◌, ◌≤◌, arith, ap, Bool, true, false, refl, sym, List, replicate, get_or, ⊎_elim, inl, inr, ◌⊎◌}
 use Rattle.std.specs.Prelude.{◌||◌, ◌&&◌, not, nat_eq, nat_lt, nat_le}
 use Rattle.std.specs.Int.{bit_at}

@@ -1,4 +1,5 @@
--- Numbers that are put over the front of zeros make a padded row.
+-- Numbers that are put over the front of zeros make a padded row: behind as many numbers as were put there the zeros
+-- are as they were, and the length is that of the zeros, as there are no more numbers than these.
 use Rattle.std.proofs.Common.{◌≡◌, ◌++◌, ◌≤◌, List, ℤ, length, drop, arith, replicate, length-append, length-drop, refl}
 use Rattle.std.proofs.lemmas.List.{drop_at, drop-replicate}
 use Rattle.std.specs.Prelude.{pos}

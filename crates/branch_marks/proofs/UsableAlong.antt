@@ -1,4 +1,6 @@
--- Routes by their beginnings: usable links, one activity after the other.
+-- Routes by their beginnings, both by induction along the route: a route fits exactly where its links are usable one
+-- after the other and the aircraft may end at its last place, and with an activity more at its end the links are usable
+-- exactly where they were and the link to that activity is.
 use Rattle.std.proofs.Common.{ℕ, List, [], ◌∷◌, ◌++◌}
 use Rattle.std.specs.Prelude.{◌↔◌}
 use Rattle.tail_book.specs.Seen.{BookSeen}

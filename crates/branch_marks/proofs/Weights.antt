@@ -1,4 +1,7 @@
--- The weight of a route, as a formula and added up along it.
+-- The weight of a route, as a formula and added up along it. Each activity adds a thousand times its cost and that of
+-- the connection to it, less its dual; so by induction along the route the sum is a thousand times the cost less the
+-- duals. One activity more at the end adds the same. And an aircraft has one least weight: of two each is at most the
+-- other, since each is attained by a route that the other bounds.
 use Rattle.std.proofs.Common.{◌≡◌, ℕ, ℤ, pos, ◌+◌, ◌*◌, ◌+ℤ◌, ◌-ℤ◌, ◌≤ℤ◌, arith, List, [], ◌∷◌, ◌++◌, refl}
 use Rattle.std.proofs.lemmas.Int.{ints}
 use Rattle.tail_book.specs.Seen.{BookSeen}

@@ -1,4 +1,5 @@
--- A book small enough to be worked by hand: two aircraft at Arlanda, and four flights there and back.
+-- Books small enough to be worked by hand. The first has two aircraft at Arlanda and four flights there and back; the
+-- others have what one rule needs each: a limit on minutes flown, a turn, two flights at once at two rates, a band.
 use Rattle.std.proofs.Common.{ℕ, ℤ, pos, ◌+◌, true, List, [], ◌∷◌, None}
 use Rattle.std.specs.Prelude.{codes}
 use Rattle.tail_book.specs.Seen.{ActivitySeen, TailSeen, AirportSeen, CounterSeen, BookSeen}

@@ -1,4 +1,6 @@
--- Floors and what follows, computed in the worked books.
+-- Floors and what follows, computed in the worked books. They show a floor as the least over several ways, and none
+-- where a Must or the limit leaves no way; what is dead on arrival, and at a dead end; the only carrier; the dead
+-- connection; that no Tie follows; and marks from which nothing more follows.
 use Rattle.std.proofs.Common.{◌≡◌, ℕ, pos, Bool, true, false, List, [], ◌∷◌, map, refl, Some, None}
 use Rattle.tail_book.specs.declared.place.Place.TheVariants.{Carry}
 use Rattle.tail_book.specs.inside.Tests.{is_allowed, is_link}

@@ -1,4 +1,7 @@
--- Labels, families, undecided pairs and proof trees, computed in the worked books.
+-- Labels, families, undecided pairs and proof trees, computed in the worked books. They show what a label covers,
+-- closed families with and without an end, which pairs facts decide, bounds that are rounded up, and trees that are
+-- shown: a leaf that bounds, a split, a fact that follows with a hole behind it, a stuck aircraft. Beside each tree
+-- stand changes of it that are not shown, as a value above an end, or a cover too few.
 use Rattle.std.proofs.Common.{◌≡◌, ℕ, ℤ, pos, negsuc, Bool, true, false, List, [], ◌∷◌, map, refl}
 use Rattle.tail_book.specs.inside.CostTable.{costs_of}
 use Rattle.tail_book.specs.inside.Tests.{is_allowed, is_link}

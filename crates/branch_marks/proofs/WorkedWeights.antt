@@ -1,4 +1,6 @@
--- Weights, bounds and sums over a pool, computed in the worked books.
+-- Weights, bounds and sums over a pool, computed in the worked books. They show what a connection adds and where it is
+-- free, duals that bound by the cost of the least plan, how a bound is rounded, and how the sum over a pool answers to
+-- a change of one dual.
 use Rattle.std.proofs.Common.{◌≡◌, ℕ, ℤ, pos, negsuc, List, [], ◌∷◌, map, refl, Some, None}
 use Rattle.tail_book.specs.inside.Seen.{CostTableSeen}
 use Rattle.tail_book.specs.declared.place.Place.TheVariants.{Carry, After}

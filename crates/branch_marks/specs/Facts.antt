@@ -1,4 +1,4 @@
--- Branching facts: what each says of a plan.
+-- Branching facts: what each says of a plan. Marks are a list of these, and hold of a plan where each of them does.
 use Rattle.std.specs.Prelude.{◌≡◌, ◌<◌, ℕ, List, [], ◌∷◌, All, Bool, true, false, ◌&&◌, ◌||◌, nat_eq}
 use Rattle.std.specs.List.{list_any}
 use Rattle.tail_book.specs.Seen.{BookSeen}

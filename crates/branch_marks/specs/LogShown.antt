@@ -1,4 +1,4 @@
--- What contracts see of a log.
+-- What contracts see of a log: nothing of how it keeps events, but which lists of them it tells, and how it has failed.
 use Rattle.std.specs.Prelude.{ℕ, Bool, List}
 use Rattle.branch_marks.specs.declared.event.Event.{Event}
 

@@ -1,4 +1,5 @@
-//! The aircraft that Musts name for each activity.
+//! The aircraft that Musts name for each activity: none, one, or several that differ. Only a Must names one, and it is
+//! noted at its own activity alone, so a fact changes one entry at most.
 
 ghost use Rattle.std.specs.Prelude.{◌≡◌, length};
 ghost use Rattle.tail_book.specs.Lookup.{activities};

@@ -1,4 +1,5 @@
-//! Laws over the definitions alone: the contract of each function is the law.
+//! Laws over the definitions alone: the contract of each function is the law. None of them computes anything, and a
+//! crate above that needs one calls it.
 
 mod branching;
 mod covering;

@@ -1,4 +1,5 @@
-//! What Ties name behind each activity, and before it.
+//! What Ties name behind each activity, and before it: nothing, one activity, or several that differ. A Tie from a to b
+//! is noted behind a and before b, so that whether Ties let a link through is a read at each of its ends.
 
 ghost use Rattle.std.specs.Prelude.{◌≡◌, length};
 ghost use Rattle.tail_book.specs.Lookup.{activities};

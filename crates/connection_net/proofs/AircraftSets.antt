@@ -1,4 +1,8 @@
--- Sets as the bits of two words: what a bit says after an aircraft is added, and when three words have a bit in common.
+-- Sets as the bits of two words: below 128, aircraft i is bit i of the low word, and from there on bit i - 128 of the
+-- high one. To add an aircraft sets one bit of one word and leaves all others, so the set then has whom it had and the
+-- new one. Three sets have an aircraft in common exactly where their low words or their high words share a bit. Where
+-- what the three words share is not 0, its lowest bit is such an aircraft; where it is 0, it has no bit, and there is
+-- none.
 use Rattle.std.proofs.Common.{◌≡◌, ◌≢◌, ◌∙◌, ℕ, ◌+◌, ◌-◌, ◌*◌, ◌%◌, ◌^◌, ◌<◌, ◌≤◌, arith, ap, Bool, true, false, refl, sym, ⊎_elim}
 use Rattle.std.specs.Prelude.{◌||◌, ◌&&◌, IsTrue, not, nat_eq, nat_lt, bit_or, bit_and, min, if◌then◌else◌}
 use Rattle.std.specs.Int.{bit_at, trailing_zeros, w128}

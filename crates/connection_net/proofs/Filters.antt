@@ -1,4 +1,6 @@
--- The numbers below n that pass a test: one number more, a test after another, and what such a list has.
+-- The numbers below n that pass a test. With n one larger the list has n at its end where n passes, as the range grows
+-- at its end. And where a test asks for another one, it may be asked of those alone that pass the other: by induction
+-- over the list, what the other drops would not have passed.
 use Rattle.std.proofs.Common.{◌≡◌, ◌∙◌, ℕ, zero, suc, ◌+◌, arith, ap, refl, sym, Bool, true, false, List, [], ◌∷◌, ◌++◌, map}
 use Rattle.std.specs.Prelude.{cond}
 use Rattle.std.specs.List.{filter, range_with_len}

@@ -1,4 +1,8 @@
--- Which aircraft the sets of the table have, and what that says of links.
+-- A link of the network is a common aircraft of three sets: those that may fly a, those that may fly b, and those whose
+-- type turns in the stop between. The sets are filled aircraft by aircraft, and have nobody who is not of the book.
+-- Where a ends at the airport at which b starts, a common aircraft is one that has the link, and the other way round;
+-- where it does not, nobody has the link. The odd case is a stop in which no turn is in time: each type's turn is a day
+-- at most, so nobody turns in it.
 use Rattle.std.proofs.Common.{◌≡◌, ◌≢◌, ◌∙◌, ℕ, pos, ◌+◌, ◌-◌, ◌<◌, arith, ap, refl, subst, sym, Bool, true, false, List, [], ◌∷◌, ◌++◌, None, Some, get_or, length, ⊎_elim}
 use Rattle.std.specs.Prelude.{◌&&◌, ◌||◌, nat_eq, nat_lt, IsTrue}
 use Rattle.std.specs.List.{list_any, range_with_len}

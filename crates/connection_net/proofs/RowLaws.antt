@@ -1,4 +1,7 @@
--- What the rows of a network have: which numbers, in which order.
+-- A row has the numbers below n that pass a test, in order. So a number is in it exactly where it is below n and
+-- passes: the tests decide links, and the activities of a link are of the book, so the bound below n says nothing more.
+-- And the row rises, by induction over the range: what is kept is larger than all before it, whatever was dropped. Past
+-- the last row stands the empty one, which has no number and rises.
 use Rattle.std.proofs.Common.{◌≡◌, ◌∙◌, ℕ, zero, suc, ◌+◌, ◌<◌, ◌≤◌, arith, ap, refl, subst, sym, Bool, true, false, List, [], ◌∷◌, map, ⊎_elim}
 use Rattle.std.specs.Prelude.{◌&&◌, ◌||◌, cond, nat_eq, slice_index_or}
 use Rattle.std.specs.List.{filter, list_any, range_with_len}

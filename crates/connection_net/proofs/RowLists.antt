@@ -1,4 +1,6 @@
--- Rows cut from one list: how many there are, which one stands at a number, and one row more.
+-- Rows cut from one list: row i is what stands from its start up to the next one. To add a row the list is cut at the
+-- last end, the row is put behind, and its end becomes one start more. The rows before end there at the latest, so they
+-- are cut from the part that stays; and the new row is all that comes behind that part.
 use Rattle.std.proofs.Common.{◌≡◌, ◌∙◌, ℕ, ◌+◌, ◌-◌, ◌<◌, ◌≤◌, arith, ap, refl, sym, List, [], ◌∷◌, ◌++◌, length, take, drop, map}
 use Rattle.std.specs.Prelude.{slice_index, slice_index_or}
 use Rattle.std.specs.List.{range_with_len}

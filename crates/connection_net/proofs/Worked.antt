@@ -1,4 +1,6 @@
--- Worked networks: the definitions computed on books whose links are known from outside.
+-- Worked networks: the definitions computed on books whose links are known from outside. They show a turn that fits to
+-- the minute and one that misses by a minute, ground time, beside which no turn is asked for, a link that one aircraft
+-- of two has, two flights that no aircraft may both fly, and books without activities or without aircraft.
 use Rattle.std.proofs.Common.{◌≡◌, ℕ, ℤ, pos, ◌+◌, true, false, Bool, List, [], ◌∷◌, Option, Some, None, refl}
 use Rattle.std.specs.Prelude.{codes}
 use Rattle.tail_book.specs.Seen.{ActivitySeen, TailSeen, RulesSeen, BookSeen}

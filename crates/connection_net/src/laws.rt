@@ -1,4 +1,6 @@
-//! What the rows of a network are, as laws: the contract of each function is the law.
+//! What the rows of a network are, as laws: the contract of each function is the law. A row has exactly the numbers of
+//! some aircraft's links, in rising order, and both ends of a link have each other: so whoever goes over rows misses no
+//! link.
 
 ghost use Rattle.tail_book.specs.Seen.{BookSeen};
 ghost use Rattle.connection_net.specs.inside.Laws.{HasRowForEach, HeadsAreLinks, PredecessorsAreLinks, RowsRise, SuccessorsAreLinks, SuccessorsFacePredecessors, SuccessorsFollow};

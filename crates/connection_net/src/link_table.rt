@@ -25,7 +25,7 @@ use tail_book::{Book, Memory};
 use turn_rules::{PermissionTable, permits};
 
 /// What is read of an activity: whether it is a flight, its airports, its minutes since 1970-01-01T00:00 UTC, the turn
-/// of the airport where it ends, and the aircraft that may fly it.
+/// in minutes of the airport where it ends, and the aircraft that may fly it.
 #[derive(Clone, Copy, Debug)]
 pub struct Leg {
     pub flight: bool,

@@ -1,4 +1,6 @@
--- Nothing is brought over a link that is not usable, so nothing comes to an activity that is not alive.
+-- What is brought to an activity. Nothing is brought over a link that is not usable, and a link to an activity that is
+-- not alive never is: so nothing comes there, neither from the carry-in nor from before, and it has no floor. And where
+-- the carry-in and each place before bring the same, whatever the marks, the least of it is the same.
 use Rattle.std.specs.Prelude.{◌&&◌}
 use Rattle.std.proofs.Common.{◌≡◌, ◌∙◌, ℕ, ℤ, ◌<◌, Bool, true, false, List, refl, arith, ap, Option, None, Some}
 use Rattle.std.specs.List.{list_all, range_with_len}

@@ -1,4 +1,7 @@
--- Taking in the predecessors of an activity one by one.
+-- Taking in the predecessors of an activity b one by one. At each turn the floor is what stands at b, lowered to the
+-- least of what those bring that are left. To take one in moves it from the right to the left, and lesser floors may be
+-- taken in any order. What it brings is read off its own floor, which is right, as its number is smaller and only b is
+-- written.
 use Rattle.std.specs.Prelude.{◌≢◌, All}
 use Rattle.std.proofs.Common.{◌≡◌, ◌∙◌, ℕ, ℤ, ◌<◌, ◌+◌, List, [], ◌∷◌, length, drop, get_or, ap, arith, refl, subst, Option, None, Some}
 use Rattle.std.specs.Int.{int_min}

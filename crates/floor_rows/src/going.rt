@@ -1,6 +1,8 @@
 //! Steps of an aircraft along links under marks: whether it can go on from where it stands.
 //!
-//! Place and time are asked before a step is taken.
+//! Whether the link is usable is asked before a step is taken. The counters behind the step are written into a row that
+//! the caller lends, so nothing is allocated. Whether the aircraft goes on at all takes a step for each of its usable
+//! links at most, and is known with the first that stays within the limits.
 
 ghost use Rattle.std.specs.Prelude.{◌≡◌, ◌<◌, ◌&&◌, ℤ, List, false, IsTrue, None, Some, if◌then◌else◌, length};
 ghost use Rattle.tail_book.specs.Lookup.{activities, aircraft};

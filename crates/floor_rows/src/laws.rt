@@ -1,4 +1,6 @@
-//! Laws over the definitions alone: the contract of each function is the law.
+//! Laws over the definitions alone: the contract of each function is the law. A floor is the least of what the places
+//! before it bring, and the rows of the network have all places that bring something and all activities that can be
+//! gone on to: so a pass over links is enough.
 
 ghost use Rattle.floor_rows.specs.inside.LeastOver.{FloorsAreLeast, LeastAreFloors, BroughtTells, NoFloorWithout};
 ghost use Rattle.floor_rows.specs.inside.Neighbours.{PredecessorsComeBefore, PredecessorsBringAll, SuccessorsAreOfBook, PredecessorsAreOfBook, SuccessorsTell};

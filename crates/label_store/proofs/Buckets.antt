@@ -1,4 +1,6 @@
--- Buckets as lists of numbers: what a filter keeps, and that rows stay apart.
+-- Buckets as lists of numbers. A filter keeps exactly what is in the list and passes, by induction over the list. That
+-- rows are apart is said of each row beside the later ones; so they stay apart where some leave, where one comes at the
+-- end that is apart from each, and where a row is kept behind the others, which changes no row before it.
 use Rattle.std.proofs.Common.{◌≡◌, ◌≢◌, ℕ, zero, suc, ℤ, ◌<◌, arith, refl, true, false, Bool, cond, List, [], ◌∷◌, ◌++◌, length, get_or, sym, ◌∙◌, ap, subst}
 use Rattle.std.specs.Prelude.{All, slice_index_or}
 use Rattle.std.specs.List.{Contains, filter}

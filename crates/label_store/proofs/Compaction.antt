@@ -1,4 +1,7 @@
--- A bucket compacted in place: what stays of the places that were looked at stands at the front.
+-- A bucket compacted in place. What is kept: the front is what stays of the first q places, and from q on nothing has
+-- moved. A number that goes leaves the front as it is; one that stays is written at the end of the front, which is at q
+-- or before, so nothing is overwritten that is still to be read. At the end the front is what the filter keeps. One
+-- more row in the store changes no row before it, so the same ones stay.
 use Rattle.std.proofs.Common.{◌≡◌, ◌≢◌, ℕ, ◌+◌, ◌<◌, ◌≤◌, arith, refl, true, false, Bool, cond, List, [], ◌∷◌, ◌++◌, length, get_or, set, take, sym, ◌∙◌, ap, ap₂, subst, ℤ, get_or-set_other}
 use Rattle.std.specs.Prelude.{All, not}
 use Rattle.std.specs.List.{filter, AllByRecursion}

@@ -1,4 +1,6 @@
--- The laws of offers: a row that is covered changes nothing, and one that is kept enters as Entering.antt says.
+-- The laws of offers. A row that is covered changes nothing, and what covers it is in the bucket; one that is kept
+-- enters as Entering.antt says, and covers itself. Behind it the bucket has its number and exactly those of before that
+-- it does not cover, which is what the filter keeps, by the test of covering.
 use Rattle.std.proofs.Common.{◌≡◌, ℕ, ℤ, refl, true, false, Bool, inl, inr, List, [], ◌∷◌, ◌++◌, length, sym, ◌∙◌, ap, subst}
 use Rattle.std.specs.Prelude.{not}
 use Rattle.std.specs.List.{Contains, filter}

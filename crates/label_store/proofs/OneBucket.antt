@@ -1,4 +1,7 @@
--- An offer to one bucket is an offer to the store that has it.
+-- An offer to one bucket is an offer to the store that has it. A covered row leaves the bucket as it was, and to put it
+-- back changes no bucket; a kept one enters this bucket, and all others have their numbers still. Rows only come behind
+-- the others, so the values of every bucket are packed still, and with the laws of offers the store keeps what is said
+-- of every store: whatever the answer is, and also where memory is refused, as nothing has changed then.
 use Rattle.std.proofs.Common.{◌≡◌, ℕ, ℤ, arith, inl, inr, ◌<◌, ◌^◌, List, [], length, get_or, set, sym, ◌∙◌, ap, ap₂, subst, get_or-set_other}
 use Rattle.std.specs.Prelude.{All, Option, Result, Ok, Err, IfOk, OnErr, IfSome}
 use Rattle.std.proofs.lemmas.List.{set-get_or, length-set, get_or-set_same}

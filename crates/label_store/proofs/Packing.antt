@@ -1,4 +1,7 @@
--- Values packed one row after the other: what a row that moves, a cut and one more row leave at each place.
+-- Values packed one row after the other: the values at place q begin at q times the width, and end before those of any
+-- later place begin. So a row that is copied to another place changes no value elsewhere, a cut behind some places
+-- leaves these as they are, and one more row stands at the place behind the others. With the numbers that move, are cut
+-- and come alike, the values stay packed.
 use Rattle.std.proofs.Common.{◌≡◌, ◌≢◌, ◌⊎◌, ℕ, ℤ, pos, ◌+◌, ◌*◌, ◌-◌, ◌<◌, ◌≤◌, min, arith, inl, inr, List, [], ◌∷◌, ◌++◌, length, take, drop, get_or, set, sym, ◌∙◌, ap, ap₂, subst, get_or-set_other}
 use Rattle.std.specs.Prelude.{All}
 use Rattle.std.specs.List.{SameBelow, SameFrom, CopiedTo}

@@ -1,5 +1,6 @@
--- Rows in one list of values: how many there are, where each stands, and what one more leaves.
--- All by induction on their number.
+-- Rows in one list of values: there are as many as were counted, row i begins at i times the width, and the values of
+-- one more row make one row more at the end. All by induction on their number: the first row is cut from the front, and
+-- the others are the rows of what is behind it.
 use Rattle.std.proofs.Common.{◌≡◌, ℕ, zero, suc, ℤ, ◌+◌, ◌*◌, ◌<◌, ◌≤◌, arith, refl, List, [], ◌∷◌, ◌++◌, ◌-◌, length, take, drop, get_or, sym, ◌∙◌, ap, ap₂}
 use Rattle.std.proofs.lemmas.List.{drop-drop, take-append-le, drop-append-le, take_all, length-drop, length-append}
 use Rattle.std.specs.Prelude.{Option}

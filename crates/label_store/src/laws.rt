@@ -1,4 +1,5 @@
-//! Laws of a store: the contract of each function is the law.
+//! Laws of a store: the contract of each function is the law. Kept rows stay as they are, what was covered stays
+//! covered, and an offered row is covered from then on: so whoever looks for routes may forget a row that is not kept.
 
 ghost use Rattle.label_store.specs.Store.{IsStore};
 ghost use Rattle.label_store.specs.inside.Laws.{OffersKeepStores, OffersKeepCovered, OfferedRowsAreCovered, OffersKeepRows, KeptRowsAreOffered, BucketsHaveTheRest, OthersStay, RowsOfBucketsAreApart};

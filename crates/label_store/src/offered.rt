@@ -1,4 +1,5 @@
-//! What becomes of a row that is offered.
+//! What becomes of a row that is offered: it is kept, under a number of its own, or a row of the bucket that is named
+//! covers it, and then nothing has changed.
 
 /// The answer to an offer. Rows are numbered from 0 in the order in which they were kept.
 #[derive(Clone, Copy, PartialEq, Eq, Debug)]

@@ -1,4 +1,7 @@
--- Airports from one departure to the next: what waits there, at a later moment, while other buckets grow, and anew.
+-- Airports from one departure to the next. Where nothing waits, all that waits is as it should be. What has waited long
+-- enough has at any later moment too, and activities stand in order of their starts, so moments never fall. While the
+-- bucket of an activity grows what waits stays as it is (Staying.antt), and the airport of a departure alone changes,
+-- in what waits there. The floor stays but behind a Must of the aircraft, where all lines begin anew with nothing.
 use Rattle.std.proofs.Common.{◌≡◌, ◌≢◌, ℕ, zero, suc, ℤ, pos, ◌+◌, ◌≤ℤ◌, ◌<◌, ◌≤◌, inl, inr, Bool, arith, List, [], ◌∷◌, ◌++◌, length, subst, sym, ap, ◌∙◌, get_or}
 use Rattle.std.specs.Prelude.{slice_set, int_lt, IsTrue, ◌||◌, ◌&&◌}
 use Rattle.std.specs.Int.{int_max}

@@ -1,4 +1,6 @@
--- Buckets that are done stay done: what was tried stays tried, and the buckets before it, and their rows, are as they were.
+-- Buckets that are done stay done while the bucket of a later activity b grows: what was tried stays tried, and the
+-- buckets before b have the rows that they had when these were tried. So once the carry-in and each row before b were
+-- tried on the way to b its bucket is done, and those below b + 1 are.
 use Rattle.std.proofs.Common.{◌≡◌, ◌≢◌, ℕ, ℤ, ◌+◌, ◌<◌, arith, inl, inr, List, length, get_or, sym, subst}
 use Rattle.std.specs.List.{Contains}
 use Rattle.std.proofs.lemmas.Bool.{cases_lt}

@@ -1,4 +1,6 @@
--- Stores that grow: what holds of a bucket that is done and what was tried stay so.
+-- Stores that grow in the bucket of b alone. Growth chains, and what it keeps is kept: rows have their values, what is
+-- covered stays covered, and no other bucket changes. That a row was tried means that what it gives is covered or
+-- passes a limit, so what was tried stays tried; and with one row more the rows of a bucket up to a place have been.
 use Rattle.std.proofs.Common.{◌≡◌, ℕ, ℤ, ◌+◌, ◌<◌, arith, refl, inl, inr, List, get_or, ◌∙◌, subst}
 use Rattle.std.proofs.lemmas.Bool.{cases_lt}
 use Rattle.tail_book.specs.Seen.{BookSeen}

@@ -1,4 +1,8 @@
 -- An open departure: each activity before it, from which its link is usable, was tried by the lines or as ground time.
+-- A flight from which it may be flown may wait, and has waited for the turn. It has entered the line of each window
+-- that it has waited for, as those that have not entered have not waited long enough; and the windows reach further
+-- than anyone can wait. So each of its labels was tried, or one that stands for it (Reaching.antt). All else that ends
+-- there is ground time, which was tried link by link.
 use Rattle.std.proofs.Common.{◌≡◌, ◌≢◌, ℕ, ℤ, ◌+◌, ◌+ℤ◌, ◌≤ℤ◌, ◌<ℤ◌, ◌<◌, inl, inr, Bool, true, false, arith, refl, List, length, subst, sym, ◌∙◌, get_or}
 use Rattle.std.specs.Prelude.{slice_set}
 use Rattle.std.specs.List.{Contains}

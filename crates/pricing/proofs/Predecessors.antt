@@ -1,4 +1,6 @@
--- The row of predecessors as a list by places: each is before its activity, and each that is linked stands at a place.
+-- The row of predecessors as a list by places. What stands at a place is linked to b for some aircraft, and so it is of
+-- the book and before b; and each activity that is linked to b stands at a place. So to go over the row misses no link
+-- to b.
 use Rattle.std.proofs.Common.{◌≡◌, ℕ, ◌<◌, true, refl, List, length, get_or, sym, ◌∙◌, ap, subst}
 use Rattle.std.specs.Prelude.{nat_eq}
 use Rattle.std.proofs.lemmas.Bool.{eqb-true, eq-eqb}

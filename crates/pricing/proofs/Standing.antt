@@ -1,4 +1,7 @@
--- What waits while the bucket of a departure grows, and why its links are usable.
+-- Which flights an open departure b may follow: those that may wait, are alive and have waited for the turn. By the
+-- kinds of facts: no Tie begins at such a flight, no Cut and no Tie leads to b, and each Must before b is below the
+-- floor, from which on the flight stands. The other way round, a flight before the last Must would pass over it, and a
+-- Tie that begins at a flight would have to lead to b, which none does: so whoever b may follow may wait.
 use Rattle.std.proofs.Common.{◌≡◌, ℕ, pos, ◌+◌, ◌≤ℤ◌, ◌<◌, ◌≤◌, inl, inr, Bool, true, false, cond, arith, refl, List, [], ◌∷◌, length, subst, sym, ap, ap₂, ◌∙◌, ◌-◌, get_or}
 use Rattle.std.specs.Prelude.{All, Option, None, Some, ◌&&◌, nat_eq}
 use Rattle.std.specs.Int.{int_max}

@@ -1,4 +1,6 @@
--- What waits stays as it is while the bucket of a later activity grows: no label that waits is of that activity.
+-- What waits stays as it is while the bucket of a later activity b grows. What waits has ended before b starts, and b
+-- ends later than that: so no label that waits is one of b. The bucket that a label is in is then another one than b's,
+-- which does not change, and its row keeps its values.
 use Rattle.std.proofs.Common.{◌≡◌, ◌≢◌, ℕ, ℤ, pos, ◌+ℤ◌, ◌≤ℤ◌, ◌<◌, arith, List, length, subst, sym, ap, ◌∙◌, get_or}
 use Rattle.std.specs.Int.{int_max}
 use Rattle.std.specs.List.{Contains}

@@ -1,4 +1,7 @@
--- A label that enters a line, and what waits while rows are added to the store.
+-- A label that enters a line. Its key, its row's number and its activity come last in three lists of one length, so all
+-- that waited before is where it was, and the new one is an entry as the others are. What was held in any line stays
+-- held, since what is covered stays covered while keys come. Flights enter in order of their ends: so once one has not
+-- waited long enough, none behind it has.
 use Rattle.std.proofs.Common.{◌≡◌, ℕ, ℤ, ◌+◌, ◌+ℤ◌, ◌≤ℤ◌, ◌<ℤ◌, ◌<◌, inl, inr, arith, refl, List, [], ◌∷◌, ◌++◌, length, subst, sym, ap, ◌∙◌, get_or}
 use Rattle.std.specs.Prelude.{None}
 use Rattle.std.proofs.lemmas.Bool.{cases_lt}

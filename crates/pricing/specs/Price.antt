@@ -1,4 +1,4 @@
--- What pricing an aircraft answers.
+-- What pricing an aircraft answers: the least weight and a route that has it, or that the aircraft is stuck.
 use Rattle.std.specs.Prelude.{ℕ, ℤ, List}
 use Rattle.tail_book.specs.Seen.{BookSeen}
 use Rattle.tail_book.specs.inside.Seen.{CostTableSeen}

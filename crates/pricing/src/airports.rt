@@ -1,4 +1,9 @@
 //! The airports of a book, put together and judged.
+//!
+//! For each airport the activities are gone over, its flights sorted by their ends, and its stays cut where a band ends
+//! or a counter's stop is reached. Nothing is promised of how that is done: each airport is judged by a test, and where
+//! one is not found right there are none, and pricing does without lines. It is done once for a book, and allocates all
+//! that the lines need but what they grow by.
 
 ghost use Rattle.std.specs.Prelude.{◌≡◌, ◌<◌, ◌+◌, ◌≤◌, IfOk, IfSome, IsTrue, length};
 ghost use Rattle.pricing.specs.inside.Airports.{AreAirports, AreAirportsTo, IsAirport};

@@ -1,4 +1,9 @@
-//! Where an aircraft ends its route: at its carry-in or at a row of a bucket, where the marks let it, and the least such end.
+//! Where an aircraft ends its route: at its carry-in or at a row of a bucket, where the marks let it, and the least
+//! such end.
+//!
+//! Once all buckets are done they are a closed family, so the least of these ends is the least weight of all routes.
+//! Each row is looked at once, in buckets at which the aircraft may end. The route is spelled from a row's parents,
+//! back to front.
 
 ghost use Rattle.std.specs.Prelude.{◌≡◌, ◌<◌, ◌≤◌, ◌≤ℤ◌, ◌⊎◌, ℤ, pos, length, None, Some, IfSome, IfOk, ◌++◌, reverse};
 ghost use Rattle.tail_book.specs.declared.place.Place.TheVariants.{Carry, After};
@@ -22,6 +27,7 @@ use tail_book::{Book, Memory, Place, Route};
 /// A place where the aircraft may end: its weight there, and the row, none at the carry-in.
 #[derive(Clone, Copy, Debug)]
 pub struct End {
+    /// In thousandths of a cost unit.
     pub value: i64,
     pub row: Option<usize>,
 }
@@ -44,7 +50,7 @@ fn lighter(best: Option<End>, end: End) -> Option<End>
     }
 }
 
-/// What a row weighs.
+/// What a row weighs, in thousandths of a cost unit.
 pub fn weight_of(store: &Store, j: usize) -> i64
     requires { j < length store.now.rows }
     ensures { result ≡ weight_of (row_at store.now.rows j) }

@@ -1,4 +1,6 @@
-//! Laws of pricing: the contract of each function is the law.
+//! Laws of pricing: the contract of each function is the law. Each row is true of a route, and where all buckets are
+//! done the labels are a closed family: so the least end is the least weight, and without an end the aircraft is stuck.
+//! They hold of any store that is filled so, whoever fills it.
 
 ghost use Rattle.pricing.specs.inside.Laws.{OffersKeepTruth, TrueRowsAreSmall, FilledStoresAreClosed, LeastEndsAreLeast, EndlessStoresStick};
 

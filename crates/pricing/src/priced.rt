@@ -1,4 +1,5 @@
-//! The answer of pricing.
+//! The answer of pricing: the least weight with a route that has it, or that no legal route of the aircraft fits the
+//! marks.
 
 use tail_book::Route;
 

@@ -1,4 +1,5 @@
-//! Where and when an aircraft waits.
+//! Where and when an aircraft waits: what decides, with the marks, whether a flight that ended there may wait, and
+//! whether it has waited long enough.
 
 /// An airport as an aircraft finds it: its number, the number behind its last Must, its turn there between two flights, and
 /// how late it is.

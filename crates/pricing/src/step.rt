@@ -1,4 +1,8 @@
 //! One step of a row over a link: what the link adds to the weight, and the counters behind it.
+//!
+//! What a link adds is the same for all rows that take it, so it is asked for apart and handed to each step. A step
+//! writes over the row and allocates nothing. All weights are in thousandths of a cost unit, and no sum of them leaves
+//! 64 bits.
 
 ghost use Rattle.std.specs.Prelude.{◌≡◌, ◌<◌, ◌≤◌, ◌+◌, ◌*◌, ◌^◌, ◌↔◌, ◌-ℤ◌, pos, length, IsTrue};
 ghost use Rattle.tail_book.specs.Lookup.{activities, aircraft};
@@ -52,7 +56,7 @@ fn arc_cost(book: &Book, table: &CostTable, k: u32, from: Place, b: u32) -> u64
     table.activity_cost(k, b) + connection_cost(book, &table.bands, k, from, b)
 }
 
-/// What an activity after a place adds to a weight.
+/// What an activity after a place adds to a weight, in thousandths of a cost unit.
 pub fn arc_weight(book: &Book, table: &CostTable, duals: &Duals, k: u32, from: Place, b: u32) -> i64
     requires table { IsTableFor book.now table.now }
     requires duals { AreDuals table.now book.now duals.now.values }

@@ -1,4 +1,6 @@
--- Adding Bars of one aircraft: each leaves all others the same, and those of arrivals leave even its own floors.
+-- Adding Bars of one aircraft. Each leaves all other aircraft the same and makes nothing alive for its own, and so do
+-- several, one after the other. Where the aircraft is alive at an activity and has no floor there, the activity is dead
+-- for it, so its Bar follows.
 use Rattle.std.specs.Prelude.{Result, Ok, Err, OnOk, OnErr, is_some}
 use Rattle.std.proofs.Common.{◌≡◌, ◌∙◌, ℕ, ℤ, ◌<◌, true, false, List, [], ◌∷◌, ◌++◌, refl, sym, subst, Option, None, Some}
 use Rattle.std.proofs.lemmas.Bool.{and_parts, both_ways}

@@ -1,4 +1,6 @@
--- A Must of an aircraft lets it use no link from before its activity to behind it.
+-- A Must of an aircraft lets it use no link from before its activity to behind it: a link is usable only where each
+-- fact lets it, and this one does not. What is cut off from b so is cut off from all that comes later, as a link to
+-- there passes the Must too.
 use Rattle.std.proofs.Common.{◌≡◌, ◌<◌, ◌≤◌, ℕ, true, false, arith, List, refl}
 use Rattle.std.proofs.lemmas.Bool.{false_from_ne_true}
 use Rattle.std.proofs.lemmas.List.Elements.{All-contains}

@@ -1,4 +1,8 @@
--- Going over the dead ends of one aircraft from the last activity to the first.
+-- Going over the dead ends of one aircraft from the last activity to the first. What is kept: all that is dead lies
+-- below where the pass stands and is flagged to be asked, and the row has the floors of the marks. With a floor and no
+-- end allowed, an activity is dead exactly where no successor can be gone on to. Where it is, its Bar takes its floor
+-- and no other, and may make only its predecessors dead: these are flagged, and lie below. Where it is not, it is
+-- passed.
 use Rattle.std.specs.Prelude.{◌≢◌, IsTrue, not, is_some, nat_eq}
 use Rattle.std.proofs.Common.{◌≡◌, ◌∙◌, ℕ, ℤ, ◌<◌, ◌+◌, Bool, true, false, inl, inr, List, [], ◌∷◌, ◌++◌, refl, sym, ap, subst, arith, get_or, length, Option, None, Some}
 use Rattle.std.proofs.lemmas.Bool.{both_ways, cond-true, cond-false, false_from_ne_true, true_from_ne_false, cases_order}

@@ -1,4 +1,8 @@
--- Judging a link by going over the aircraft, and cutting links one after the other.
+-- Judging a link by going over the aircraft, and cutting links one after the other. A connection is dead where some
+-- aircraft may use it and none that may can go on over it. Of the aircraft that were asked both parts are kept: whether
+-- one may use it, and that none goes on; those that are not alive at its first activity may not use it and are passed
+-- over. One that goes on ends the question. From a Cut nothing follows that did not follow before, so what was shut
+-- stays shut while links are cut.
 use Rattle.std.specs.Prelude.{nat_eq, ◌&&◌}
 use Rattle.std.proofs.lemmas.List.Elements.{Contains-push}
 use Rattle.tail_book.specs.Numbers.{contains}

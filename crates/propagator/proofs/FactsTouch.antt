@@ -1,4 +1,9 @@
--- What each kind of fact leaves of an aircraft's row.
+-- What each kind of fact leaves of an aircraft's row that was right but for flags. Its own Bar, and the Must of
+-- another, take one activity: the floor there goes, the floors of its successors become due, and its predecessors are
+-- to be asked; where it had no floor and was not to be asked it was not alive, and nothing changes. A Cut takes a link,
+-- and a Tie all links from its first activity and to its second but the one between: the floors behind these become
+-- due, and what lies before them is to be asked. A Must of its own takes the links over it and the ends before it: all
+-- floors behind it become due, and all is to be asked. What has no flag keeps its links.
 use Rattle.std.specs.Prelude.{◌≢◌, ◌&&◌, ◌||◌, not, nat_eq, nat_le}
 use Rattle.std.proofs.Common.{◌≡◌, ◌∙◌, ℕ, ℤ, ◌<◌, ◌≤◌, ◌+◌, Bool, true, false, inl, inr, arith, List, [], ◌∷◌, ◌++◌, length, get_or, refl, sym, ap, subst, Option, None}
 use Rattle.std.proofs.lemmas.Bool.{both_ways, false_from_ne_true, ne_eqb, eq-eqb, le-leb, or_left, or_right}

@@ -1,4 +1,5 @@
--- Facts that follow one after the other, joined: what follows from marks and those before it still does.
+-- Facts that follow one after the other, joined: where some follow in turn from the marks, and others from the marks
+-- with these, all together follow in turn. By induction on the first ones, each moved over to the marks.
 use Rattle.std.proofs.Common.{◌∙◌, List, [], ◌∷◌, ◌++◌, refl, sym, ap, subst, append_assoc, append-nil}
 use Rattle.tail_book.specs.Seen.{BookSeen}
 use Rattle.branch_marks.specs.declared.fact.Fact.{Fact}

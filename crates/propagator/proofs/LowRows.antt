@@ -1,4 +1,6 @@
--- Rows whose floors are no higher than those of the marks.
+-- Rows whose floors are no higher than those of the marks. A row of fewer facts is one, since floors never fall while
+-- marks grow; so is one that loses floors, and one whose floor at an activity becomes that of the marks. A floor that
+-- is lowered step by step is the marks' own at the latest when it is again what it was in such a row.
 use Rattle.std.proofs.Common.{◌≡◌, ◌∙◌, ◌++◌, ℕ, ℤ, ◌<◌, inl, inr, List, take, drop, get_or, sym, ap, subst, Option, None, Some}
 use Rattle.std.proofs.lemmas.Bool.Decides.{eqb_tells}
 use Rattle.std.proofs.lemmas.List.{take-append-drop}

@@ -1,4 +1,8 @@
--- Taking in the predecessors of an activity one by one, the last of them first.
+-- Taking in the predecessors of an activity b one by one, the last of them first. At each turn the floor is what stands
+-- at b, lowered to the least of what those bring that are left; lesser floors may be taken in any order, so the last of
+-- them is as good as the first. The pass may end early: where what stands at b is no higher than the floor, what is
+-- left lowers nothing, and so it is the floor. And where a step's values lower nothing, whether the link is usable need
+-- not be asked.
 use Rattle.std.specs.Prelude.{◌≢◌, All, if◌then◌else◌}
 use Rattle.std.proofs.Common.{◌≡◌, ◌∙◌, ℕ, ℤ, ◌<◌, ◌≤◌, ◌+◌, ◌-◌, Bool, true, false, List, [], ◌∷◌, ◌++◌, length, take, get_or, ap, arith, refl, sym, subst, Option, None, Some}
 use Rattle.std.specs.Int.{int_min}

@@ -1,4 +1,6 @@
--- What marks leave open once one fact more is among them: test by test, by what that fact lets pass.
+-- What marks leave open once one fact more is among them. To be alive, to go on and to end are each an `and` over all
+-- facts, so with the fact at their end each is what it was, `and` what that fact lets. Where the fact lets it, nothing
+-- changes; a link asks this of both its ends too. And what is as usable as before brings the same floor.
 use Rattle.std.specs.Prelude.{◌&&◌, ◌||◌, not, nat_eq, if◌then◌else◌}
 use Rattle.std.proofs.Common.{◌≡◌, ◌∙◌, ℕ, ℤ, Bool, true, false, List, [], ◌∷◌, ◌++◌, refl, sym, ap, Option, None, Some, inl, inr}
 use Rattle.std.specs.Prelude.{◌≢◌}

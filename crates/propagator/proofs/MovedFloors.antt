@@ -1,4 +1,7 @@
--- Flags of floors that moved: from one row to the next, and for all aircraft.
+-- Flags of floors that moved. Where no flag is set, the floor is what it was or is gone: this holds where nothing was
+-- written, where one floor was and its activity is flagged or it came out as it was, and where a floor is taken away.
+-- As flags are never taken back, it holds over two changes where it holds over each, and so over the rows of all
+-- aircraft.
 use Rattle.std.specs.Prelude.{◌⊎◌, nat_eq}
 use Rattle.std.proofs.Common.{◌≡◌, ◌∙◌, ℕ, ℤ, ◌<◌, Bool, true, false, inl, inr, List, [], ◌∷◌, length, get_or, refl, sym, ap, subst, Option, None}
 use Rattle.std.proofs.lemmas.Bool.{both_ways, true_from_ne_false, or_left, eq-eqb}

@@ -1,4 +1,8 @@
--- Going over the floors of an aircraft in order: those below b are right, and so is the row but where flags say otherwise.
+-- Going over the floors of an aircraft in order. What is kept: the floors below b are those of the marks, and the rest
+-- of the row is right but where flags say that it may not be. A floor that is not due is the least of what comes from
+-- the floors below it, which are right, and so it is right too. One that is due is made anew: where it comes out as it
+-- was, nothing else is touched, and where it is another one, its successors become due, which lie ahead. At the end all
+-- floors are those of the marks, and what is dead is flagged.
 use Rattle.std.specs.Prelude.{◌≢◌}
 use Rattle.std.proofs.Common.{◌≡◌, ◌≤◌, ◌∙◌, ℕ, ℤ, ◌<◌, ◌+◌, Bool, true, false, inl, inr, arith, List, [], ◌∷◌, refl, sym, ap, subst, below_more, Option, None}
 use Rattle.std.proofs.lemmas.Bool.{true_from_ne_false}

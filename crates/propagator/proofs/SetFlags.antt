@@ -1,4 +1,7 @@
--- Setting flags: one that is not set was not set before, and is none of those that were set.
+-- Setting flags. What is said of flags is said of those that are not set: one that is not set now was not set before,
+-- and is none of the numbers that were set. So it chains, by induction over the numbers, and to set more flags than
+-- needed is never wrong. The same for a row from which a floor is taken: it is gone at its number, and all others are
+-- as they were.
 use Rattle.std.specs.Prelude.{◌≢◌, ◌||◌}
 use Rattle.std.proofs.Common.{◌≡◌, ◌∙◌, ℕ, ◌<◌, ◌≤◌, ◌+◌, Bool, true, false, inl, inr, arith, List, [], ◌∷◌, length, get_or, refl, sym, ap, subst, below_more, None}
 use Rattle.std.proofs.Math.ListN.{set}

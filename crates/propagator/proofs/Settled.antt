@@ -1,4 +1,7 @@
--- Settling one aircraft after the other: what is done for one stands while the others are settled.
+-- Settling one aircraft after the other. What is settled for one stands while the others are, since all that is added
+-- for another leaves it the same activities, links and ends, and so the same floors, and nothing new dead. Those that
+-- are still to come are ready: the floors in their rows are those of the first n facts, which stay the first ones. An
+-- aircraft that was settled is ready again for one fact more.
 use Rattle.std.specs.Prelude.{◌≢◌}
 use Rattle.std.proofs.Common.{◌≡◌, ◌∙◌, ℕ, ℤ, ◌<◌, ◌≤◌, ◌+◌, List, [], ◌∷◌, ◌++◌, Option, None, Some, length, take, sym, ap, subst, arith, below_more}
 use Rattle.std.proofs.lemmas.List.{take-append-le, length-append}

@@ -1,4 +1,6 @@
--- Marks are shut once all aircraft stand, nobody is an unnamed only carrier, and no connection is dead.
+-- Marks are shut once three things hold: all aircraft stand, so that no Bar follows; nobody is an only carrier that no
+-- Must names, so that no Must does; and no connection is dead, so that no Cut does. The first two are shown of the
+-- marks before the Cuts, and hold of those with them, as from a Cut nothing new follows. A Tie never follows.
 use Rattle.std.proofs.Common.{ℕ, List}
 use Rattle.tail_book.specs.Seen.{BookSeen}
 use Rattle.tail_book.specs.Lookup.{aircraft}

@@ -1,4 +1,5 @@
-//! Whether marks leave somebody for each activity.
+//! Whether marks leave somebody for each activity, and the least one that they leave nobody for. No legal plan keeps
+//! marks with such a hole. It costs one look at the bit row of each activity, and takes no memory.
 
 ghost use Rattle.std.specs.Prelude.{◌<◌, ◌↔◌, IsTrue};
 ghost use Rattle.tail_book.specs.Lookup.{activities};

@@ -1,4 +1,6 @@
-//! Laws over the definitions alone: the contract of each function is the law.
+//! Laws over the definitions alone: the contract of each function is the law. They tell how little a fact that follows
+//! changes: which aircraft it leaves the same, which floors it takes, and what may be dead since. So propagation may
+//! look at that alone.
 
 ghost use Rattle.propagator.specs.inside.SameFor.{SameFloors, SameDead, BarsLeaveOthers, MustsLeaveOthers};
 ghost use Rattle.propagator.specs.inside.OneMore.{BarsTakeOneFloor, BarsKillNothingLater, BarsKillPredecessors, CutsTakeNoFloor, CutsMakeNothingFollow};

@@ -1,4 +1,7 @@
--- Ends: an end stays one while rows come, and of more ends the best is the lightest that is within the limit.
+-- Ends while rows come. An end stays one, since its row keeps its values and its node. What is kept: the best is an
+-- end, and weighs at most what each end so far does that is within the limit. The best only becomes lighter and the
+-- limit only falls, so what is within the limit now was so before: hence it holds on from row to row, and from bucket
+-- to bucket.
 use Rattle.std.proofs.Common.{◌≡◌, ℕ, ℤ, ◌≤ℤ◌, ◌+◌, ◌<◌, ◌≤◌, ◌⊎◌, inl, inr, arith, refl, List, length, get_or, Option, None, Some, sym, ◌∙◌, ap, subst}
 use Rattle.std.specs.Prelude.{pos, IfSome}
 use Rattle.std.specs.List.{Contains}

@@ -1,4 +1,7 @@
--- Stores that grow: what was tried stays tried, and buckets that are done, with their rows, stay as they were.
+-- Stores that grow from the bucket of m on: all before stay as they are, with their rows. That a row was tried means
+-- that what it gives is covered, passes a limit of a counter, or is past the limit of weight; covered stays covered,
+-- and the limit only falls, so what was tried stays tried. An activity's bucket is done once all that may come next was
+-- tried from each of its rows, and those rows are still what they were.
 use Rattle.std.proofs.Common.{◌≡◌, ℕ, ℤ, ◌+ℤ◌, ◌-ℤ◌, ◌≤ℤ◌, ◌<ℤ◌, suc, ◌+◌, ◌<◌, ◌≤◌, arith, refl, inl, inr, List, ◌∷◌, length, get_or, sym, ◌∙◌, subst}
 use Rattle.std.specs.Prelude.{pos}
 use Rattle.std.specs.List.{Contains}

@@ -1,4 +1,6 @@
--- Rests of routes that fit rise, and so weigh little.
+-- Rests of routes that fit weigh little. Each link leads to a larger number, so by induction along the rest its numbers
+-- rise, and it has no activity twice. Its weight is its cost less its duals, which for numbers that rise is within 2^61
+-- of 0.
 use Rattle.std.proofs.Common.{ℕ, ◌<◌, List, [], ◌∷◌, sym, subst}
 use Rattle.std.specs.Prelude.{pos}
 use Rattle.tail_book.specs.Seen.{BookSeen}

@@ -1,4 +1,5 @@
--- What a step of a row reads and writes: the counters behind the weight.
+-- What a step of a row reads and writes. A row is its weight, and behind it the counters: to write another weight
+-- leaves the counters as they are, and counts are small enough to be counted on.
 use Rattle.std.proofs.Common.{◌≡◌, ℤ, ◌-◌, arith, refl, List, [], ◌∷◌, length, take, drop}
 use Rattle.std.specs.Prelude.{slice_set}
 use Rattle.std.proofs.lemmas.Int.{ints}

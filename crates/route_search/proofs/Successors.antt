@@ -1,4 +1,6 @@
--- The row of successors as a list by places: each is of the book and behind its activity, and each that is linked stands at a place.
+-- The row of successors as a list by places. What stands at a place is of the book and behind its activity, and each
+-- that is linked stands at a place, so whoever may come next is in the row. It is the same with the heads and the
+-- carry-in.
 use Rattle.std.proofs.Common.{◌≡◌, ℕ, ◌<◌, true, refl, List, length, get_or, sym, ◌∙◌, ap, subst}
 use Rattle.std.specs.Prelude.{nat_eq}
 use Rattle.std.proofs.lemmas.Bool.{eqb-true, eq-eqb}

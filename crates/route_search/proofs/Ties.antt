@@ -1,4 +1,7 @@
--- Who may come next: where a Tie names one, nothing else is usable, and so the rest of the row may be left out.
+-- Who may come next where Ties tell. Each fact that lets the aircraft go from x to b ties nothing else behind x; so by
+-- induction over the facts b is what is named behind x, if anything is. Where one activity is named, nothing else is
+-- usable, and the rest of the row may be left out; where several are that differ, nothing is. The row rises, so a
+-- search by halves finds the one that is named, or shows that it is not there.
 use Rattle.std.proofs.Common.{◌≡◌, ℕ, zero, suc, ◌<◌, ◌≤◌, inl, inr, ◌∙◌, Bool, true, false, cond, arith, refl, List, [], ◌∷◌, length, subst, sym, ap, get_or}
 use Rattle.std.specs.Prelude.{All, Option, None, Some, Err, nat_eq}
 use Rattle.std.specs.List.Sorted.{IsNonDecreasing, IsBinarySearchResult}

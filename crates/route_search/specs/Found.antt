@@ -1,4 +1,4 @@
--- What a search within a cut answers.
+-- What a search within a cut answers: the least weight where that is within the cut, and else that nothing is.
 use Rattle.std.specs.Prelude.{ℕ, ℤ, pos, ◌+ℤ◌, ◌≤ℤ◌, List}
 use Rattle.tail_book.specs.Seen.{BookSeen}
 use Rattle.tail_book.specs.inside.Seen.{CostTableSeen}

@@ -1,4 +1,5 @@
-//! What each activity costs an aircraft less its dual, made once for a search.
+//! What each activity costs an aircraft less its dual, made once for a search by one pass over the activities. No link
+//! changes it, so what a link adds to a weight is this and the cost of its connection.
 
 ghost use Rattle.std.specs.Prelude.{◌≡◌, ◌<◌, length};
 ghost use Rattle.tail_book.specs.Lookup.{activities, aircraft};
@@ -22,7 +23,7 @@ fn added_by(book: &Book, table: &CostTable, duals: &Duals, k: u32, b: u32) -> i6
     (COST_UNIT * table.activity_cost(k, b)) as i64 - duals.values[b as usize]
 }
 
-/// Writes what each activity costs an aircraft less its dual.
+/// Writes what each activity costs an aircraft less its dual, in thousandths of a cost unit.
 pub fn add_up(book: &Book, table: &CostTable, duals: &Duals, k: u32, added: &mut [i64])
     requires table { IsTableFor book.now table.now }
     requires duals { AreDuals table.now book.now duals.now.values }

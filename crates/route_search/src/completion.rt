@@ -18,7 +18,8 @@ use crate::step::arc_weight;
 use crate::task::{Task, every_task_is_sound};
 use tail_book::Place;
 
-/// The way through an activity: what it adds to a weight, and the least weight from there to an end with it.
+/// The way through an activity: what it adds to a weight, and the least weight from there to an end with it, both in
+/// thousandths of a cost unit.
 #[derive(Clone, Copy, Debug)]
 pub struct Way {
     pub arc: i64,
@@ -134,7 +135,7 @@ fn behind_alive(task: &Task, behind: &[Option<i64>], x: u32) -> Option<i64>
     least_behind(task, behind, x)
 }
 
-/// Writes the least weight behind each activity.
+/// Writes the least weight behind each activity, in thousandths of a cost unit.
 pub fn complete(task: &Task, behind: &mut [Option<i64>])
     requires task { IsTask task.now }
     requires one_each { length behind.old ≡ activities task.now.book.now }

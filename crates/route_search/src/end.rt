@@ -23,6 +23,7 @@ use tail_book::Place;
 /// A place where the aircraft may end: its weight there, and the row, none at the carry-in.
 #[derive(Clone, Copy, Debug)]
 pub struct End {
+    /// In thousandths of a cost unit.
     pub value: i64,
     pub row: Option<usize>,
 }
@@ -31,6 +32,7 @@ pub struct End {
 #[derive(Clone, Copy, Debug)]
 pub struct Ends {
     pub best: Option<End>,
+    /// In thousandths of a cost unit.
     pub limit: i64,
 }
 

@@ -1,4 +1,5 @@
-//! The answer of a search within a cut.
+//! The answer of a search within a cut: the least weight with a route that has it, or that no route weighs as little as
+//! the cut. It does not tell whether the aircraft is stuck.
 
 use tail_book::Route;
 

@@ -1,4 +1,6 @@
-//! Laws of a search: the contract of each function is the law.
+//! Laws of a search: the contract of each function is the law. Where all buckets are done as far as a limit, the best
+//! end is the least weight, and where there is none no route is within the cut; and a cut that is far from 0 may be
+//! clamped.
 
 ghost use Rattle.route_search.specs.inside.Laws.{ClampedCutsFindTheSame, DoneBucketsAreExact, FittingRestsAreSmall};
 

@@ -26,6 +26,7 @@ pub struct Next {
 /// What comes behind an activity to an end.
 #[derive(Clone, Copy, Debug)]
 pub struct Rest {
+    /// In thousandths of a cost unit.
     pub weight: i64,
     /// The greatest value of each counter behind the activity with which the rest can be flown.
     pub caps: [i64; COUNTER_LIMIT],

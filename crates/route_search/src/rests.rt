@@ -34,7 +34,7 @@ pub struct Rests {
 
 const NONE: Span = Span { from: 0, to: 0 };
 
-/// What a row of the lightest kind at an activity weighs, if there is a row.
+/// What the lightest row at an activity weighs, in thousandths of a cost unit, if there is a row.
 fn lightest(store: &Store, x: u32) -> Option<i64>
     requires { x < length store.now.buckets }
 {

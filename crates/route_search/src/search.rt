@@ -44,7 +44,8 @@ use tail_book::{Book, CostTable, Duals, Memory};
 #[derive(Debug, Drop)]
 pub struct RouteSearch {
     pub steps: StepTable,
-    /// What each activity costs the aircraft less its dual, and the least weight that can come behind it.
+    /// What each activity costs the aircraft less its dual, and the least weight that can come behind it: both in
+    /// thousandths of a cost unit.
     pub added: Vec<i64>,
     pub behind: Vec<Option<i64>>,
     /// The row that is tried.

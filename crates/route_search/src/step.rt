@@ -1,4 +1,7 @@
 //! One step of a row over a link: what the link adds to the weight, and the counters behind it.
+//!
+//! What the activity adds was made before, so a link asks for the cost of its connection alone. A step writes over the
+//! row and allocates nothing. All weights are in thousandths of a cost unit, and no sum of them leaves 64 bits.
 
 ghost use Rattle.std.specs.Prelude.{◌≡◌, ◌<◌, ◌≤◌, ◌+◌, ◌*◌, ◌^◌, ◌↔◌, ◌-ℤ◌, ◌≤ℤ◌, pos, length, IsTrue};
 ghost use Rattle.tail_book.specs.Lookup.{activities, aircraft};
@@ -71,7 +74,7 @@ fn added_by(task: &Task, b: u32) -> i64
     task.added[b as usize]
 }
 
-/// What an activity after a place adds to a weight.
+/// What an activity after a place adds to a weight, in thousandths of a cost unit.
 pub fn arc_weight(task: &Task, from: Place, b: u32) -> i64
     requires task { IsTask task.now }
     requires place { IsPlaceOf task.now.book.now from }

@@ -1,4 +1,5 @@
-//! Activities, each written as a row.
+//! Activities, each written as a row: what tests change is in the row, and all else asks for nothing. At most six rows
+//! count, as many as there are names.
 
 use crate::names::names;
 use std::alloc::Global;
@@ -8,7 +9,9 @@ use tail_book::*;
 #[derive(Clone, Copy, Debug)]
 pub struct Row {
     pub flight: bool,
+    /// The airport from which it leads, and the one to which.
     pub leg: (u32, u32),
+    /// Its start and its end: minutes since 1970-01-01T00:00 UTC.
     pub time: (i64, i64),
     pub resets: bool,
 }

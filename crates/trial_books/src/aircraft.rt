@@ -1,4 +1,5 @@
-//! Aircraft that are ready at airport 0 at minute 0, with nothing on their counters.
+//! Aircraft that are ready at airport 0 at minute 0, with nothing on their counters: they differ by name and type
+//! alone.
 
 use crate::names::names;
 use std::alloc::Global;

@@ -1,4 +1,4 @@
-//! The costs of a small book.
+//! The costs of a small book: the table of its own costs, with the promise that it is for this book.
 
 ghost use Rattle.std.specs.Prelude.{IfOk};
 ghost use Rattle.tail_book.specs.inside.CostTable.{IsTableFor};

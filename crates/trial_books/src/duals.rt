@@ -1,4 +1,5 @@
-//! Duals, and whether they are within the bounds that a search asks of them.
+//! Duals as tests write them, and whether they are what a search asks for: one for each activity, each within the
+//! table's box. A yes is promised to be right, a no promises nothing.
 
 ghost use Rattle.std.specs.Prelude.{IsTrue, All};
 ghost use Rattle.tail_book.specs.inside.CostTable.{IsInBox};

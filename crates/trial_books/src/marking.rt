@@ -1,4 +1,4 @@
-//! Marks of facts.
+//! Marks of those facts that are of a book: the others are passed over, so any list of facts gives marks of the book.
 
 ghost use Rattle.std.specs.Prelude.{IfOk};
 ghost use Rattle.branch_marks.specs.inside.MarkTables.{AreMarksOf};

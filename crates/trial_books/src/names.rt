@@ -1,4 +1,4 @@
-//! Names for whatever stands in a small book.
+//! Names for whatever stands in a small book: six of them, so that no list of it that takes its names here is longer.
 
 use tail_book::Name;
 

@@ -1,4 +1,5 @@
-//! Whether numbers are those of a route.
+//! Whether numbers can be those of a route: they rise and are below the number of activities. A yes is promised to be
+//! right, so that tests may hand the numbers to what asks for a rising route.
 
 ghost use Rattle.std.specs.Prelude.{IsTrue};
 ghost use Rattle.tail_book.specs.declared.place.Place.TheVariants.{Carry};

@@ -1,4 +1,5 @@
-//! Rules: two types, four airports, counters, and bands.
+//! Rules of small books: two types of rates 1 and 2, four airports that ask for no turn and keep UTC, no curfew, and
+//! the counters and bands that a test writes.
 
 use crate::names::names;
 use std::alloc::Global;
@@ -30,7 +31,7 @@ fn airports(alloc: Global) -> Result<Vec<Airport>, Memory> {
     Ok(airports)
 }
 
-/// Rules whose types have this turn, without a curfew.
+/// Rules whose types have this turn in minutes, without a curfew.
 pub fn rules(
     alloc: Global,
     turn: i64,
@@ -64,7 +65,8 @@ fn counter(
     })
 }
 
-/// Counters, each of a kind, a limit and a stop, with a base at one airport. At most six count.
+/// Counters, each of a kind, a limit and a stop in minutes, with a base at one airport. At most six count. A limit is in
+/// the unit of its kind.
 pub fn counters(
     alloc: Global,
     base: u32,
@@ -77,7 +79,7 @@ pub fn counters(
     Ok(counters)
 }
 
-/// Bands, each up to so many minutes at a cost.
+/// Bands, each up to so many minutes at a cost in cost units.
 pub fn bands(alloc: Global, rows: &[(i64, u64)]) -> Result<Vec<Band>, Memory> {
     let mut bands = Vec::new(alloc);
     for (upto, cost) in rows {

@@ -1,4 +1,5 @@
-//! Books of activities, aircraft and rules.
+//! Books of activities, aircraft and rules, and the two with which many tests begin: a flight there and one back, and
+//! two flights at once. Rows that are no book are an error of the test.
 
 use crate::activity_rows::{Row, activities, flight};
 use crate::aircraft::tails;

@@ -1,4 +1,6 @@
--- A cover of each aircraft, one after the other.
+-- A cover of each aircraft, one after the other. Each aircraft has some family that shows its value; by recursion over
+-- the values these are put into one list, in which the cover of aircraft k stands at place k and has its value. So
+-- there is a cover for each aircraft, and with duals in the box they are a bound that is shown.
 use Rattle.std.proofs.Common.{◌≡◌, ℕ, zero, suc, ℤ, ◌+◌, ◌<◌, arith, refl, ap, subst, List, [], ◌∷◌, length, map}
 use Rattle.std.proofs.lemmas.List.{length-map}
 use Rattle.tail_book.specs.Seen.{BookSeen}

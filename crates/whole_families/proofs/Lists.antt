@@ -1,4 +1,7 @@
--- Lists that grow at their end, and what is in them.
+-- Lists that grow at their end, and what is in them. In a sequence of lists, each the one before it with more at its
+-- end, what is in one is in every later one: by induction on the number of the later one. What is in a list is in what
+-- a test keeps of it where it passes. And in two lists joined all pairs are related where those of each list are, and
+-- each element of the first with each of the second.
 use Rattle.std.proofs.Common.{◌≡◌, ◌∙◌, inl, inr, ℕ, zero, suc, ◌≤◌, arith, refl, sym, ap, subst, Bool, true, false, cond, List, [], ◌∷◌, ◌++◌, map}
 use Rattle.std.proofs.lemmas.Bool.{cases_order}
 use Rattle.std.proofs.lemmas.List.{get_or-map, length-map}

@@ -1,4 +1,5 @@
-//! Laws of what families show: the contract of each function is the law.
+//! Laws of what families show: the contract of each function is the law. For whatever is true of an aircraft's routes,
+//! a low weight, a bound of all aircraft, or that one is stuck, there is a family that shows it; no body makes one.
 
 ghost use Rattle.whole_families.specs.Shown.{FamiliesOfRoutesExist, LowWeightsAreShown, StuckIsShown, LowBoundsAreShown};
 

@@ -1,4 +1,4 @@
--- Sets of pairs of a row and a column, as bits.
+-- Sets of pairs of a row and a column, as bits: those of all rows, one row after the other, in words of 64.
 use Rattle.std.specs.Prelude.{ℕ, ◌+◌, ◌*◌, ◌/◌, ◌%◌, ◌^◌, ◌<◌, ◌≤◌, ◌≡◌, Bool, List, length, nat_eq, slice_index_or}
 use Rattle.std.specs.Int.{bit_at}
 

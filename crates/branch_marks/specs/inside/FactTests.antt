@@ -1,4 +1,4 @@
--- Whether marks have a fact, as a test.
+-- Whether marks have a fact, as a test: one of the same kind with the same numbers.
 use Rattle.std.specs.Prelude.{List, Bool, false, ◌&&◌, nat_eq, Contains}
 use Rattle.std.specs.List.{list_any}
 use Rattle.std.specs.Bool.{Decides}

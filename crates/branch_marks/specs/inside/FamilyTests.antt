@@ -1,4 +1,4 @@
--- Dominance and closed families as tests that compute.
+-- Dominance and closed families as tests that compute, and that each decides its definition.
 use Rattle.std.specs.Prelude.{ℕ, ℤ, pos, List, Bool, ◌&&◌, ◌||◌, not, nat_eq}
 use Rattle.std.specs.List.{list_all, list_any}
 use Rattle.std.specs.Bool.{Decides}

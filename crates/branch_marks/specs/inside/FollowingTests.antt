@@ -1,4 +1,4 @@
--- The rules of propagation as tests that compute.
+-- The rules of propagation as tests that compute, and that each decides its definition.
 use Rattle.std.specs.Prelude.{ℕ, ℤ, List, Bool, true, false, ◌&&◌, ◌||◌, not, nat_eq, Option, Some, None}
 use Rattle.std.specs.Bool.{Decides}
 use Rattle.tail_book.specs.Seen.{BookSeen}

@@ -1,4 +1,4 @@
--- What the facts of each kind leave open, apart.
+-- What the facts of each kind leave open, apart: each test here asks one kind alone, and all others pass it.
 use Rattle.std.specs.Prelude.{ℕ, ◌+◌, Bool, true, ◌&&◌, ◌||◌, not, nat_eq, nat_lt, nat_le}
 use Rattle.tail_book.specs.declared.place.Place.{Place}
 use Rattle.tail_book.specs.declared.place.Place.TheVariants.{Carry, After}

@@ -1,4 +1,4 @@
--- What marks leave open, as tests that compute.
+-- What marks leave open, as tests that compute, and that each decides its definition.
 use Rattle.std.specs.Prelude.{ℕ, List, [], ◌∷◌, Bool, true, false, ◌&&◌, ◌||◌, nat_eq, nat_lt, nat_le, not}
 use Rattle.std.specs.List.{list_all}
 use Rattle.std.specs.Bool.{Decides}

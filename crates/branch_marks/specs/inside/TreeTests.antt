@@ -1,4 +1,4 @@
--- Proof trees as tests that compute.
+-- Proof trees as tests that compute, and that each decides its definition.
 use Rattle.std.specs.Prelude.{ℕ, ℤ, pos, ◌+ℤ◌, ◌==◌, List, [], ◌∷◌, ◌++◌, Bool, true, ◌&&◌, not, nat_lt, nat_le, length}
 use Rattle.std.specs.List.{list_all}
 use Rattle.std.specs.Bool.{Decides}

@@ -1,4 +1,6 @@
-//! Laws of splits, of what they leave undecided, and of marks that leave no plan.
+//! Laws of splits, of what they leave undecided, and of marks that leave no plan. Every plan is in one branch of a
+//! split and in one alone, and each branch has fewer undecided pairs than the marks: so a search that splits comes to
+//! an end.
 
 ghost use Rattle.branch_marks.specs.DeadEnds.{HolesLeaveNoPlan, StuckLeavesNoPlan};
 ghost use Rattle.branch_marks.specs.Branches.{UndecidedPairsAreOfBook, OneBranchHolds, FactsDecide, BranchesDecide};

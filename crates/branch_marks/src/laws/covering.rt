@@ -1,4 +1,5 @@
-//! Laws of labels that cover one another, and of closed families.
+//! Laws of labels that cover one another, and of closed families. Any closed family bounds every legal route that fits
+//! by its lightest end, and shows the aircraft stuck where it has none, whoever made it and however.
 
 ghost use Rattle.branch_marks.specs.Labels.{LabelsCoverThemselves, CoversChain, CoveredStepsAreCovered};
 ghost use Rattle.branch_marks.specs.Families.{ClosedFamiliesBound, EndlessFamiliesStick};

@@ -1,4 +1,5 @@
-//! Laws of tests and their definitions.
+//! Laws of tests and their definitions: for each word of what marks leave open, and of what follows from them, a test
+//! decides it. So contracts say the plain definition, and proofs take the test that bodies compute.
 
 ghost use Rattle.branch_marks.specs.inside.MarkTests.{FactOfDecides, AliveDecides, UsableDecides, MayEndDecides, FitsDecides};
 ghost use Rattle.branch_marks.specs.inside.FactTests.{HasFactDecides};

@@ -1,4 +1,5 @@
-//! Laws of routes that fit the marks.
+//! Laws of routes that fit the marks. Those of a legal plan of which the marks hold do; and whether a route fits is
+//! told link by link and at its end, so that a beginning can be judged before the rest is known.
 
 ghost use Rattle.branch_marks.specs.inside.Fitting.{MarkedRoutesFit, FitsIsUsableToItsEnd, UsableWithOneMore};
 

@@ -1,4 +1,5 @@
-//! Laws of floors, and of the facts that follow from marks.
+//! Laws of floors, and of the facts that follow from marks. No floor is above what a way brings, and whatever legal
+//! plan the marks hold of, what follows from them holds of it too: so to add such facts loses no plan.
 
 ghost use Rattle.branch_marks.specs.Floors.{FloorsCount, FloorsAreLow};
 ghost use Rattle.branch_marks.specs.Following.{FollowingFactsAreOfBook, FollowingFactsAreNew, FollowingFactsHold, FollowInTurnWithOneMore, FollowedMarksHold};

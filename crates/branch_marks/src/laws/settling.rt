@@ -1,4 +1,6 @@
-//! Laws of pools, of settled duals, and of least routes that are a plan.
+//! Laws of pools, of settled duals, and of least routes that are a plan. Duals that are settled over a pool with the
+//! least weights are settled over all legal routes that fit; and where least routes fly each activity once they are a
+//! plan, and no legal plan of which the marks hold costs less.
 
 ghost use Rattle.branch_marks.specs.Pool.{LeastInIsLeast};
 ghost use Rattle.branch_marks.specs.Settled.{SumsExist, SettledOverPoolIsSettled, RoutesOfWeightsArePlan, RoutesOfLeastWeightsCostLeast};

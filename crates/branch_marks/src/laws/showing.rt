@@ -1,4 +1,5 @@
-//! Laws of shown proof trees.
+//! Laws of shown proof trees: a shown tree bounds the cost of every legal plan of which its marks hold, and where its
+//! bounds pass what legal plans cost at most, no plan is legal. This is what a certificate is believed for.
 
 ghost use Rattle.branch_marks.specs.ProofTree.{ShownTreesBound, ShownRootsBound, ShownTreesRefute};
 ghost use Rattle.branch_marks.specs.inside.TreeTests.{ShownDecides, BoundsDecide};

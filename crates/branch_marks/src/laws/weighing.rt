@@ -1,4 +1,6 @@
-//! Laws of weights, and of the bounds that they give.
+//! Laws of weights, and of the bounds that they give. A weight is added up along a route, activity by activity; and
+//! weak duality: the duals and a low weight of each aircraft bound the cost of every legal plan of which the marks
+//! hold.
 
 ghost use Rattle.branch_marks.specs.Weights.{WeightsAlong, WeightIsAlong, WeightWithOneMore, LeastWeightsAreOne, LeastWeightsExist};
 ghost use Rattle.branch_marks.specs.Bound.{RoundedUpIsLeast, LowWeightsBound, LeastWeightsBound};

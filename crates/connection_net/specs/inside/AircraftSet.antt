@@ -1,4 +1,4 @@
--- Sets of aircraft, a bit for each.
+-- Sets of aircraft, a bit for each: the first 128 in the low word, the others in the high one.
 use Rattle.std.specs.Prelude.{ℕ, ◌-◌, Bool, nat_eq, nat_lt, if◌then◌else◌}
 use Rattle.std.specs.Int.{bit_at}
 use Rattle.connection_net.specs.declared.aircraft_set.AircraftSet.{AircraftSet}

@@ -1,4 +1,4 @@
--- Marks that leave an aircraft the same.
+-- Marks that leave an aircraft the same: activities, links and ends, and so its floors and what is dead for it.
 use Rattle.std.specs.Prelude.{ℕ, ◌≡◌, ◌≢◌, ◌++◌, false, List, [], ◌∷◌}
 use Rattle.tail_book.specs.Seen.{BookSeen}
 use Rattle.tail_book.specs.declared.place.Place.{Place}

@@ -1,4 +1,4 @@
--- How many activities no Must names.
+-- How many activities no Must names: each Must of an only carrier makes it less, so propagation comes to an end.
 use Rattle.std.specs.Prelude.{ℕ, List, Bool, if◌then◌else◌}
 use Rattle.tail_book.specs.Seen.{BookSeen}
 use Rattle.tail_book.specs.Lookup.{activities, aircraft}
