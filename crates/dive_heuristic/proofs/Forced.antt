@@ -1,4 +1,7 @@
--- Steps of a dive, joined; and the facts that follow from marks, in their turn, as forced steps.
+-- Steps of a dive, joined; and the facts that follow from marks, in their turn, as forced steps. By induction on the
+-- first steps: each adds its fact to the marks, so the marks after both lists are those that the second leads to from
+-- where the first ended. A fact that follows is not among the marks yet, by a law, and that makes its step a forced
+-- one.
 use Rattle.std.proofs.Common.{◌≡◌, ◌∙◌, ℕ, ℤ, List, [], ◌∷◌, ◌++◌, map, refl, sym, ap, subst, append_assoc, append-nil}
 use Rattle.std.proofs.lemmas.List.{map-append}
 use Rattle.tail_book.specs.Seen.{BookSeen}

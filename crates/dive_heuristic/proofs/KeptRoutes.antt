@@ -1,4 +1,7 @@
--- Lists of routes of which those of the first aircraft are of least weight: a route more, and a route in another's place.
+-- Lists of routes of which those of the first aircraft are of least weight: a route more, and a route in another's
+-- place. Either leaves the routes of all other aircraft as they are, so what holds of those before goes on to hold, and
+-- only the new route is looked at. And since legal routes rise and stay below the number of activities, all their
+-- numbers are of the book.
 use Rattle.std.proofs.Common.{◌≡◌, ◌∙◌, ℕ, ℤ, ◌<◌, ◌+◌, inl, inr, arith, List, [], ◌∷◌, ◌++◌, length, refl, sym, subst, set, length-set}
 use Rattle.std.proofs.lemmas.Bool.{cases_order}
 use Rattle.std.proofs.lemmas.List.{get_or_append_left, get_or_push, get_or-set_same, get_or-set_other, get_or_default}

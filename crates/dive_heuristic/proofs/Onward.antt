@@ -1,4 +1,7 @@
--- A choice and what follows from it, as steps of a dive; and the dive as a whole.
+-- A choice and what follows from it, as steps of a dive; and the dive as a whole. The choice is a step where the dive
+-- stands, and what follows is joined behind it. The chosen pair was undecided, and no fact makes a pair undecided: so
+-- each choice leaves fewer, and a dive ends. Routes of least weight stay low under more marks, and routes that fit all
+-- marks at the end fit the first ones, which are fewer.
 use Rattle.std.proofs.Common.{◌≡◌, ◌∙◌, ℕ, ℤ, ◌<◌, ◌≤◌, arith, List, [], ◌∷◌, ◌++◌, map, length, refl, sym, ap, subst, append_assoc}
 use Rattle.tail_book.specs.Seen.{BookSeen}
 use Rattle.tail_book.specs.inside.Seen.{CostTableSeen}

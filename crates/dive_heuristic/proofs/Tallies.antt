@@ -1,4 +1,6 @@
--- Tallies: one activity more, and one route more.
+-- Tallies: one activity more, and one route more. The tally at an activity goes from never to once and from there to
+-- more often, just as its count goes up, by a law, and at all others both stay. So by induction along each route, and
+-- then along the routes, the tally tells the counts.
 use Rattle.std.proofs.Common.{◌≡◌, ◌∙◌, ℕ, ◌<◌, ◌+◌, inl, inr, Bool, true, false, arith, List, [], ◌∷◌, ◌++◌, length, refl, sym, ap, subst, set, take, length-set, get_or}
 use Rattle.std.proofs.lemmas.Bool.{cases_eq, eq-eqb, ne_eqb}
 use Rattle.std.proofs.lemmas.List.{get_or-set_same, get_or-set_other, take_more, get_or-replicate, length-replicate}

@@ -1,4 +1,7 @@
--- Small books worked by hand: what is forced, what is chosen, and where a dive ends, each both ways.
+-- Small books worked by hand: what is forced, what is chosen, and where a dive ends, each both ways. In the first book
+-- the turn ends a minute after the way back starts: nobody can fly it, the way out has one carrier left, and the dive
+-- is dead without a choice; fewer steps, or a choice before the marks are shut, are no such dive. In the second one two
+-- flights leave at once, and the least aircraft is to fly the first of them.
 use Rattle.std.proofs.Common.{◌≡◌, ℕ, zero, suc, ℤ, pos, ◌+◌, ◌<◌, inl, inr, true, false, arith, List, [], ◌∷◌, refl, subst, None}
 use Rattle.std.proofs.lemmas.Bool.{both_ways}
 use Rattle.std.specs.Prelude.{codes}

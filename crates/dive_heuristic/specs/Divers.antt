@@ -1,4 +1,4 @@
--- What a diver has made ready of a book.
+-- What a diver has made ready of a book: a propagator, a pricer, room for labels, and a tally.
 use Rattle.std.specs.Prelude.{◌≡◌, ◌+◌, List, length}
 use Rattle.tail_book.specs.Seen.{BookSeen}
 use Rattle.tail_book.specs.inside.Seen.{CostTableSeen}

@@ -1,4 +1,4 @@
--- Routes of least weight under duals.
+-- Routes of least weight under duals, one for each aircraft, and whether each activity is in exactly one of them.
 use Rattle.std.specs.Prelude.{◌≡◌, ℕ, ℤ, ◌<◌, List, length}
 use Rattle.tail_book.specs.Seen.{BookSeen}
 use Rattle.tail_book.specs.inside.Seen.{CostTableSeen}

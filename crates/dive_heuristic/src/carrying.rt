@@ -1,4 +1,7 @@
 //! Who is to fly an activity that is in no route, or in several.
+//!
+//! Of several that fly it one is to keep it, so that the routes come apart. Where none flies it the marks say who may,
+//! and without a hole there is somebody. The routes are walked once, up to the first that has it.
 
 ghost use Rattle.std.specs.Prelude.{◌≡◌, ◌<◌, length, IfSome, IfNone};
 ghost use Rattle.tail_book.specs.Lookup.{activities, aircraft};

@@ -1,4 +1,7 @@
 //! The choice of a dive: the first activity that the routes do not fly exactly once, and who is to fly it.
+//!
+//! One pass over the routes counts each activity, so no two routes are compared. The tally is the caller's, and nothing
+//! is allocated.
 
 ghost use Rattle.std.specs.Prelude.{◌≡◌, ◌<◌, length, All, IfSome, IfNone};
 ghost use Rattle.tail_book.specs.Lookup.{activities, aircraft};

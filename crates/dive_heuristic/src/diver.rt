@@ -1,4 +1,7 @@
 //! What dives keep from one step to the next, and from one dive to the next.
+//!
+//! Floors, what pricing has read, the room for labels and the tally take their size from the book and its table. So
+//! they are made once, and serve each step and each dive.
 
 ghost use Rattle.std.specs.Prelude.{IfOk, List};
 ghost use Rattle.tail_book.specs.inside.CostTable.{IsTableFor};

@@ -1,9 +1,10 @@
 //! A dive: facts that follow, then a fact that is tried, until the least routes are a plan or nothing is left.
 //!
 //! Before each choice one route of least weight stands for each aircraft. Where each activity is in exactly one of them
-//! they are a legal plan, of the least cost that the Lagrangian bound allows. Otherwise the least activity that is not is
-//! given to an aircraft that flies it in its route, so that the routes come apart; that pair was undecided, and no fact
-//! makes a pair undecided, so a dive ends. Marks and duals of the caller stay as they are.
+//! they are a legal plan, and its cost is the Lagrangian bound, so no plan that fits the marks by then costs less.
+//! Otherwise the least activity that is not is given to an aircraft whose route has it, so that the routes come apart,
+//! or to one that may fly it where no route has it. That pair was undecided, and no fact makes a pair undecided, so a
+//! dive ends after no more choices than pairs were undecided. Marks and duals of the caller stay as they are.
 
 ghost use Rattle.std.specs.Prelude.{◌≡◌, ◌<◌, List, length, IfOk, IfSome, IfNone};
 ghost use Rattle.tail_book.specs.Lookup.{activities, aircraft};

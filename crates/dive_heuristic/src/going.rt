@@ -1,4 +1,7 @@
 //! How a dive goes on: all that follows is added, and then a choice. Marks and steps grow together.
+//!
+//! A fact is tried only where none follows any more. So a fact is called chosen only where it could have been otherwise
+//! as far as the marks tell, and all the others need no choice.
 
 ghost use Rattle.std.specs.Prelude.{◌≡◌, ◌++◌, ◌∷◌, [], map, IfOk, IfSome, IfNone, OnErr, OnOk};
 ghost use Rattle.connection_net.specs.Net.{net_of};

@@ -1,4 +1,4 @@
--- An ascent and the duals whose sum it learns.
+-- What an ascent learns: its best duals are those of the largest sum so far, and of equal sums the first.
 use Rattle.std.specs.Prelude.{ℤ, List, Option, None, Some, if◌then◌else◌}
 use Rattle.tail_book.specs.Numbers.{int_le}
 use Rattle.dual_ascent.specs.Seen.{AscentSeen}

@@ -118,8 +118,8 @@ impl Ascent {
         Ascent::starting(alloc, table, first, WARM, NEAR_RADIUS)
     }
 
-    /// An ascent that begins at these duals and this temperature, and trusts duals so far from them: both in thousandths of a cost
-    /// unit.
+    /// An ascent that begins at these duals and this temperature, and trusts duals so far from them: both in
+    /// thousandths of a cost unit.
     pub fn starting(
         alloc: Global,
         table: &CostTable,
@@ -176,14 +176,15 @@ impl Ascent {
         rounded_up(promised) <= rounded_up(best)
     }
 
-    /// Whether the pool promises so little that no sum of this size is near: three temperatures for each aircraft below it.
+    /// Whether the pool promises so little that no sum of this size, in thousandths of a cost unit, is near: three
+    /// temperatures for each aircraft below it.
     pub fn falls_short(&self, goal: i128, aircraft: usize) -> bool {
         let room = (aircraft as i128).saturating_mul(self.temperature as i128 * 3);
         self.promised
             .is_some_and(|promised| promised.saturating_add(room) < goal)
     }
 
-    /// Learns the sum that exact pricing gives of duals. The best ones are kept.
+    /// Learns the sum that exact pricing gives of duals, in thousandths of a cost unit. The best ones are kept.
     pub fn learn(&mut self, duals: &Duals, sum: i128)
         requires { length duals.now.values ≡ length self.old.best }
         ensures { self.new ≡ better self.old duals.now.values sum }

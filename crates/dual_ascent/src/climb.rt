@@ -22,7 +22,7 @@ pub struct Limits<'a> {
     /// The duals that are trusted, and how far from them, in thousandths of a cost unit.
     pub center: &'a [i64],
     pub radius: i64,
-    /// No dual is larger, with or without its sign.
+    /// No dual is larger, with or without its sign, in the same unit.
     pub most: i64,
 }
 

@@ -1,4 +1,8 @@
 //! Climbing at a temperature that the caller knows, from where the duals are.
+//!
+//! No sum is learned and nothing cools: one climb is sweeps over the pool, and where the duals then are is its answer.
+//! The table of powers and the room for mixtures stay from one climb to the next, so a climb mostly allocates a copy of
+//! the duals.
 
 ghost use Rattle.branch_marks.specs.Settled.{AreDuals};
 
@@ -29,8 +33,8 @@ impl Climber {
         })
     }
 
-    /// Moves duals to where the sum over a pool is larger at a temperature, each by no more than the radius and within the box. Both
-    /// are in thousandths of a cost unit.
+    /// Moves duals to where the sum over a pool is larger at a temperature, each by no more than the radius and within
+    /// the box. Temperature and radius are in thousandths of a cost unit.
     pub fn climb(
         &mut self,
         book: &Book,

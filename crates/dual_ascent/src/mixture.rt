@@ -1,9 +1,9 @@
 //! Mixtures: for each aircraft its light routes of a pool, each with a mass that says how light it is.
 //!
-//! A mass is two to the power of minus a route's weight above its aircraft's base, in temperatures. Routes more than 30
-//! temperatures above the least have none, and are left out. The routes of an activity lie together, in order of aircraft,
-//! so moving its dual touches their masses and the sums of their aircraft in one walk. A base is taken anew only where
-//! masses get too large or too small for their sum.
+//! A mass is two to the power of minus a route's weight above its aircraft's base, in temperatures. Routes more than 20
+//! temperatures above the least take no part, and one that comes to be as far above the base has no mass. The routes of
+//! an activity lie together, in order of aircraft, so moving its dual touches their masses and the sums of their
+//! aircraft in one walk. A base is taken anew only where masses get too large or too small for their sum.
 
 use crate::demand::{Share, part_of, rise};
 use crate::groups::{Groups, Member};

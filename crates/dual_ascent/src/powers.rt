@@ -1,7 +1,8 @@
 //! Powers of two and their logarithms in whole numbers, by 1,024ths of an octave.
 //!
-//! A table has the powers of one octave, each once more the ratio of its neighbours, and all others are shifts of these.
-//! A power is within a millionth of what it should be, which is far more than a suggestion needs.
+//! A table has the powers of one octave, each once more the ratio of its neighbours, and all others are shifts of
+//! these. The table is right within a millionth. A power below 1 also loses the bits that are shifted out, so one 20
+//! octaves down is right within a thousandth: that is enough for a suggestion.
 
 use std::alloc::Global;
 use tail_book::Memory;

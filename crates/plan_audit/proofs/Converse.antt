@@ -1,5 +1,6 @@
--- Where the kept plan is legal and no name was dropped, no rule is broken. Each leg of a legal route is allowed, linked and
--- within its limits, and an activity that is flown once was met.
+-- Where the kept plan is legal and no name was dropped, no rule is broken. Each leg of a legal route is allowed, linked
+-- and within its limits, so no leg is listed by any rule: by induction on the names, and at an aircraft's name the
+-- legality of its own route takes over. An activity that is flown once was met, so none is uncovered.
 use Rattle.std.proofs.Common.{◌≡◌, ◌∙◌, sym, refl, ap, arith, subst, true≢false, ℕ, zero, suc, ◌+◌, ◌<◌, ◌≤◌, ℤ, pos, inl, inr, Bool, true, false, ◌&&◌, ◌||◌, cond, if◌then◌else◌, nat_eq, nat_lt, List, [], ◌∷◌, ◌++◌, map, length, replicate}
 use Rattle.std.specs.Prelude.{not, count_by}
 use Rattle.std.specs.List.{filter, range_with_len, IsDistinct, AllByRecursion}

@@ -1,5 +1,7 @@
--- Where the legs of a kept plan stand in its routes: the legs of one aircraft are those of its route, in its order, each
--- with the place at the end of the front before it.
+-- Where the legs of a kept plan stand in its routes: the legs of one aircraft are those of its route, in its order,
+-- each with the place at the end of the front before it. Both ways go by induction on the names: an activity is the
+-- next of the route that is being read, and a front becomes one longer. The hard case is the name of an aircraft, where
+-- the route that is read changes: an aircraft is met once, so no route further on is its.
 use Rattle.std.proofs.Common.{◌≡◌, ◌∙◌, sym, refl, ap, subst, true≢false, ℕ, inl, inr, ◌⊎◌, Bool, true, false, if◌then◌else◌, nat_eq, List, [], ◌∷◌, ◌++◌, Contains}
 use Rattle.std.specs.List.{IsDistinct}
 use Rattle.std.proofs.lemmas.Bool.{eq-eqb, eqb-true}

@@ -1,5 +1,6 @@
 -- Marks of the numbers met: at the number that is met one mark more is set, and at any other the marks and the list say
--- what they said.
+-- what they said. The activities that no route has are found along the numbers: a range that is one longer has its last
+-- number at the end, so the list of them grows by that number or stays.
 use Rattle.std.proofs.Common.{◌≡◌, ◌≢◌, ◌∙◌, sym, ap, arith, ℕ, ◌+◌, ◌<◌, inl, inr, Bool, true, false, ◌||◌, nat_eq, List, [], ◌∷◌, ◌++◌, length, map, set, append_assoc}
 use Rattle.std.proofs.lemmas.Bool.{cases_Bool}
 use Rattle.std.proofs.lemmas.Bool.Decides.{nat_tests}

@@ -1,4 +1,6 @@
--- The marks behind one name more, and the turns of the loops over names.
+-- How the loops over names go on. A name stands behind those that were met, and adds one number to the aircraft or to
+-- the activities, or none where it is dropped; so the marks still say what was met, with one mark more or as they were.
+-- Before the end a turn takes the first of the names that are left, and behind the last one nothing more is met.
 use Rattle.std.proofs.Common.{◌≡◌, ◌∙◌, refl, ap, ℕ, ◌+◌, ◌<◌, ◌≤◌, Bool, true, List, [], ◌∷◌, ◌++◌, length, set, get_or, drop}
 use Rattle.std.proofs.lemmas.List.{drop_all, drop_more, append-nil}
 use Rattle.tail_book.specs.Seen.{BookSeen, RawLineSeen}

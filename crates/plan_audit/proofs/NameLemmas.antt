@@ -1,4 +1,6 @@
--- An index of names that differ: each name is new when it comes, so the index is the list itself.
+-- An index of names that differ: each name is new when it comes, so the index is the list itself. By induction on a
+-- front of the list: the next name differs from all in the front, so it is among none of the index's names and goes to
+-- its end.
 use Rattle.std.proofs.Common.{◌≡◌, ◌≢◌, ◌∙◌, sym, refl, ap, ap₂, arith, ℕ, ◌+◌, ◌<◌, Bool, true, false, ◌||◌, List, [], ◌∷◌, ◌++◌, map, length, get_or, take, All, AllPairs}
 use Rattle.std.specs.List.{list_any}
 use Rattle.std.specs.Str.{bytes_eq}

@@ -1,5 +1,6 @@
--- A plan of the book's activities, none flown twice, is met and kept as it is when it is spelled by names: each name finds its
--- own number, and is new when it comes.
+-- A plan of the book's activities, none flown twice, is met and kept as it is when it is spelled by names: each name
+-- finds its own number, since names differ, and is new when it comes, since aircraft rise and no activity counts twice.
+-- By induction on the routes the activities behind an aircraft's name are its route, and no other route has them.
 use Rattle.std.proofs.Common.{◌≡◌, ◌≢◌, ◌∙◌, sym, refl, ap, arith, true≢false, ℕ, zero, suc, ◌+◌, ◌<◌, ◌≤◌, Bool, true, false, ◌||◌, cond, if◌then◌else◌, nat_eq, nat_lt, List, [], ◌∷◌, ◌++◌, map, length, get_or, Some, None, position, append_assoc, All, AllPairs}
 use Rattle.std.specs.Prelude.{count_by}
 use Rattle.std.specs.List.{position_or_len}

@@ -1,4 +1,4 @@
--- The rules that a plan breaks, rule by rule.
+-- The rules that a plan breaks, rule by rule: each gives the list of what breaks it, in reading order or by number.
 use Rattle.std.specs.Prelude.{ℕ, ℤ, List, [], ◌∷◌, ◌++◌, ◌+◌, map, filter, not, if◌then◌else◌}
 use Rattle.std.specs.List.{range_with_len}
 use Rattle.tail_book.specs.Seen.{BookSeen, CounterSeen}

@@ -84,7 +84,7 @@ pub fn legal_cost(book: &Book, table: &CostTable, plan: &Plan) -> u64
     plan_cost(book, table, &plan.0)
 }
 
-/// What a plan costs in a table, and nothing exactly where it isn't legal.
+/// What a plan costs in a table, in cost units, and nothing exactly where it isn't legal.
 pub fn audit_plan(
     alloc: Global,
     book: &Book,

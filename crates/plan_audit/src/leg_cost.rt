@@ -37,7 +37,7 @@ fn leg_cost(book: &Book, leg: Leg) -> u64
         + connection_cost(book, &book.rules.bands, leg.tail, leg.from, leg.activity)
 }
 
-/// What legs cost together.
+/// What legs cost together, in cost units.
 pub fn legs_cost(book: &Book, legs: &[Leg]) -> u64
     requires legs { All (IsLegOf book.now) legs.now }
     requires range { legs_cost book.now legs.now < 2 ^ 64 }

@@ -1,4 +1,7 @@
-//! Who flies what they may not: legs that a type, a tag, an avoided airport or a preassignment forbids, and legs in a curfew.
+//! Who flies what they may not: legs that a type, a tag, an avoided airport or a preassignment forbids, and legs in a
+//! curfew.
+//!
+//! Both are asked of each leg alone, in a pass over the legs for each, so that each list is in reading order.
 
 ghost use Rattle.std.specs.Prelude.{◌≡◌, ◌<◌, ◌++◌, IfOk, All};
 ghost use Rattle.tail_book.specs.Lookup.{activities, aircraft};

@@ -27,7 +27,7 @@ fn route_cost(book: &Book, table: &CostTable, k: u32, route: &[u32]) -> u64
     cost
 }
 
-/// What the routes of a plan cost, each flown by the aircraft of its number.
+/// What the routes of a plan cost, in cost units, each flown by the aircraft of its number.
 pub fn plan_cost(book: &Book, table: &CostTable, routes: &[Route]) -> u64
     requires table { IsTableFor book.now table.now }
     requires one_each { length routes.now ≡ aircraft book.now }

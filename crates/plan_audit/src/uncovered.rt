@@ -1,4 +1,6 @@
-//! The activities that no route of a plan has.
+//! The activities that no route of a plan has, by number.
+//!
+//! Reading the names has set a mark at each activity that a route has, so one pass over the marks finds the others.
 
 ghost use Rattle.std.specs.Prelude.{◌≡◌, ◌<◌, ◌++◌, ◌∷◌, [], map, filter, not, IfOk};
 ghost use Rattle.tail_book.specs.Lookup.{activities};

@@ -1,5 +1,6 @@
--- The route that fliers give an aircraft, found one flier after the other: the enumeration goes that way. One lemma says that
--- it is the route by its definition.
+-- The route that fliers give an aircraft, found one flier after the other: the enumeration goes that way. One lemma
+-- says that it is the route by its definition, by induction on the fliers that are left: the next activity has the
+-- number of those before it. A flier more at the end puts its activity at the end of one route, and changes no other.
 use Rattle.std.proofs.Common.{◌≡◌, ◌∙◌, ℕ, suc, ◌+◌, inl, inr, Bool, true, false, cond, arith, List, [], ◌∷◌, ◌++◌, length, get_or, refl, ap, sym, append_assoc, if◌then◌else◌}
 use Rattle.std.specs.Prelude.{map, nat_eq}
 use Rattle.std.specs.List.{filter, range_with_len}

@@ -1,4 +1,5 @@
--- What is appended piece by piece is appended as a whole.
+-- What is appended piece by piece is appended as a whole, since appending is associative. Lines of six, seven, nine and
+-- eleven pieces have a lemma each, and so have the parts of the whole picture.
 use Rattle.std.proofs.Common.{◌≡◌, ◌++◌, List, [], ◌∷◌, append_assoc}
 
 pub six : {A : Type 0} (a x₁ x₂ x₃ x₄ x₅ x₆ : List A) → a ++ x₁ ++ x₂ ++ x₃ ++ x₄ ++ x₅ ++ x₆ ≡ a ++ (x₁ ++ x₂ ++ x₃ ++ x₄ ++ x₅ ++ x₆)

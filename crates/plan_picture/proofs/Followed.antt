@@ -1,4 +1,6 @@
--- The values as they are followed, one further on.
+-- The values as they are followed, one further on. Those that were followed, and those of what is left, are all of
+-- them, so a turn moves the first of what is left behind those that were. Each value that is added can be counted on,
+-- so all can.
 use Rattle.std.proofs.Common.{◌≡◌, ◌∙◌, ℕ, ◌+◌, ◌^◌, ◌<◌, ℤ, pos, List, [], ◌∷◌, ◌++◌, ap, append_assoc, drop, get_or, length, map, sym}
 use Rattle.std.proofs.lemmas.List.{drop_more}
 use Rattle.std.proofs.lemmas.List.Elements.{All-append, All-cons, All-nil}

@@ -1,4 +1,5 @@
--- The latest end, one activity further on.
+-- The latest end, one activity further on: the latest over all is that over what is left, begun with the latest so far,
+-- so a turn takes the next end into it.
 use Rattle.std.proofs.Common.{◌≡◌, ◌∙◌, ℕ, ◌+◌, ◌<◌, ℤ, ap, drop, length}
 use Rattle.std.proofs.lemmas.List.{drop_more}
 use Rattle.std.specs.Int.{int_max}

@@ -1,4 +1,4 @@
--- A signed number is what its bits stand for.
+-- A signed number is what its bits stand for: one that fits into 64 bits, put into them and read again, is what it was.
 use Rattle.std.proofs.Common.{◌≡◌, ℤ, FitsSigned, of_z, to_z, w64}
 use Rattle.std.proofs.lemmas.Int.{to_z-of_z}
 

@@ -1,4 +1,5 @@
--- The bars of what no route has, one further on.
+-- The bars of what no route has, one further on: the lines so far and the bars of what is left are all of them, so a
+-- turn puts the bar of the next activity behind the lines.
 use Rattle.std.proofs.Common.{◌≡◌, ◌∙◌, ℕ, ◌+◌, ◌<◌, ℤ, List, ◌++◌, ap, append_assoc, drop, get_or, length, sym}
 use Rattle.std.proofs.lemmas.List.{drop_more}
 use Rattle.tail_book.specs.Seen.{BookSeen}

@@ -1,4 +1,4 @@
--- The curfews of an airport as bands over all days.
+-- The curfews of an airport as bands over all days: a piece of each day, in UTC.
 use Rattle.std.specs.Prelude.{ℕ, pos, ◌+◌, ◌-◌, ◌-ℤ◌, false, List, [], ◌∷◌, ◌++◌, codes, decimal, nat_eq, slice_index_or, unsigned_abs, Option, None, Some, if◌then◌else◌}
 use Rattle.std.specs.Int.{int_rem_euclid}
 use Rattle.tail_book.specs.Seen.{BookSeen, CurfewSeen}

@@ -1,4 +1,4 @@
--- The lines of a picture that are always the same.
+-- The lines of a picture that are always the same: its colours and letters, its grid, and the page around it.
 use Rattle.std.specs.Prelude.{ℕ, List, ◌++◌, codes}
 use Rattle.plan_report.specs.Lines.{newline}
 

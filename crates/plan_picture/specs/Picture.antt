@@ -1,4 +1,4 @@
--- The picture of a plan, as the text of an SVG.
+-- The picture of a plan, as the text of an SVG: its front with the title, curfews, dates, rows, and what no route has.
 use Rattle.std.specs.Prelude.{ℕ, ℤ, zero, suc, ◌+◌, ◌*◌, ◌/◌, List, [], ◌∷◌, ◌++◌, codes, decimal, length, min, ◌==◌, unsigned_abs, if◌then◌else◌}
 use Rattle.tail_book.specs.Seen.{BookSeen, RawPlanSeen}
 use Rattle.tail_book.specs.Cost.{plan_cost}

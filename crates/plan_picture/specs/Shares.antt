@@ -1,4 +1,4 @@
--- The counters of an aircraft at their greatest share of the limit.
+-- The counters of an aircraft at their greatest share of the limit, in hundredths and rounded down.
 use Rattle.std.specs.Prelude.{ℕ, ℤ, pos, ◌+◌, ◌*◌, ◌/◌, ◌%◌, List, [], ◌∷◌, ◌++◌, codes, decimal, map, min, nat_lt, unsigned_abs, if◌then◌else◌}
 use Rattle.std.specs.Int.{int_max, int_min}
 use Rattle.tail_book.specs.Seen.{BookSeen, CounterSeen}

@@ -1,4 +1,8 @@
 //! The bars of activities, and the rules that their aircraft break with them.
+//!
+//! A bar stands at the minutes of its activity, and is red where a rule is named with it. For each bar in an aircraft's
+//! row all broken rules are looked through, so naming them costs as many looks as there are bars times broken rules,
+//! and nothing where the plan is legal.
 
 ghost use Rattle.std.specs.Prelude.{◌≡◌, ◌<◌, ◌++◌, IfOk, OnOk, All, length};
 ghost use Rattle.tail_book.specs.Lookup.{activities, activity_of, airport_of, from_port, to_port};

@@ -9,7 +9,7 @@ ghost use Rattle.plan_picture.specs.Calendar.{date_text, day_in_month, day_of_er
 use tail_book::Memory;
 use tail_text::Line;
 
-/// Appends a date and a time of day.
+/// Appends the date and the time of day of a moment: minutes since 1970-01-01T00:00 UTC.
 pub fn add_moment(minute: u64, line: &mut Line) -> Result<(), Memory>
     requires { minute < 10_000_000_000 }
     ensures { OnOk result (line.new ≡ line.old ++ moment_text minute) }

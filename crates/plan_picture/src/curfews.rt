@@ -1,4 +1,8 @@
 //! The curfews of an airport as bands over all days.
+//!
+//! A curfew is the same on every day, so its band is one piece of a day that the picture repeats: one line, however
+//! many days are shown. The local minutes less the airport's offset, taken into a day, are those in UTC; a piece may go
+//! on past midnight.
 
 ghost use Rattle.std.specs.Prelude.{◌≡◌, ◌<◌, ◌++◌, ◌-ℤ◌, IfOk, OnOk, length, pos};
 ghost use Rattle.tail_book.specs.Lookup.{port_offset};

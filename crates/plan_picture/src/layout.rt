@@ -19,13 +19,13 @@ pub const LEFT: u64 = 340;
 /// The units above the first row, for the title and the calendar.
 pub const TOP: u64 = 130;
 
-/// The height of a row.
+/// The height of a row, in units.
 pub const ROW_HEIGHT: u64 = 100;
 
-/// The width of a day: its minutes.
+/// The width of a day, in units: its minutes.
 pub const DAY_WIDTH: u64 = 1_440;
 
-/// The minute at which an activity starts.
+/// The moment at which an activity starts: minutes since 1970-01-01T00:00 UTC.
 pub fn start_of(book: &Book, a: u32) -> i64
     requires { a < activities book.now }
     ensures value { result ≡ start_of book.now a }
@@ -34,7 +34,7 @@ pub fn start_of(book: &Book, a: u32) -> i64
     book.activities[a as usize].start
 }
 
-/// The minute at which an activity ends.
+/// The moment at which an activity ends, in the same minutes.
 pub fn end_of(book: &Book, a: u32) -> i64
     requires { a < activities book.now }
     ensures value { result ≡ end_of book.now a }
@@ -93,7 +93,7 @@ pub fn days_shown(book: &Book) -> u64
     minutes_to(first, last_end(book, first)) / DAY_WIDTH + 1
 }
 
-/// Where a moment stands, from the left.
+/// Where a moment stands, in units from the left.
 pub fn x_of(first: i64, moment: i64) -> u64
     requires first { IsNear first }
     requires moment { IsNear moment }
@@ -103,7 +103,7 @@ pub fn x_of(first: i64, moment: i64) -> u64
     LEFT + minutes_to(first, moment)
 }
 
-/// Where a row begins, from the top.
+/// Where a row begins, in units from the top.
 pub fn y_of(row: u64) -> u64
     requires { row < 1000 }
     ensures value { result ≡ y_of row }

@@ -25,7 +25,7 @@ use tail_book::{Book, Memory, Plan};
 use tail_outside::Sink;
 use tail_text::Line;
 
-/// Writes the picture of a plan, one put a line: its routes, and its cost or the rules that it breaks.
+/// Writes the picture of a plan, one put a line: its routes, and its cost, in cost units, or the rules that it breaks.
 pub fn write_picture<S: Sink>(
     alloc: Global,
     view: View,

@@ -1,4 +1,7 @@
 //! The rows of a picture: one for each aircraft in the book's order, and below them what no route has.
+//!
+//! A row is its head and then its route, activity by activity, each with what is marked before it. What no route has is
+//! dealt out to eight rows in turn, so the picture grows by eight rows at most.
 
 ghost use Rattle.std.specs.Prelude.{◌≡◌, ◌<◌, ◌++◌, ◌∷◌, [], IfOk, OnOk, All, length};
 ghost use Rattle.tail_book.specs.Lookup.{activities, aircraft, kind_of, tail_of, type_of};

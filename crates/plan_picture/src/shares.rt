@@ -1,4 +1,8 @@
 //! The counters of an aircraft at their greatest share of the limit.
+//!
+//! They are stepped along the route as the rules count them, and the greatest value of each is kept. A route that runs
+//! backwards in time could bring a value below 0 or far up, so values are held between 0 and a ceiling that no route of
+//! a book reaches: so each step stays within 64 bits. Two lists with a number a counter are made for each activity.
 
 ghost use Rattle.std.specs.Prelude.{◌≡◌, ◌<◌, ◌++◌, ◌^◌, IfOk, OnOk, All, length, map, pos};
 ghost use Rattle.tail_book.specs.Counters.{step};
@@ -13,7 +17,7 @@ use std::alloc::Global;
 use tail_book::{Book, Counter, Memory, Place};
 use tail_text::Line;
 
-/// The greatest value that is followed: no route of a book counts as far.
+/// The greatest value that is followed, in a counter's own unit: no route of a book counts as far.
 pub const CEILING: i64 = 1_000_000_000_000;
 
 /// The same, as a number without a sign.

@@ -1,4 +1,7 @@
 //! What is marked between two bars: the turn that is asked for, and a stop that clears counters.
+//!
+//! Both begin where the aircraft is free from the place before. The turn goes on to the earliest start that it allows,
+//! and the stop up to the next activity, with the names of the counters that it clears.
 
 ghost use Rattle.std.specs.Prelude.{◌≡◌, ◌<◌, ◌++◌, IfOk, OnOk, pos};
 ghost use Rattle.tail_book.specs.Lookup.{activities, aircraft};

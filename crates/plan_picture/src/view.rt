@@ -1,4 +1,4 @@
-//! What a picture shows beside the plan.
+//! What a picture shows beside the plan: the curfews of one airport, and a page around the picture, where asked for.
 
 ghost use Rattle.std.specs.Prelude.{◌≡◌};
 ghost use Rattle.plan_picture.specs.Ports.{port_named};

@@ -1,5 +1,6 @@
--- The numbers in the broken rules of a plan are of the book: those of names are none, those of legs are the legs' own, and
--- activities and counters are counted from 0 on.
+-- The numbers in the broken rules of a plan are of the book: those of names are none, those of legs are the legs' own,
+-- and activities and counters are counted from 0 on. Each list of a rule is what passes a test, so it keeps what holds
+-- of all, and the lists joined have it too.
 use Rattle.std.proofs.Common.{ℕ, zero, suc, ℤ, ◌+◌, ◌<◌, ◌≤◌, Bool, true, false, List, [], ◌∷◌, ◌++◌, length, map, arith, not, if◌then◌else◌}
 use Rattle.std.proofs.lemmas.List.Elements.{All-append, All-cons, All-head, All-tail, All-same}
 use Rattle.std.specs.List.{All, filter, range_with_len}

@@ -1,4 +1,6 @@
--- The ids of a line, part by part: those before the limit are kept, and the others are only tested.
+-- The ids of a line, part by part: those before the limit are kept, and the others are only tested. By induction on the
+-- parts that were seen: all of them are names, and the first ones, as many as may be, are kept. A part past the limit
+-- is remembered and not refused at once, since a later part that is no name decides first.
 use Rattle.std.proofs.Common.{◌≡◌, ◌∙◌, ◌<◌, ◌≤◌, ℕ, ◌+◌, Bool, true, false, sym, List, [], ◌∷◌, ◌++◌, Result, Ok, Err, length, length-append, take, refl, arith, nat_lt, nat_le, length-take, append_assoc, ap}
 use Rattle.std.specs.List.{list_all}
 use Rattle.std.proofs.lemmas.Bool.{le-leb, le-ltb, lt-leb, lt-ltb, ltb-false, ltb-true}

@@ -1,4 +1,4 @@
--- Lines of text, one after the other.
+-- Lines that are printed, one after the other: each brings its own newline, so their text is all of them joined.
 use Rattle.std.specs.Prelude.{ℕ, List, [], ◌∷◌, ◌++◌}
 
 -- the end of a line

@@ -1,4 +1,4 @@
--- What is printed where a table is refused.
+-- What is printed where a table is refused: the refusal's code, the table, and the place in it.
 use Rattle.std.specs.Prelude.{ℕ, List, ◌++◌, codes, decimal}
 use Rattle.tail_text.specs.declared.refusal.Refusal.{Refusal}
 use Rattle.tail_text.specs.declared.refusal.Table.{Table}

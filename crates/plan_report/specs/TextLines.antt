@@ -1,4 +1,4 @@
--- The lines of a text.
+-- The lines of a text: the parts between its newlines, with whether a newline ends each.
 use Rattle.std.specs.Prelude.{ℕ, Bool, true, false, List, [], ◌∷◌, length, ◌==◌, if◌then◌else◌}
 use Rattle.tail_text.specs.Parts.{parts_of}
 

@@ -1,6 +1,7 @@
 //! Sets of numbers as bits, row behind row in one list of words.
 //!
-//! What is asked past the end is not there, and what is put there is left out.
+//! A word has 64 numbers of a row, so what rows share is counted or searched 64 numbers at a time. What is asked past
+//! the end is not there, and what is put there is left out.
 
 use std::alloc::Global;
 use tail_book::Memory;

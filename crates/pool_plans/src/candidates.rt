@@ -1,7 +1,8 @@
 //! The routes that may stand in a plan cheaper than the best known one, lightest first.
 //!
-//! A plan's cost in thousandths is the Lagrangian sum over the pool and what its routes weigh above the least ones. So a
-//! route takes part only where that alone stays within the room between the sum and the cost to undercut.
+//! A plan's cost in thousandths is the Lagrangian sum over the pool and what its routes weigh above the least ones. So
+//! a route takes part only where that alone stays within the room between the sum and the cost to undercut. Of more
+//! than 3,000 such routes the lightest take part, so a search that finds nothing says nothing.
 
 use restricted_master::Pool;
 use std::alloc::Global;
@@ -10,7 +11,8 @@ use tail_book::{COST_UNIT, Memory};
 // No more routes than this take part.
 const MOST: usize = 3000;
 
-/// A route of the pool: its number, its aircraft, and what it weighs above the least weight of that aircraft.
+/// A route of the pool: its number, its aircraft, and what it weighs above the least weight of that aircraft, in
+/// thousandths of a cost unit.
 #[derive(Clone, Copy, Debug)]
 pub struct Candidate {
     pub number: usize,
@@ -18,7 +20,8 @@ pub struct Candidate {
     pub excess: i64,
 }
 
-/// The routes that take part, the lightest first, and how much all routes of a plan may weigh above the least ones.
+/// The routes that take part, the lightest first, and how much all routes of a plan may weigh above the least ones, in
+/// thousandths of a cost unit.
 #[derive(Debug, Drop)]
 pub struct Candidates {
     pub routes: Vec<Candidate>,

@@ -1,4 +1,8 @@
 //! Plans from a pool, judged before they are told.
+//!
+//! The search only sees who flies what, and duals only suggest where to look. So what it puts together is audited, and
+//! it is the audit that makes a plan legal and tells its cost. A cover that leaves activities out is no plan, and is
+//! told unjudged.
 
 ghost use Rattle.std.specs.Prelude.{◌≡◌, Some, IfOk, IfSome};
 ghost use Rattle.tail_book.specs.inside.CostTable.{IsTableFor};
@@ -38,8 +42,9 @@ fn routes_of(
     Ok(routes)
 }
 
-/// Looks among the routes of a pool for one of each of so many aircraft, so that each activity stands in one of them but those that
-/// may be left out. Together they undercut a cost, as far as the duals tell. It takes so many turns at most.
+/// Looks among the routes of a pool for one of each of so many aircraft, so that each activity stands in one of them
+/// but those that may be left out. Together they undercut a cost, in cost units, as far as the duals tell. It takes so
+/// many turns at most.
 pub fn find_cover(
     alloc: Global,
     pool: &Pool,
@@ -58,8 +63,9 @@ pub fn find_cover(
     Ok(Some(routes_of(alloc, pool, &numbers, aircraft)?))
 }
 
-/// Looks among the routes of a pool for a plan that undercuts a cost, for so many turns. The duals say which routes are
-/// light. What it finds is legal and has the cost that it says; that there is nothing to find is not promised.
+/// Looks among the routes of a pool for a plan that undercuts a cost, in cost units, for so many turns. The duals say
+/// which routes are light. What it finds is legal and has the cost that it says; that there is nothing to find is not
+/// promised.
 pub fn find_plan(
     alloc: Global,
     book: &Book,

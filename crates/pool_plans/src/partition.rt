@@ -1,9 +1,11 @@
 //! The search for a partition: which routes to take, so that each aircraft has one and each activity stands in one.
 //!
-//! What is to be filled next is the aircraft or activity with the fewest routes left, and each of these is tried, lightest
-//! first. A route that is taken rules out all that share its aircraft or an activity. A branch ends where something has no
-//! route left, or where the lightest routes left of all aircraft weigh more than there is room for. Sets are bits, so a
-//! turn costs a few thousand words, and the search stops after its turns.
+//! What is to be filled next is the aircraft or activity with the fewest routes left, and each of these is tried,
+//! lightest first. A route that is taken rules out all that share its aircraft or an activity. A branch ends where
+//! something has no route left, or where the lightest routes left of all aircraft weigh more than there is room for.
+//! Sets are bits, so a turn reads a word for every 64 routes at each aircraft or activity that is still to be filled,
+//! and the search stops after its turns. The largest set says of each two routes whether they exclude each other: some
+//! 1.1 megabytes for 3,000 routes.
 
 ghost use Rattle.std.specs.Prelude.{◌≡◌, length};
 

@@ -1,4 +1,7 @@
--- The choices of all aircraft: the routes with the activity one after the other, then those without it, aircraft by aircraft.
+-- The choices of all aircraft: the routes with the activity one after the other, then those without it, aircraft by
+-- aircraft. Each is the least over a list that has exactly the routes in question. The hard case is an aircraft whose
+-- routes are not walked, since its least weight is below all that have the activity: the route of that weight then
+-- lacks it, so the least weight is the one without the activity too.
 use Rattle.std.proofs.Common.{◌≡◌, ◌≢◌, ◌<◌, ◌≤◌, ◌+◌, ◌^◌, ◌+ℤ◌, ℕ, ℤ, pos, arith, refl, sym, ◌∙◌, ap, subst, inl, inr, true, false, List, [], length, get_or, set, Option, Some, None}
 use Rattle.std.proofs.lemmas.Int.{ints}
 use Rattle.std.proofs.lemmas.Bool.{cases_eq, both_ways, eq-eqb, and_from, and_parts}

@@ -1,4 +1,6 @@
--- Sweep after sweep: the sum is no less, and what is left up to its bound falls until nothing moves.
+-- Sweep after sweep: the sum is no less, and what is left up to its bound falls until nothing moves. A visit that moves
+-- a dual gains a cost unit; one that moves none takes the mark of its activity away and sets no other. So a sweep that
+-- moves none ends with no mark, and what is not marked is settled.
 use Rattle.std.proofs.Common.{◌≡◌, ◌<◌, ◌+◌, ◌≤ℤ◌, ◌+ℤ◌, ◌-ℤ◌, ℕ, ℤ, pos, negsuc, arith, refl, ◌∙◌, ap, inl, inr, Bool, true, false, List, Option, Some}
 use Rattle.std.proofs.lemmas.Int.{ints}
 use Rattle.std.proofs.lemmas.Bool.{both_ways, cases_eq}

@@ -1,4 +1,7 @@
--- A list compacted in place: what stays of the places that were looked at stands at the front.
+-- A list compacted in place: what stays of the places that were looked at stands at the front, and from the present
+-- place on nothing has moved. By induction on the places: what stays is written behind the front, at or before the
+-- place where it was read, so nothing is lost that is still to be read. At the end the front is what stays of the whole
+-- list.
 use Rattle.std.proofs.Common.{◌≡◌, ◌≢◌, ℕ, ◌+◌, ◌<◌, ◌≤◌, arith, refl, true, false, Bool, cond, List, [], ◌∷◌, ◌++◌, length, get_or, set, take, sym, ◌∙◌, ap, ap₂, subst, map, get_or-set_other}
 use Rattle.std.specs.Prelude.{filter}
 use Rattle.std.proofs.lemmas.List.{length-set, take_all, take_more_set, append-nil}

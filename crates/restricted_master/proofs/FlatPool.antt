@@ -1,4 +1,6 @@
--- A pool in flat lists: what one entry more leaves as it was.
+-- A pool in flat lists, and one entry more. Every entry lies within the activities that were there, and what is put
+-- behind them moves none of these, so each old entry is seen as before. The new entry begins where the activities
+-- ended, so it is seen as the route that was put, and it comes last.
 use Rattle.std.proofs.Common.{◌≡◌, ◌≢◌, ◌<◌, ◌≤◌, ◌+◌, ◌-◌, ◌^◌, ℕ, arith, refl, sym, ◌∙◌, ap, ap₂, subst, List, [], ◌∷◌, ◌++◌, length, get_or, take, drop, map}
 use Rattle.std.specs.Prelude.{All, AllPairs, Contains, slice_range}
 use Rattle.std.specs.List.{AllByRecursion}

@@ -1,4 +1,6 @@
--- Numbers of routes in the lists of their hashes.
+-- Numbers of routes in the lists of their hashes. A number that is put into one list stays in it and leaves the other
+-- lists as they are, so by induction on the routes each listed one is in its own list. What equals a listed route has
+-- its hash and thus its list: so a route that is at no number of its list is none of the listed ones.
 use Rattle.std.proofs.Common.{◌≡◌, ◌≢◌, ◌<◌, ◌≤◌, ◌+◌, ◌%◌, ℕ, arith, sym, ◌∙◌, ap, ap₂, subst, inl, inr, List, [], ◌∷◌, ◌++◌, length, get_or, set}
 use Rattle.std.specs.Prelude.{Contains}
 use Rattle.std.proofs.lemmas.Bool.{cases_eq}

@@ -1,4 +1,6 @@
--- A pool of which some entries are left, in their order.
+-- A pool of which some entries are left, in their order. What is seen of the entries that pass is what passes among
+-- those that are seen, so all that holds of each entry, or of each two, holds of those left: they lie within the
+-- activities, have their hashes, differ, and cost what they did.
 use Rattle.std.proofs.Common.{◌≡◌, ◌≢◌, ◌<◌, ℕ, arith, refl, sym, ◌∙◌, ap, ap₂, subst, Bool, true, false, cond, List, [], ◌∷◌, length, map}
 use Rattle.std.specs.Prelude.{All, AllPairs, filter}
 use Rattle.std.proofs.lemmas.List.Elements.{All-filter}

@@ -1,4 +1,6 @@
--- The least so far, with one number more; and the least over places of a list as the least over what stands there.
+-- The least so far, with one number more: one that does not pass, or is no lighter, leaves it, and a lighter one that
+-- passes takes its place. And the least over places of a list is the least over what stands there, since each number
+-- that passes has a place, and each place a number.
 use Rattle.std.proofs.Common.{◌≡◌, ◌⊎◌, ◌<◌, ◌+◌, ◌≤ℤ◌, ◌-ℤ◌, ℕ, ℤ, pos, arith, refl, sym, ◌∙◌, ap, subst, inl, inr, Bool, true, false, cond, List, length, get_or, Option, Some, None}
 use Rattle.std.proofs.lemmas.Int.{ints, clamps}
 use Rattle.std.proofs.lemmas.Bool.{cases_eq, both_ways, and_from, and_parts}

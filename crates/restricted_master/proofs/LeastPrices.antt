@@ -1,4 +1,8 @@
--- The two least prices, one aircraft after the other.
+-- The two least prices, one aircraft after the other. One more price takes its place among the two: the least becomes
+-- the lesser of both, and the second is what then comes next. So none takes the activity below the least, and of any
+-- two aircraft one keeps off below the second. The hard case is a pair with the new aircraft: the new second is at most
+-- the greater of the least so far and the new price, so the other one keeps off below it where the least is the
+-- greater, and the new one where the price is.
 use Rattle.std.proofs.Common.{◌≡◌, ◌⊎◌, ◌<◌, ◌+◌, ◌≤ℤ◌, ◌-ℤ◌, ℕ, ℤ, inl, inr, arith, List, Option, Some, None, refl, sym, subst}
 use Rattle.std.proofs.lemmas.Int.{ints, clamps}
 use Rattle.std.proofs.lemmas.Bool.{cases_eq}

@@ -1,4 +1,7 @@
--- Lists of numbers, one route or one aircraft after the other.
+-- The lists of routes by aircraft and by activity, as they grow by one route or one aircraft at a time. A list is what
+-- passes a test among the numbers so far, and those with one more have it at the end: so the list of the aircraft that
+-- the route is of gets the number last, and all others stay. By activity the same holds along a route, whose activities
+-- rise, so no list gets the number twice.
 use Rattle.std.proofs.Common.{◌≡◌, ◌≢◌, ◌<◌, ◌≤◌, ◌+◌, ℕ, zero, suc, arith, refl, sym, ◌∙◌, ap, ap₂, inl, inr, Bool, true, false, cond, List, [], ◌∷◌, ◌++◌, length, get_or, set, take}
 use Rattle.std.specs.Prelude.{All, nat_eq, ◌||◌, filter, if◌then◌else◌}
 use Rattle.std.specs.List.{flat_map, range_with_len}

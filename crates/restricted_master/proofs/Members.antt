@@ -1,4 +1,6 @@
--- Which numbers the lists of a pool have: each route of an aircraft once, and each route with an activity once.
+-- Which numbers the lists of a pool have: each route of an aircraft once, and each route with an activity once. A list
+-- is a filter of a range, or of the lists of several aircraft joined. A filter keeps numbers apart, and the lists of
+-- two aircraft share none, since a route is of one aircraft.
 use Rattle.std.proofs.Common.{◌≡◌, ◌≢◌, ◌⊎◌, ◌<◌, ◌≤◌, ◌+◌, ℕ, zero, suc, arith, refl, sym, ◌∙◌, ap, subst, inl, inr, Bool, true, false, cond, List, [], ◌∷◌, ◌++◌, length, get_or, take}
 use Rattle.std.specs.Prelude.{nat_eq, ◌||◌, filter}
 use Rattle.std.specs.List.{flat_map, range_with_len}

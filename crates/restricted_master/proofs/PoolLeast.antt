@@ -1,4 +1,7 @@
--- The least weight in a pool as the least over the numbers of its routes, and how small weights are.
+-- The least weight in a pool as the least over the numbers of its routes, and how small weights are. The least weight
+-- by its definition is that of some entry, and so of a number, and no number of the aircraft has less. Duals of the box
+-- keep each weight within 2^61 of 0. A least weight is that of one route, so it is as small, and sums of so many of
+-- them are bounded by their number times 2^61.
 use Rattle.std.proofs.Common.{◌≡◌, ◌<◌, ◌≤◌, ◌*◌, ◌≤ℤ◌, ◌^◌, ℕ, suc, ℤ, pos, arith, refl, sym, ◌∙◌, ap, subst, List, [], ◌∷◌, length, get_or, Option, Some, None}
 use Rattle.std.proofs.lemmas.Int.{ints}
 use Rattle.std.proofs.lemmas.Bool.{eq-eqb, eqb-true}

@@ -1,4 +1,7 @@
--- The Lagrangian sum over a pool as a function of one dual, and what is kept when that dual moves.
+-- The Lagrangian sum over a pool as a function of one dual, and what is kept when that dual moves. What an aircraft
+-- takes at a dual is its least weight in the pool, so the sum is that part of it which the choices give, and a rest
+-- that the dual does not move. Two duals then differ in the sum by what they differ in that part, so the best of the
+-- part is the best.
 use Rattle.std.proofs.Common.{◌≡◌, ◌<◌, ◌≤ℤ◌, ◌<ℤ◌, ◌+ℤ◌, ◌-ℤ◌, ℕ, zero, suc, ℤ, pos, arith, refl, sym, ◌∙◌, ap, ap₂, subst, inl, inr, Bool, true, false, List, [], ◌∷◌, length, get_or, set, map, Option, Some, None}
 use Rattle.std.proofs.lemmas.Int.{ints}
 use Rattle.std.proofs.lemmas.Bool.{cases_eq, both_ways, eq-eqb}

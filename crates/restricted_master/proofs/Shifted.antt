@@ -1,4 +1,6 @@
--- What a change of one dual does to the weights: those of the routes with the activity fall by what it rises.
+-- What a change of one dual does to the weights: those of the routes with the activity fall by what it rises, and all
+-- others stay. By induction on a route, whose activities rise: so behind the activity it does not come again, and its
+-- dual is counted once. The least weight of an aircraft is then the lesser of its two choices at the new dual.
 use Rattle.std.proofs.Common.{◌≡◌, ◌≢◌, ◌⊎◌, ◌<◌, ◌≤◌, ◌+◌, ◌*◌, ◌+ℤ◌, ◌-ℤ◌, ℕ, ℤ, pos, arith, refl, sym, ◌∙◌, ap, ap₂, subst, inl, inr, Bool, true, false, List, [], ◌∷◌, length, get_or, set, take, Option, Some, None}
 use Rattle.std.proofs.lemmas.Int.{ints, clamps}
 use Rattle.std.proofs.lemmas.Bool.{cases_eq, both_ways, eq-eqb, and_from, and_parts}

@@ -1,4 +1,4 @@
--- What dropping the routes that do not fit leaves.
+-- What dropping the routes that do not fit leaves: the others, in their order, each with its cost.
 use Rattle.std.specs.Prelude.{◌≡◌, Bool, List, filter}
 use Rattle.tail_book.specs.Seen.{BookSeen}
 use Rattle.tail_book.specs.inside.Seen.{CostTableSeen}

@@ -1,4 +1,4 @@
--- The routes of a pool by activity and by aircraft.
+-- The routes of a pool by activity, in order of aircraft, and by aircraft, as lists of their numbers.
 use Rattle.std.specs.Prelude.{ℕ, ◌≡◌, ◌<◌, List, [], Bool, nat_eq, filter, length, slice_index_or}
 use Rattle.std.specs.List.{flat_map, range_with_len}
 use Rattle.tail_book.specs.Numbers.{contains}

@@ -1,4 +1,4 @@
--- A pool of routes, each kept with its cost.
+-- A pool of routes, each kept with its cost, and what makes it one for a book and its table.
 use Rattle.std.specs.Prelude.{◌≡◌, ℕ, ◌<◌, List, [], All, Any, map, slice_index_or}
 use Rattle.tail_book.specs.Seen.{BookSeen}
 use Rattle.tail_book.specs.declared.place.Place.TheVariants.{Carry}

@@ -1,4 +1,8 @@
 //! Adding routes to a pool: a route is looked for by its hash, and then compared whole.
+//!
+//! So a route that is new is hardly ever compared with another, and what adding costs is its hash, its cost, and a walk
+//! over one list of numbers. All growths are asked for before a route is put, so without memory the pool is what it
+//! was.
 
 ghost use Rattle.std.specs.Prelude.{◌≡◌, ◌<◌, ◌≤◌, ◌+◌, ◌↔◌, ◌^◌, ◌++◌, ◌∷◌, [], Contains, IfOk, IsTrue, MatchOption, OnErr, length, vec_capacity, vec_len};
 ghost use Rattle.tail_book.specs.Lookup.{activities, aircraft};

@@ -1,4 +1,7 @@
 //! What an aircraft can choose of an activity, and from which dual on it takes the activity.
+//!
+//! A dual that rises makes all routes with its activity lighter by the same, and leaves the others. So the two least
+//! weights, with the activity and without it, tell what the aircraft takes at any dual of it.
 
 ghost use Rattle.std.specs.Prelude.{◌≡◌, pos, ◌-ℤ◌, ◌^◌};
 ghost use Rattle.std.specs.Int.{int_max, int_min};
@@ -6,7 +9,7 @@ ghost use Rattle.tail_book.specs.inside.Sound.{IsWithin};
 ghost use Rattle.restricted_master.specs.inside.Choices.{price_of, taken_at, IsSmall, IsSmallChoice};
 
 /// The least weight of an aircraft's routes that have an activity, with the activity's dual left out, and that of its
-/// other routes. Nothing stands where it has no such route.
+/// other routes, in thousandths of a cost unit. Nothing stands where it has no such route.
 #[derive(Clone, Copy, Debug)]
 pub struct Choice {
     pub with: Option<i64>,

@@ -1,4 +1,7 @@
-//! What a route costs an aircraft by a table.
+//! What a route costs an aircraft by a table, in cost units: asked once, when the route comes into a pool.
+//!
+//! A leg costs at most the table's two maxima, and a rising route has no more legs than the book has activities, so no
+//! sum wraps.
 
 ghost use Rattle.std.specs.Prelude.{◌≡◌, ◌<◌, ◌≤◌, ◌+◌, ◌*◌, length};
 ghost use Rattle.tail_book.specs.Lookup.{activities, aircraft};
@@ -27,7 +30,7 @@ fn leg_cost(book: &Book, table: &CostTable, k: u32, from: Place, b: u32) -> u64
     table.activity_cost(k, b) + connection_cost(book, &table.bands, k, from, b)
 }
 
-/// What a route costs, from the carry-in on.
+/// What a route costs, in cost units, from the carry-in on.
 pub fn route_cost(book: &Book, table: &CostTable, k: u32, route: &[u32]) -> u64
     requires table { IsTableFor book.now table.now }
     requires aircraft { k < aircraft book.now }

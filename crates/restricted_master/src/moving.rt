@@ -1,4 +1,8 @@
 //! A look at one activity: its dual moves to the best number where that gains a cost unit, and with it all weights.
+//!
+//! What each aircraft can choose gives the sum at any number for the dual, so nothing moves before the best one is
+//! known. Then only the routes with the activity change, all by the same, and each aircraft's least weight is the
+//! lesser of its two choices: no route is weighed anew, and nothing is allocated.
 
 ghost use Rattle.std.specs.Prelude.{◌≡◌, ℕ, ◌<◌, ◌≤◌, ◌-ℤ◌, ◌^◌, if◌then◌else◌, All, length, pos};
 ghost use Rattle.tail_book.specs.Lookup.{activities, aircraft};

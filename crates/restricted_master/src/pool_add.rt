@@ -1,4 +1,4 @@
-//! What adding a route to a pool comes to.
+//! What adding a route to a pool comes to: whether it is new or there already, the answer names its number in the pool.
 
 /// What adding a route comes to.
 #[derive(Clone, Copy, PartialEq, Eq, Debug)]

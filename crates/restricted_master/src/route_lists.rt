@@ -1,7 +1,8 @@
 //! The routes of a pool by activity and by aircraft, as lists of their numbers.
 //!
-//! They are made in one walk over the pool, aircraft by aircraft, so that the routes of an activity come in order of
-//! aircraft. Whoever goes over a pool many times makes them once, and they serve until the pool changes.
+//! The pool is walked once for the lists by aircraft, and then once more, aircraft by aircraft, so that the routes of
+//! an activity come in order of aircraft. Whoever goes over a pool many times makes the lists once, and they serve
+//! until the pool changes.
 
 ghost use Rattle.std.specs.Prelude.{◌≡◌, ℕ, ◌<◌, ◌≤◌, ◌^◌, ◌++◌, ◌∷◌, [], All, length, replicate, slice_set, IfOk, OnErr};
 ghost use Rattle.tail_book.specs.Lookup.{activities, aircraft};

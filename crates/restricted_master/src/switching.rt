@@ -64,7 +64,7 @@ pub fn best_dual(choices: &[Choice], low: i64, high: i64, dual: i64) -> i64
     lesser(greater(dual, prices.least), prices.second)
 }
 
-/// What all aircraft take at a dual of the activity, with the dual itself.
+/// What all aircraft take at a dual of the activity, with the dual itself, in thousandths of a cost unit.
 pub fn part_at(choices: &[Choice], dual: i64) -> i128
     requires small { (k : ℕ) → k < length choices.now → IsSmallChoice (choice_at choices.now k) }
     requires dual { IsSmall dual }

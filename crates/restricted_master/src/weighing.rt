@@ -1,6 +1,7 @@
 //! What routes of a pool weigh under duals, and the least weight of an aircraft.
 //!
-//! The cost of a route is kept with it, so a weight is a walk over its duals alone.
+//! The cost of a route is kept with it, so a weight is a walk over its duals alone. The least weight of one aircraft is
+//! a walk over the aircraft of all routes in the pool, of which only its own are weighed.
 
 ghost use Rattle.std.specs.Prelude.{◌≡◌, ◌<◌, ◌-ℤ◌, ◌^◌, pos, All, length, if◌then◌else◌, nat_eq, Some};
 ghost use Rattle.tail_book.specs.Lookup.{aircraft};
@@ -74,7 +75,8 @@ fn with_route(
 }
 
 impl Pool {
-    /// The least weight of an aircraft's routes in the pool, and none where it has no route of it.
+    /// The least weight of an aircraft's routes in the pool, in thousandths of a cost unit, and none where it has no
+    /// route of it.
     pub fn least(&self, book: &Book, table: &CostTable, duals: &Duals, k: u32) -> Option<i64>
         requires table { IsTableFor book.now table.now }
         requires pool { IsPoolFor table.now book.now self.now }

@@ -1,4 +1,4 @@
--- Which numbers were met, as marks.
+-- Which numbers were met, as marks: one for each number, set where it was met.
 use Rattle.std.specs.Prelude.{ℕ, ◌<◌, ◌≡◌, List, Bool, false, length, slice_index_or}
 use Rattle.tail_book.specs.Numbers.{contains}
 

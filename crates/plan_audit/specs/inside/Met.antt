@@ -1,4 +1,4 @@
--- The names that are met are of the book, or dropped.
+-- What holds of a name that is met: its number is of the book, or it is dropped and has none.
 use Rattle.std.specs.Prelude.{◌<◌, ⊤}
 use Rattle.tail_book.specs.Seen.{BookSeen}
 use Rattle.tail_book.specs.Lookup.{activities, aircraft}

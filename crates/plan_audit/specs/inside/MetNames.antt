@@ -1,4 +1,4 @@
--- What holds while a plan is read.
+-- What holds while a plan is read: there is a mark for each aircraft and activity, and it tells whether that was met.
 use Rattle.std.specs.Prelude.{◌≡◌, length}
 use Rattle.tail_book.specs.Lookup.{activities, aircraft}
 use Rattle.tail_book.specs.Seen.{BookSeen}

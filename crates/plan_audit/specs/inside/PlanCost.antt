@@ -1,4 +1,4 @@
--- What the audit of a plan of numbers answers.
+-- What the audit of a plan of numbers answers: what a legal plan costs in a table, and nothing for any other.
 use Rattle.std.specs.Prelude.{ℕ, ◌≡◌, List, Option, None, Some}
 use Rattle.tail_book.specs.Seen.{BookSeen}
 use Rattle.tail_book.specs.inside.Seen.{CostTableSeen}

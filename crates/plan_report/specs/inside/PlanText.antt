@@ -1,4 +1,5 @@
--- How much a plan file holds at most.
+-- How much a plan file holds at most: as many lines as a book may have aircraft, each of as many ids as it may have
+-- activities.
 use Rattle.std.specs.Prelude.{◌≤◌, length, All}
 use Rattle.tail_book.specs.Seen.{RawPlanSeen}
 use Rattle.tail_book.specs.declared.limits.TheConstants.{ACTIVITY_LIMIT, TAIL_LIMIT}

@@ -1,4 +1,4 @@
--- Which plans and outcomes can be printed.
+-- Which plans and outcomes can be printed: those whose plan, if any, has a route for each aircraft and is of the book.
 use Rattle.std.specs.Prelude.{ℕ, ◌<◌, ◌≡◌, ⊤, All, length, List}
 use Rattle.tail_book.specs.Seen.{BookSeen}
 use Rattle.tail_book.specs.Lookup.{activities, aircraft}

@@ -1,4 +1,4 @@
--- What equal routes of one aircraft have in common, and few others.
+-- The hash of a route and its aircraft: equal routes of one aircraft have the same, and few others do.
 use Rattle.std.specs.Prelude.{ℕ, ◌+◌, ◌*◌, ◌%◌, ◌^◌, List, [], ◌∷◌}
 use Rattle.restricted_master.specs.declared.hashing.TheConstants.{FACTOR}
 

@@ -1,4 +1,4 @@
--- One dual moves: what it leaves settled, and what it gains.
+-- One dual moves: what it leaves settled, and what it gains, for one look, one visit and one sweep.
 use Rattle.std.specs.Prelude.{◌≡◌, ℕ, ℤ, pos, ◌+ℤ◌, ◌≤ℤ◌, ◌<ℤ◌, ◌<◌, List, Bool, true, false, length, slice_index_or}
 use Rattle.tail_book.specs.Seen.{BookSeen}
 use Rattle.tail_book.specs.inside.Seen.{CostTableSeen}
