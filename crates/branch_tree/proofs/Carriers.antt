@@ -1,4 +1,6 @@
--- Who may fly: where there is no hole the least number at which an activity is alive is an aircraft of the book.
+-- The number that the code finds for an activity is the least aircraft that may fly it. Below it nobody is alive there:
+-- the code went over all of these. The one case to look at is that it is no aircraft of the book: then nobody of the
+-- book is alive there, and the activity is a hole. Marks that are told to be fixed have none.
 use Rattle.std.proofs.Common.{◌≡◌, ℕ, ◌<◌, ◌≤◌, inl, inr, true, false, arith, List, refl}
 use Rattle.std.proofs.lemmas.Bool.{both_ways, cases_lt}
 use Rattle.tail_book.specs.Seen.{BookSeen}

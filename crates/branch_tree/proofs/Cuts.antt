@@ -1,4 +1,7 @@
--- What a log tells of events that are due, one part after the other: all of them, or a front of them where it failed.
+-- What a log tells of events that are due: all of them, or a front of them where it failed. Parts that are told one
+-- after the other are told together; the log had not ceased in between, since one that has ceased stays so. A front of
+-- a later part, behind parts that were told whole, is a front of all; so is a front of the first part, since only what
+-- is left grows. An event at which the log is torn stays the one that comes next.
 use Rattle.std.proofs.Common.{◌≡◌, ◌≤◌, ◌∙◌, ◌⊎◌, inl, inr, false, List, [], ◌∷◌, ◌++◌, refl, sym, ap, subst, append_assoc, append-nil, arith}
 use Rattle.branch_marks.specs.declared.event.Event.{Event}
 use Rattle.branch_marks.specs.LogShown.{LogShown}

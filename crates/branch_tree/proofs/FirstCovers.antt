@@ -1,4 +1,7 @@
--- Covers of the aircraft one after the other: with one more shown they are shown, and with one that was begun.
+-- Covers are told one aircraft after the other. Those before aircraft k, each shown for the aircraft of its place, and
+-- one more that is shown for k are those before k + 1; when k is the number of aircraft they show a bound. A stop
+-- within the cover of k leaves those before it with that cover, if it is shown, or without it, if nothing of it was
+-- told: both are first covers.
 use Rattle.std.proofs.Common.{◌≡◌, ◌∙◌, ℕ, ℤ, pos, ◌+◌, ◌<◌, ◌≤◌, arith, List, [], ◌∷◌, ◌++◌, length, length-append, map, take, get_or, refl, sym, ap, subst, append-nil}
 use Rattle.std.proofs.lemmas.List.{take_more, map-append}
 use Rattle.std.proofs.lemmas.List.Elements.{All-head}

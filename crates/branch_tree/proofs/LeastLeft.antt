@@ -1,4 +1,7 @@
--- The least bound that is left, one closing node after the other; and the tree of a search from its two passes.
+-- The least bound that is left, one closing node more. A leaf that is stuck, or whose bound reaches the target, is not
+-- left and changes nothing. Any other leaves exactly one bound, which becomes the least where it is lower or the first.
+-- Then the two passes are the tree of a search. The one thing to show is that an outcome with a bound comes at the
+-- limit: something is left, so there was a closing node, so a place was open, and the first pass stopped at the limit.
 use Rattle.std.proofs.Common.{◌≡◌, ◌∙◌, ◌≤◌, ◌<◌, ◌⊎◌, inl, inr, ℕ, ℤ, List, [], ◌∷◌, ◌++◌, length, Option, Some, None, refl, sym, ap, subst, arith, append-nil}
 use Rattle.std.proofs.lemmas.List.{length-append, get_or_append_left}
 use Rattle.std.proofs.lemmas.List.Elements.{All-push, All-weaker, All-nil}

@@ -1,4 +1,7 @@
--- Duals in the box and least weights under them are values that a line spells.
+-- A line spells values from minus 2 ^ 61 to 2 ^ 61. In a cost table the end of the box, once for each activity, and the
+-- greatest cost in thousandths come to at most 2 ^ 61 together; so where there is a dual, and with it an activity, a
+-- dual in the box is spelled. A least weight is the reduced cost of some legal route, and these are small under duals
+-- in the box.
 use Rattle.std.proofs.Common.{◌≡◌, ℕ, zero, suc, ℤ, pos, ◌+◌, ◌*◌, ◌^◌, ◌<◌, ◌≤◌, ◌≤ℤ◌, arith, List, [], ◌∷◌, length, get_or, subst, sym}
 use Rattle.std.proofs.lemmas.Int.{ints}
 use Rattle.std.proofs.lemmas.List.{length-replicate, get_or-replicate}

@@ -1,4 +1,7 @@
--- Events that are listed one part after the other.
+-- Lists of events grow part by part: what was due before and one part more, a step, a dual, a bucket of labels or a
+-- cover, is what is due then. By the list that is gone over, since its events are those of a map or of a fold. The one
+-- thing to check is a number: events of duals and covers carry their own, so behind a cut they go on at the number that
+-- the first part ended with. A dual that is 0 has no event, and is a part all the same.
 use Rattle.std.proofs.Common.{ℕ, suc, ℤ, ◌≡◌, ◌∙◌, ◌+◌, ◌<◌, List, [], ◌∷◌, ◌++◌, length, map, refl, sym, ap, append_assoc, append-nil, arith, take, drop, get_or, length-take-le, take-append-drop}
 use Rattle.std.proofs.lemmas.List.{take_more, map-append}
 use Rattle.std.proofs.lemmas.List.Folds.{concat-append}

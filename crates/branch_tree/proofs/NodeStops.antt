@@ -1,4 +1,7 @@
--- A stop at a node with steps: in the steps, or at its leaf once they are told.
+-- A stop at a node leaves a front of a begun tree at its place. In the steps, the tree has no node, and these steps are
+-- its open part. At the leaf the steps were told before, and three things may follow. Nothing: the part is the steps. A
+-- bound that was begun: the part has its duals and first covers too. An end that is shown whole: the tree has one node,
+-- whose target no event tells, so that any will do.
 use Rattle.std.proofs.Common.{◌≡◌, ◌∙◌, ℤ, List, [], ◌∷◌, ◌++◌, Some, None, refl, sym, ap, subst, append-nil}
 use Rattle.tail_book.specs.Seen.{BookSeen}
 use Rattle.tail_book.specs.inside.Seen.{CostTableSeen}

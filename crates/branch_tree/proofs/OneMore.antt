@@ -1,4 +1,7 @@
--- One node more: what a visit and a closing leave at a place, and a stop once the node was told.
+-- One node more, in the words of the two passes. A visit is a counted node whose branches come before the other places;
+-- a closing is a node without steps, after which the least bound is that of one node more. The code holds a place as
+-- marks and duals, so each is shown there first and then carried over to the place that was taken. A stop behind a node
+-- that was told leaves a begun tree of that node alone.
 use Rattle.std.proofs.Common.{◌≡◌, ◌∙◌, ℕ, ℤ, List, [], ◌∷◌, ◌++◌, Option, sym, ap, subst}
 use Rattle.tail_book.specs.Seen.{BookSeen}
 use Rattle.tail_book.specs.inside.Seen.{CostTableSeen}

@@ -1,4 +1,7 @@
--- A stop in a run of nodes: what was told is a front of a begun tree, which begins with the nodes that were told before.
+-- A stop in a run of nodes: what was told is a front of a begun tree, which begins with the nodes that were told
+-- before. A stop behind nodes is the stop at the places that they leave, with these nodes in front. More places behind
+-- change nothing, since what was begun stands at the first place that is left. A stop between two nodes has begun
+-- nothing.
 use Rattle.std.proofs.Common.{◌≡◌, ◌∙◌, inl, List, [], ◌∷◌, ◌++◌, Option, Some, None, refl, sym, ap, subst, append_assoc}
 use Rattle.tail_book.specs.Seen.{BookSeen}
 use Rattle.tail_book.specs.inside.Seen.{CostTableSeen}

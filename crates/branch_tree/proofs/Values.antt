@@ -1,4 +1,6 @@
--- A value for each aircraft, one aircraft more at a time.
+-- A list that has a value for each aircraft grows at its end. What holds of each value by its number holds with one
+-- more: before the seam stand the old ones, and at the seam the new one, of which it was shown. The same for two lists
+-- side by side, as those of least weights and of routes that have them.
 use Rattle.std.proofs.Common.{◌≡◌, ◌⊎◌, inl, inr, ℕ, ℤ, pos, ◌+◌, ◌<◌, arith, List, [], ◌∷◌, ◌++◌, length, length-append, get_or, refl, sym, ap, ◌∙◌, subst}
 use Rattle.std.proofs.lemmas.Bool.{cases_order}
 use Rattle.std.proofs.lemmas.List.{get_or_append_left}

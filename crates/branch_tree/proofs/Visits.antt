@@ -1,4 +1,7 @@
--- The node that a step visits: its steps and its end, both told.
+-- The node of a visit is put together from the two parts of a step, shutting and the end. The end is shown under the
+-- marks that the code has, the node under those of its place with its steps, and shutting says that these are the same.
+-- Its target is what is to be undercut when the end is told. Steps and end were told one after the other, so the node
+-- was told.
 use Rattle.std.proofs.Common.{◌≡◌, ℕ, ℤ, inl, inr, List, [], ◌∷◌, ◌++◌, refl, sym, subst, Option, Some, None}
 use Rattle.tail_book.specs.Seen.{BookSeen}
 use Rattle.tail_book.specs.inside.Seen.{CostTableSeen}

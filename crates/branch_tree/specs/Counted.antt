@@ -1,4 +1,5 @@
--- What a search asks of the nodes that it counts.
+-- What a search asks of the nodes that it counts, beyond that they are shown: what a bound reaches, and when a split is
+-- due.
 use Rattle.std.specs.Prelude.{ℕ, ℤ, ⊤, List, map}
 use Rattle.tail_book.specs.Seen.{BookSeen}
 use Rattle.tail_book.specs.inside.Seen.{CostTableSeen}

@@ -1,4 +1,5 @@
--- The laws of search trees.
+-- The laws of search trees: what such a tree ends with is true, and its nodes are a proof tree of what the outcome
+-- claims.
 use Rattle.std.specs.Prelude.{◌≡◌, ◌+◌, ℕ, List, [], ◌∷◌, All}
 use Rattle.tail_book.specs.Seen.{BookSeen}
 use Rattle.tail_book.specs.inside.Seen.{CostTableSeen}

@@ -1,4 +1,4 @@
--- What a log tells after a search that stopped early.
+-- What a log tells after a search that stopped early: a front of the events of a begun tree.
 use Rattle.std.specs.Prelude.{◌≡◌, false, List}
 use Rattle.tail_book.specs.Seen.{BookSeen}
 use Rattle.tail_book.specs.inside.Seen.{CostTableSeen}

@@ -1,4 +1,6 @@
-//! Adding priced routes to a pool: all that a pool keeps of a node is legal and fits.
+//! Adding priced routes to a pool. They are legal and fit, so all that a pool keeps of a node still is and does.
+//! Whether one of them is new is answered too: where none is, duals that are settled over the pool are settled over all
+//! routes that fit.
 
 ghost use Rattle.std.specs.Prelude.{◌≡◌, ◌<◌, List, All, IfOk, OnOk, length};
 ghost use Rattle.tail_book.specs.Lookup.{activities, aircraft};

@@ -1,4 +1,6 @@
-//! The best plan that a search has met, and the cost that it is to undercut.
+//! The best plan that a search has met, and the cost that it is to undercut. Routes that are tried are copied and
+//! audited, and only a cheaper legal plan is taken: so the target never rises, and is the cost of the best plan once
+//! there is one.
 
 ghost use Rattle.std.specs.Prelude.{◌≡◌, ◌≤◌, None, IfOk, List, ℕ};
 ghost use Rattle.tail_book.specs.Plan.{IsLegalPlan};
@@ -30,7 +32,7 @@ impl Best {
         }
     }
 
-    /// Takes a legal plan, where it is cheaper than the best so far.
+    /// Takes a legal plan of this cost, in cost units, where it is cheaper than the best so far.
     pub fn take(&mut self, book: &Book, table: &CostTable, plan: Plan, cost: &u64)
         requires plan { IsPlanIn table.now book.now cost.now plan }
         requires best { IsBest table.now book.now self.old.plan self.old.target }

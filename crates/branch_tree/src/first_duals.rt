@@ -41,7 +41,7 @@ fn within_box(table: &CostTable, cost: u64) -> i64
     if dual < end as u64 { dual as i64 } else { end }
 }
 
-/// Puts a dual at the end of a list.
+/// Puts a dual, in thousandths of a cost unit, at the end of a list.
 pub fn push_dual(duals: &mut Vec<i64>, dual: &i64) -> Result<(), Memory>
     ensures { OnOk result (duals.new.items ≡ duals.old.items ++ dual.now ∷ []) }
 {

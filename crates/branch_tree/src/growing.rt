@@ -1,4 +1,8 @@
-//! The first pass of a search: open places are visited, the first one first, until none is open or the limit is reached.
+//! The first pass of a search: open places are visited, the first one first, until none is open or the limit is
+//! reached.
+//!
+//! It ends without a limit as well, since a branch leaves less open than its parent did, and a visit puts two in its
+//! place at most.
 
 ghost use Rattle.std.specs.Prelude.{◌≡◌, ◌+◌, [], ◌∷◌, ℕ, true, false, IfOk, OnErr, IsErrOf};
 ghost use Rattle.tail_book.specs.inside.CostTable.{IsTableFor};

@@ -74,7 +74,7 @@ pub fn price_leaf<L: TreeLog>(
     }
 }
 
-/// The Lagrangian sum of duals and of a value for each aircraft.
+/// The Lagrangian sum of duals and of a value for each aircraft, in thousandths of a cost unit.
 pub fn lagrangian_of(duals: &Duals, values: &[i64]) -> i128
     requires duals { length duals.now.values ≤ 2 ^ 32 }
     requires values { length values.now ≤ 2 ^ 32 }

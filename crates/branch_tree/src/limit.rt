@@ -1,4 +1,5 @@
-//! How many nodes a search may count.
+//! How many nodes a search may count. Places that are open at the limit are priced once, and these nodes are not
+//! counted.
 
 /// A limit of the nodes that a search counts.
 #[derive(Clone, Copy, PartialEq, Eq, Debug)]

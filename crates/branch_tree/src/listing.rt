@@ -60,7 +60,7 @@ fn list_dual(events: &mut Vec<Event>, a: u32, dual: &i64) -> Result<(), Memory>
     list_one(events, Event::Dual(a, *dual))
 }
 
-/// Puts the value of a cover at the end of a list.
+/// Puts the value of a cover, in thousandths of a cost unit, at the end of a list.
 pub fn list_value(events: &mut Vec<Event>, k: u32, value: &i64) -> Result<(), Memory>
     requires list { All IsNotable events.old.items }
     requires value { IsLineValue value.now }

@@ -1,4 +1,5 @@
-//! The marks of an open place, made again from its facts.
+//! The marks of an open place, made again from its facts: its tables are those of the book, and then each fact is added
+//! once.
 
 ghost use Rattle.std.specs.Prelude.{◌≡◌, ◌∷◌, ◌++◌, [], Contains, IfOk, OnOk};
 ghost use Rattle.branch_marks.specs.Facts.{IsFactOf};

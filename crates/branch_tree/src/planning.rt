@@ -1,4 +1,5 @@
-//! The least plan of a book: a search without a limit, of which nobody is told.
+//! The least plan of a book: a search without a limit, of which nobody is told. So the outcome is never a bound, and
+//! what ends the search early can only be a want of memory.
 
 ghost use Rattle.std.specs.Prelude.{IfOk};
 ghost use Rattle.tail_book.specs.Truth.{IsTrueOutcome};

@@ -31,11 +31,13 @@ pub enum Step {
 pub enum End {
     /// No legal route of this aircraft fits.
     Stuck(u32),
-    /// The least weight of each aircraft, with which the Lagrangian sum reaches the target.
+    /// The least weight of each aircraft, in thousandths of a cost unit, with which the Lagrangian sum reaches
+    /// the target.
     Bounded(Vec<i64>),
     /// A split, with what its step answers.
     Split {
         pair: Pair,
+        /// The Lagrangian sum, in thousandths of a cost unit.
         bound: i128,
         routes: Vec<Route>,
         dive: Dive,

@@ -1,4 +1,4 @@
-//! Why a search stops before its end.
+//! Why a search stops before its end: for its log or for its memory. To reach the limit of nodes is no stop.
 
 use branch_marks::LogFail;
 use tail_book::Memory;

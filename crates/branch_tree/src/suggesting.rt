@@ -35,7 +35,8 @@ fn pooled_weight(cost: u64, route: &[u32], duals: &[i64]) -> i64 {
     weight
 }
 
-/// For each aircraft the least weight of its routes in a pool: no least weight is above it, if those routes fit.
+/// For each aircraft the least weight of its routes in a pool, in thousandths of a cost unit: no least weight is above
+/// it, if those routes fit.
 pub fn cuts_of(alloc: Global, book: &Book, pool: &Pool, duals: &Duals) -> Result<Vec<i64>, Memory> {
     let mut cuts = vec![in alloc; i64::MAX; book.tails.len()]?;
     for i in 0..pool.count() {

@@ -1,4 +1,5 @@
-//! Telling a log what is due, event by event, and what it tells then where it fails in between.
+//! Telling a log what is due, event by event, and what it tells then where it fails in between: a front of what was
+//! due. An event that failed is not told again, and none is told behind it.
 
 ghost use Rattle.std.specs.Prelude.{◌≡◌, ◌∷◌, [], All, IfOk, OnOk, OnErr, IsErrOf};
 ghost use Rattle.branch_marks.specs.Events.{IsNotable, IsLineFact};

@@ -1,4 +1,5 @@
-//! What is made once for a book and kept from node to node.
+//! The tools of a step on a node. The pricer is made once for a book and kept from node to node. The diver serves one
+//! visit: what its propagator found holds for the marks of that place alone.
 
 ghost use Rattle.std.specs.Prelude.{List, IfOk};
 ghost use Rattle.tail_book.specs.inside.CostTable.{IsTableFor};

@@ -1,4 +1,5 @@
-//! One turn of a search: a step on an open place, whose branches come before all other places.
+//! One turn of a search: a step on an open place, whose branches come before all other places. So the search is depth
+//! first, and beside the place that is taken at most one is open for each split above it.
 
 ghost use Rattle.std.specs.Prelude.{◌≡◌, ◌≤◌, ◌++◌, [], ◌∷◌, OnOk, OnErr, IsErrOf};
 ghost use Rattle.tail_book.specs.inside.CostTable.{IsTableFor};

@@ -1,4 +1,6 @@
--- What a certificate's tree bounds, and its plan costs, makes its claim true.
+-- What a certificate's tree bounds, and its plan costs, makes its claim true. The bound is asked of every legal plan.
+-- An optimal cost and the cost of a best plan are those of the plan that the fliers make, which is legal. For a claim
+-- that no plan is legal, a bound is asked that lies above what any legal plan costs, so there is none.
 use Rattle.std.proofs.Common.{◌≡◌, ◌≤◌, ℕ, List, [], ◌∷◌, ◌++◌, Option, Some, None, length, arith, length-append, subst, append_assoc, get_or, refl}
 use Rattle.std.specs.Prelude.{All}
 use Rattle.tail_book.specs.Cost.{plan_cost}

@@ -1,4 +1,7 @@
--- An accepted text gets its yes: its lines pass one after the other, and the last of them is the claim.
+-- An accepted text gets its yes. Its lines are spelled, so the text falls into them again and each is read as itself.
+-- They pass one after the other: the header, those of the tree, which is shown, those of the plan, if there is one,
+-- with a flier for each activity, and the claim, whose plan and bound are as asked. Behind the last newline stands
+-- nothing, so the claim is what is answered.
 use Rattle.std.proofs.Common.{◌≡◌, ◌∙◌, ◌+◌, ◌<◌, ◌≤◌, ℕ, suc, true, false, List, [], ◌∷◌, ◌++◌, Option, Some, None, Result, ◌==◌, nat_lt, length, get_or, map, refl, sym, ap, subst, arith, append_assoc, length-append}
 use Rattle.std.proofs.lemmas.Bool.Decides.{nat_tests}
 use Rattle.std.proofs.lemmas.List.{append-nil}

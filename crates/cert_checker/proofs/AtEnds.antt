@@ -1,4 +1,6 @@
--- What the claim gives, by what stands before it.
+-- What a claim gives, by the part of the certificate that stands before it. Behind a plan the fliers have to be one for
+-- each activity, and then the claim is judged with them. Anywhere else the last leaf is closed first, and the claim is
+-- judged without a plan, so that it may have no cost of one.
 use Rattle.std.specs.Prelude.{◌==◌, is_none}
 use Rattle.std.proofs.Common.{◌≡◌, ◌∙◌, ℕ, true, false, Option, None, Some, Err, length, refl, ap}
 use Rattle.tail_book.specs.Lookup.{activities}

@@ -1,4 +1,6 @@
--- What each line of a node gives, where the node that it belongs to is known: the tests in their order, and what is kept.
+-- What each line of a node gives, where the node that it belongs to is known. The tests come in their order: one that
+-- holds lets the next one come, and one that does not gives its reason. So each reason is reached by the tests before
+-- it, and what is kept by all of them. First the leaf before is closed, and the node is the place that is owed next.
 use Rattle.std.specs.Prelude.{not, nat_lt, if◌then◌else◌}
 use Rattle.std.proofs.Common.{◌≡◌, ◌∙◌, ℕ, Bool, true, false, List, [], ◌∷◌, ◌++◌, Option, None, Result, Ok, Err, refl, sym, ap}
 use Rattle.tail_book.specs.Lookup.{activities}

@@ -1,4 +1,6 @@
--- The header begins a certificate, and behind its tree come a plan or none and the claim.
+-- The header begins a certificate: before it nothing stands, and behind it the root is owed. A plan and a claim come
+-- only where no place is owed, so the tree before them is whole. Fliers are added one at a time, for the activities in
+-- order. A claim that is judged stands behind the whole tree, with the plan or without one.
 use Rattle.std.proofs.Common.{◌≡◌, ◌∙◌, ◌+◌, ◌<◌, ℕ, true, false, List, [], ◌∷◌, ◌++◌, Option, Some, None, Result, Ok, ◌&&◌, ◌==◌, not, nat_lt, length, refl, sym, ap, subst, arith, append_assoc}
 use Rattle.std.proofs.lemmas.Bool.{and_parts, eqb-true}
 use Rattle.std.proofs.lemmas.Bool.Decides.{nat_tests}

@@ -1,4 +1,6 @@
--- What closing the last leaf gives, by what stands before the next line.
+-- What closing the last leaf gives, by what stands before the next line. A bound leaf has to have a cover for each
+-- aircraft; then its bound, from the sum of its duals and values, lowers the least one. In a tree the leaf is done and
+-- the least bound stays. Elsewhere nothing can be closed, so that a line of a node has no place there.
 use Rattle.std.specs.Prelude.{◌==◌, ◌+ℤ◌, not, reverse, if◌then◌else◌}
 use Rattle.std.proofs.Common.{◌≡◌, ◌∙◌, ℕ, suc, Bool, true, false, List, [], ◌∷◌, length, take, Option, None, Ok, Err, refl, sym, ap, arith}
 use Rattle.std.proofs.lemmas.Bool.{ne_eqb}

@@ -1,4 +1,6 @@
--- The dual lines of a bound leaf: one more dual, behind those that are not 0, is one more event.
+-- The dual lines of a bound leaf. A leaf begins with duals that are 0, which have no events. A dual that is not 0, set
+-- at an activity from which on all were 0, is one event more behind the others: by the list, of which the part before
+-- the activity keeps its events and the part behind it has none.
 use Rattle.std.proofs.Common.{◌≡◌, ◌∙◌, ◌+◌, ◌<◌, ◌≤◌, ℕ, ℤ, zero, suc, pos, negsuc, Bool, true, List, [], ◌∷◌, ◌++◌, length, get_or, replicate, refl, sym, ap, arith, append_assoc}
 use Rattle.std.proofs.lemmas.Bool.{and_parts}
 use Rattle.std.proofs.lemmas.List.{append-nil}

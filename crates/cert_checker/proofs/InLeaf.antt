@@ -1,4 +1,7 @@
--- The lines inside a leaf: a dual, a cover and a label each join the part of the leaf that was told.
+-- The lines inside a leaf: a dual, a cover and a label each join the part of the leaf that was told. Each has its one
+-- place: a dual before all covers, a cover of the aircraft that comes next, a label in an open leaf. In any other part
+-- the line is not taken, so there is nothing to show. While covers are to come the leaf itself is owed, before the
+-- places behind it.
 use Rattle.std.proofs.Common.{◌≡◌, ◌∙◌, ◌+◌, ◌<◌, ◌+ℤ◌, ℕ, ℤ, pos, true, false, List, [], ◌∷◌, ◌++◌, Option, Some, None, Ok, ◌&&◌, ◌==◌, nat_le, nat_lt, length, map, refl, sym, ap, arith, append_assoc, length-append}
 use Rattle.std.proofs.lemmas.Bool.{and_parts, leb-true, eqb-true}
 use Rattle.std.proofs.lemmas.Bool.Decides.{nat_tests}

@@ -1,4 +1,6 @@
--- What is kept stays of the book, line after line.
+-- What is kept stays of the book, line after line. The case to look at is a label: its activity is no less than that of
+-- the last one, so the family stays in order with it at the end. A leaf that begins has no labels, of which all of this
+-- holds.
 use Rattle.std.specs.Prelude.{◌==◌, ◌&&◌, nat_le, nat_lt, not, ◌-ℤ◌, ◌+ℤ◌, if◌then◌else◌}
 use Rattle.std.proofs.Common.{◌≡◌, ◌∙◌, ℕ, ℤ, pos, ◌+◌, ◌<◌, ◌≤◌, ◌*◌, ◌^◌, Bool, true, false, List, [], ◌∷◌, ◌++◌, Option, None, Some, inl, inr, length, refl, sym, ap, subst, arith}
 use Rattle.std.proofs.Math.Seq.{get_or-append_seam}

@@ -1,4 +1,7 @@
--- The lines inside a leaf pass where the leaf is shown: its duals, its covers, and the labels of each.
+-- The lines inside a leaf pass where the leaf is shown. The labels of a shown family are alive, in order of activity,
+-- and have a value for each counter, so each passes as it comes: by the list, with the least activity that may still
+-- come. Duals pass in order of activity, those that are 0 without a line, and covers in order of aircraft, each when
+-- the one before it is shown.
 use Rattle.std.proofs.Common.{◌≡◌, ◌∙◌, ◌+◌, ◌<◌, ◌≤◌, ◌+ℤ◌, ℕ, ℤ, zero, suc, pos, negsuc, true, List, [], ◌∷◌, ◌++◌, Option, Some, None, ◌&&◌, ◌==◌, nat_le, nat_lt, length, map, refl, sym, ap, subst, arith, append_assoc, length-append, replicate}
 use Rattle.std.proofs.lemmas.Bool.{and_parts}
 use Rattle.std.proofs.lemmas.Bool.Decides.{nat_tests}

@@ -1,4 +1,6 @@
--- The verdict, one line after the other.
+-- The verdict, one line after the other: a line that fails decides it, and one that is taken leaves it to the lines
+-- behind. The last part of a text stands behind the last newline, so it is judged as an end and not as a line. These
+-- are the steps of the loop over the lines; a text has at most one part more than bytes, so they can be counted.
 use Rattle.std.specs.Prelude.{◌==◌}
 use Rattle.std.proofs.Common.{◌≡◌, ◌∙◌, ℕ, ◌+◌, ◌≤◌, true, false, List, [], ◌∷◌, Result, Ok, Err, length, refl, ap, arith}
 use Rattle.std.proofs.lemmas.Bool.{eqb-true}

@@ -1,4 +1,6 @@
--- The route that fliers give an aircraft, found one flier after the other, and the plan, one aircraft after the other.
+-- The route of aircraft k is the list of activities whose flier is k. A loop over the fliers finds it: by the fliers
+-- that are left, each of which adds its activity or nothing. So it is for the plan, by the aircraft that are left. The
+-- audit then answers the cost of a legal plan by the book's own costs, and none for another plan.
 use Rattle.std.proofs.Common.{◌≡◌, ◌∙◌, ℕ, suc, ◌+◌, ◌-◌, ◌<◌, inl, inr, Bool, true, false, cond, arith, List, [], ◌∷◌, ◌++◌, length, None, Some, get_or, drop, refl, ap, sym, append_assoc, if◌then◌else◌}
 use Rattle.std.specs.Prelude.{◌==◌, ◌&&◌, map, nat_eq}
 use Rattle.std.specs.List.{filter, range_with_len}

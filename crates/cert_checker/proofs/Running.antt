@@ -1,4 +1,6 @@
--- Lines that pass, one after the other: each is taken, and the leaf before it does not fail.
+-- Lines that pass, one after the other: each is taken, and the leaf before it does not fail. Two runs are one where the
+-- second begins as the first ended. A label needs no look at the leaf, since it still belongs to it. Where all lines
+-- pass, the verdict is what is said at their end.
 use Rattle.std.proofs.Common.{◌≡◌, ◌∙◌, ◌+◌, ℕ, suc, arith, true, false, List, [], ◌∷◌, ◌++◌, Option, Some, None, Result, Ok, map, refl, sym, ap, subst}
 use Rattle.std.specs.Prelude.{All}
 use Rattle.tail_book.specs.Seen.{BookSeen}

@@ -1,4 +1,7 @@
--- The lines of a tree that is shown pass, from where its place is owed next to where what is behind it is owed.
+-- The lines of a tree that is shown pass, from where its place is owed next to where what is behind it is owed. By the
+-- tree: a step goes on at the place with one fact more, a split owes its two branches before what is behind, and a leaf
+-- passes by its own lines. A bound leaf is the hard case: it is done only at the next line, and then lowers the least
+-- bound by one that reaches what is asked.
 use Rattle.std.proofs.Common.{◌≡◌, ◌∙◌, ◌+◌, ◌<◌, ◌+ℤ◌, ℕ, ℤ, zero, suc, pos, Bool, true, false, List, [], ◌∷◌, ◌++◌, Option, Some, None, ◌&&◌, ◌==◌, not, nat_le, nat_lt, length, map, refl, sym, ap, subst, arith, replicate}
 use Rattle.std.proofs.lemmas.Bool.{and_parts, eqb-true}
 use Rattle.std.proofs.lemmas.Int.{ints}

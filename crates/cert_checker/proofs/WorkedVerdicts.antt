@@ -1,4 +1,6 @@
--- The verdict at the certificates that a reader tries first, and at what is one line away from them.
+-- The verdict at the certificates that a reader tries first, and at what is one line away from them. The rows show that
+-- each kind of leaf is accepted where it is true, and the line and the reason of the failure where one thing of it is
+-- changed.
 use Rattle.std.proofs.Common.{◌≡◌, ℕ, List, [], ◌∷◌, ◌++◌, None, Some, take, drop, replicate, refl}
 use Rattle.std.specs.List.{flat_map}
 use Rattle.std.specs.Prelude.{codes}

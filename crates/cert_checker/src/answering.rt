@@ -1,4 +1,7 @@
-//! A text, judged line by line.
+//! A text, judged line by line: each line is read and taken, and the first failure is the verdict.
+//!
+//! A leaf is tested at the first line behind its labels, since only then all of them have come. Behind the last newline
+//! nothing may stand.
 
 ghost use Rattle.std.specs.Prelude.{◌≡◌, ◌<◌, ◌≤◌, ◌+◌, ◌^◌, IfOk, None, Some};
 ghost use Rattle.branch_marks.specs.Events.{IsNotable};

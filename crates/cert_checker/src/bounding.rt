@@ -50,7 +50,7 @@ pub fn bound_of(duals: &[i64], values: &i128) -> u128
     rounded_up(total(duals) + *values)
 }
 
-/// The lesser of two bounds, where there is one before.
+/// The lesser of two bounds in cost units, where there is one before.
 pub fn lower(low: Option<u128>, bound: u128) -> Option<u128>
     ensures { result ≡ lower low bound }
 {

@@ -1,4 +1,5 @@
-//! Whether a certificate's plan is the one that its claim has.
+//! Whether a certificate's plan is the one that its claim has. The routes are made of the fliers, with one pass over
+//! them for each aircraft, and audited like those of any plan.
 
 ghost use Rattle.std.specs.Prelude.{◌≡◌, ◌<◌, ◌^◌, IfOk, Some, length};
 ghost use Rattle.tail_book.specs.Seen.{BookSeen};
@@ -65,7 +66,7 @@ fn is_plan_of_fliers(
     Ok(found == cost)
 }
 
-/// The cost that the plan of a claim has to have, where the claim has one.
+/// The cost that the plan of a claim has to have, in cost units, where the claim has one.
 pub fn claimed_cost(claim: Claim) -> Option<u64>
     ensures { result ≡ claimed_cost claim }
 {
@@ -94,7 +95,7 @@ pub fn has_plan(
     }
 }
 
-/// What every bound has to reach for a claim.
+/// What every bound has to reach for a claim, in cost units.
 pub fn asked_of(means: &Means, claim: Claim) -> u64
     ensures { (book : BookSeen) → AreMeansOf book means.now → result ≡ asked_of book claim }
 {

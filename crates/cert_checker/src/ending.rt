@@ -1,4 +1,5 @@
-//! The first line of a certificate, and those behind its tree: the header, the plan, and the claim.
+//! The first line of a certificate, and those behind its tree: the header, the plan, and the claim. Behind the tree
+//! means that no place is owed; once the last leaf is closed, all bounds are known that the claim is judged by.
 
 ghost use Rattle.std.specs.Prelude.{◌≡◌, ◌==◌, ◌&&◌, nat_lt, IfOk, Option, List, ℕ, length};
 ghost use Rattle.tail_book.specs.Lookup.{activities, aircraft};

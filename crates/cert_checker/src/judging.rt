@@ -33,6 +33,7 @@ pub enum Part {
 pub struct Leaf {
     pub line: u64,
     pub k: u32,
+    /// In thousandths of a cost unit.
     pub value: Option<i64>,
     pub next: u32,
 }
@@ -44,7 +45,7 @@ pub struct Judging {
     pub part: Part,
     pub branches: Branches,
     // Of a bound leaf: its duals, the least activity whose dual may still come, how many covers were begun, and the sum of
-    // their values.
+    // their values. Duals and values are in thousandths of a cost unit.
     pub duals: Vec<i64>,
     pub next: u32,
     pub covers: u32,
@@ -53,7 +54,7 @@ pub struct Judging {
     pub fliers: Vec<u32>,
     pub leaf: Option<Leaf>,
     pub family: Vec<Label>,
-    // The least bound of the leaves so far.
+    // The least bound of the leaves so far, in cost units.
     pub low: Option<u128>,
     // Room for tests: where the labels of each activity begin, floors, and counters.
     pub starts: Vec<usize>,

@@ -1,4 +1,4 @@
-//! Laws over the definitions alone: the contract of each function is the law.
+//! Laws over the definitions alone, with no text judged: the contract of each function is the law.
 
 ghost use Rattle.cert_checker.specs.Certificate.{AcceptedClaimsAreTrue};
 ghost use Rattle.cert_checker.specs.Verdict.{AcceptedIsYes, YesIsAccepted, YesIsTrue};

@@ -1,4 +1,5 @@
-//! Lines of leaves: duals, covers and labels, and the test of an open leaf.
+//! Lines of leaves: duals, covers and labels, and the test of an open leaf. A line has its place by its activity or
+//! aircraft, which only rise; labels are kept as they come, and are tested together when the leaf is done.
 
 ghost use Rattle.std.specs.Prelude.{◌≡◌, ◌<◌, ◌^◌, ◌==◌, ◌&&◌, nat_le, nat_lt, Some, IfOk, length};
 ghost use Rattle.tail_book.specs.Lookup.{activities, aircraft};
@@ -52,7 +53,7 @@ impl Judging {
         k == self.covers && is_aircraft(book, k)
     }
 
-    /// Takes a dual of the bound leaf that is here, or says why not.
+    /// Takes a dual, in thousandths of a cost unit, of the bound leaf that is here, or says why not.
     pub fn take_dual(&mut self, book: &Book, means: &Means, a: u32, dual: i64) -> Option<Reason>
         requires judging { IsJudging book.now self.old }
         requires means { AreMeansOf book.now means.now }
@@ -74,7 +75,7 @@ impl Judging {
         None
     }
 
-    /// Takes the first line of a cover of the bound leaf that is here, or says why not.
+    /// Takes the first line of a cover of the bound leaf that is here, or says why not. The value is in thousandths.
     pub fn take_cover(&mut self, book: &Book, k: u32, value: i64) -> Option<Reason>
         requires judging { IsJudging book.now self.old }
         requires lines { self.old.lines < 2 ^ 63 }

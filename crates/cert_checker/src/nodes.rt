@@ -1,4 +1,5 @@
-//! Lines of nodes: steps, splits, and the first lines of leaves.
+//! Lines of nodes: steps, splits, and the first lines of leaves. Each closes the leaf before it and takes the place
+//! that is owed next; a step owes it again with one fact more, a split owes two for it, and a leaf that is done none.
 
 ghost use Rattle.std.specs.Prelude.{◌≡◌, ◌<◌, ◌^◌, IfOk, length, replicate, pos};
 ghost use Rattle.cert_checker.specs.Judging.{is_pair_of, take_bound, take_fact, take_hole, take_split, take_stuck};

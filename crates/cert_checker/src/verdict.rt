@@ -1,4 +1,5 @@
-//! What the checker says of a certificate.
+//! What the checker says of a certificate: its claim, or the line that failed first and why. A no is of the text: what
+//! the claim says may be true all the same.
 
 use tail_book::Claim;
 

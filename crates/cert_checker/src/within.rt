@@ -1,4 +1,5 @@
-//! Whether numbers are of the book.
+//! Whether numbers are of the book. A line may have any number of 32 bits, so each is asked for before a table is read
+//! at it.
 
 ghost use Rattle.std.specs.Prelude.{◌≡◌, nat_lt};
 ghost use Rattle.tail_book.specs.Lookup.{activities, aircraft};

@@ -1,4 +1,7 @@
--- Counters are read one after the other: those that were read stand before what is left.
+-- The counters of a label are read one after the other. Those that were read stand before what is left, and both
+-- together are what the whole text gives: so where a word is bad all of it is, and where none is left those that were
+-- read are it. The limit is of six counters. A seventh word is refused when it comes, and then the whole has more than
+-- six words too.
 use Rattle.std.proofs.Common.{◌≡◌, ◌∙◌, ◌+◌, ◌≤◌, ◌<◌, ℕ, ℤ, List, [], ◌∷◌, ◌++◌, Bool, Option, Some, None, length, nat_le, true, false, refl, arith, append_assoc}
 use Rattle.std.proofs.lemmas.Bool.Decides.{nat_tests}
 use Rattle.std.proofs.lemmas.List.{append-nil}

@@ -1,4 +1,6 @@
--- What an answer that is there tells of the answers that it was made of.
+-- Reading a line chains answers that may be missing: map, and then, a test, one of two. Where the answer of a chain is
+-- there, each part was there and each test passed, by cases of the first part. So a goal about a line that was read
+-- becomes a goal about what its words were read as.
 use Rattle.std.proofs.Common.{◌≡◌, Bool, true, false, Option, Some, None, refl, subst}
 use Rattle.std.specs.Prelude.{option_map, option_and_then, if◌then◌else◌}
 

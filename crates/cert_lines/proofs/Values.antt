@@ -1,4 +1,6 @@
--- Each number of a line is read as it is written, and written as it is read.
+-- Each number of a line is read as it is written, and written as it is read. The numerals of `Numerals.antt` say so of
+-- numbers without a sign, and what is left is their limits. The one hard case is a minus. Written digits begin with
+-- none, so what begins with a minus was negative; and a minus before 0 is refused, so 0 has one spelling.
 use Rattle.std.proofs.Common.{◌≡◌, ◌∙◌, ◌≤◌, ◌<◌, ◌^◌, ℕ, zero, suc, ℤ, pos, negsuc, true, false, List, [], ◌∷◌, Some, length, ◌==◌, refl, ap, arith}
 use Rattle.std.proofs.lemmas.Bool.{eqb-true}
 use Rattle.std.proofs.lemmas.Bool.Decides.{nat_tests}

@@ -1,4 +1,6 @@
--- A spelling grows word by word: where memory ends it, what was appended is a front of it.
+-- A spelling grows word by word: where memory ends it, what was appended is a front of it. A front of the first part is
+-- a front of the whole, and so are the first part and a front of the second. For words of a list, those before place i
+-- stand there, and the word at i comes behind them whole or in front.
 use Rattle.std.proofs.Common.{◌≡◌, ◌∙◌, ◌+◌, ◌<◌, ℕ, List, [], ◌∷◌, ◌++◌, length, get_or, take, drop, map, refl, sym, ap, append_assoc, take-append-drop}
 use Rattle.std.proofs.lemmas.List.{append-nil, drop_more, map-append, take_more}
 use Rattle.tail_text.specs.Parts.{space}

@@ -1,4 +1,5 @@
--- The numbers in a line, each in its one spelling.
+-- The numbers in a line, each in its one spelling: an aircraft or an activity, a cost, a counter, and a value in
+-- thousandths.
 use Rattle.std.specs.Prelude.{ℕ, zero, suc, ℤ, pos, negsuc, List, [], ◌∷◌, length, Option, Some, None, option_map, option_and_then, if◌then◌else◌, ◌==◌, nat_le}
 use Rattle.std.specs.Result.{result_ok}
 use Rattle.tail_book.specs.declared.limits.TheConstants.{COUNTER_LIMIT}

@@ -1,4 +1,5 @@
-//! The first word of a line, which says what the line is.
+//! The first word of a line, which says what the line is. Each kind of line has its own; only a split and a claim need
+//! their second word too.
 
 ghost use Rattle.std.specs.Prelude.{◌≡◌};
 ghost use Rattle.std.specs.Str.{bytes_eq};

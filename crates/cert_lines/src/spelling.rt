@@ -1,6 +1,7 @@
 //! Lines, written.
 //!
-//! A line begins with a few fixed words, and numbers follow, each behind a space.
+//! A line begins with a few fixed words, and numbers follow, each behind a space. So one loop over the words writes
+//! every kind, and where memory ends it, a front of the line stands there.
 
 ghost use Rattle.std.specs.Prelude.{◌≡◌, ◌++◌, ◌∷◌, [], OnOk, OnErr, map, decimal};
 ghost use Rattle.std.specs.Fmt.{signed_decimal};

@@ -1,6 +1,7 @@
 //! The numbers in a line.
 //!
-//! Each number has one spelling: no sign but a minus before a negative one, and no zero in front.
+//! Each number has one spelling: no sign but a minus before a negative one, and no zero in front. They are read where
+//! they stand in the text, within the limits of their kinds, and nothing is allocated.
 
 ghost use Rattle.std.specs.Prelude.{◌≡◌, ◌≤◌, ◌<◌, ◌^◌, IfSome};
 ghost use Rattle.cert_lines.specs.Words.{small, large, amount, value, negated, one_number, two_numbers, number_and_value, counters_in, counters_of};

@@ -1,4 +1,7 @@
--- Fliers that are noted route by route.
+-- The flier of an activity is the first aircraft whose route has it. The code goes over the routes in order and notes
+-- an aircraft where nobody is noted yet. By the routes that are left: the flier is who is noted, or, where nobody is,
+-- the first of these routes that has the activity. Within a route by its activities, one and then the others. Nobody is
+-- noted as a number as well, that of the routes, so it is below it that an aircraft k counts as somebody.
 use Rattle.std.proofs.Common.{◌≡◌, ◌∙◌, ℕ, ◌<◌, ◌+◌, ◌≤◌, inl, inr, Bool, true, false, cond, arith, List, [], ◌∷◌, length, refl, sym, ap, subst, set, drop, length-set, get_or}
 use Rattle.std.proofs.lemmas.Bool.{cases_eq, eq-eqb, ne_eqb}
 use Rattle.std.proofs.lemmas.Grind.{same_number_lists}

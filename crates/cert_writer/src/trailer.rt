@@ -1,4 +1,5 @@
-//! The end of a certificate: who flies each activity, where there is a plan, and the claim.
+//! The end of a certificate: who flies each activity, where there is a plan, and the claim. The fliers are found in one
+//! pass over the routes, and kept as one number for each activity.
 
 ghost use Rattle.std.specs.Prelude.{◌≡◌, ◌<◌, ◌^◌, ◌++◌, ◌∷◌, [], IfOk, OnOk, Some, length};
 ghost use Rattle.tail_book.specs.Truth.{claim_of};

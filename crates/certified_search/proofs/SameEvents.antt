@@ -1,4 +1,6 @@
--- The events that a search tells of a proof tree are those of the certificate's lines.
+-- The events that a search tells of a proof tree are those of the certificate's lines. Both are defined, one for the
+-- search and one for the text, and they agree by the tree, and at a bound by the list of its duals and that of its
+-- covers.
 use Rattle.std.proofs.Common.{◌≡◌, ◌∙◌, ◌+◌, ℕ, ℤ, zero, suc, pos, negsuc, List, [], ◌∷◌, ◌++◌, refl, ap}
 use Rattle.branch_marks.specs.declared.event.Event.{Event}
 use Rattle.branch_marks.specs.declared.event.Event.TheVariants as events

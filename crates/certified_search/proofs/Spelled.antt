@@ -1,4 +1,6 @@
--- Each line of a search's certificate is one that a certificate may have.
+-- Each line of a search's certificate is one that a certificate may have. The numbers of a book are few, its events are
+-- ones that a line spells, and its fliers are aircraft. The claim is left: the cost of a legal plan is limited, and a
+-- bound that is left lies below the final target, so rounded up to whole costs it is at most the target.
 use Rattle.std.proofs.Common.{◌≡◌, ◌∙◌, ◌+◌, ◌*◌, ◌^◌, ◌/◌, ◌<◌, ◌≤◌, ℕ, ℤ, List, [], ◌∷◌, ◌++◌, length, map, Option, Some, None, refl, arith}
 use Rattle.std.proofs.lemmas.List.Elements.{All-append, All-cons, All-head, All-map, All-nil, All-tail}
 use Rattle.std.specs.Prelude.{All, option_map}

@@ -1,4 +1,6 @@
--- What a sink holds of a certificate after each of its parts: the header, the events of the search, the plan and the claim.
+-- What a sink holds of a certificate after each of its parts: the header, the events of the search, the plan and the
+-- claim. Each part comes behind the ones before, so where one fails the sink holds a front of what was due: of a begun
+-- tree while the search runs, and of the whole certificate once it has ended.
 use Rattle.std.proofs.Common.{◌≡◌, ◌∙◌, ◌⊎◌, inl, inr, ◌<◌, ◌≤◌, ◌^◌, ◌-◌, ℕ, List, [], ◌∷◌, ◌++◌, map, Option, Some, None, refl, sym, ap, subst, append_assoc, arith}
 use Rattle.std.proofs.lemmas.List.{append-nil, map-append}
 use Rattle.tail_book.specs.Lookup.{activities}

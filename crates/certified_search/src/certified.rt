@@ -1,4 +1,5 @@
-//! A search that writes its certificate while it runs, and the plan and the claim at its end.
+//! A search that writes its certificate while it runs, and the plan and the claim at its end. Nothing of a node that
+//! was told is kept for the certificate but lines that wait for the sink, one piece at a time.
 
 ghost use Rattle.std.specs.Prelude.{◌≡◌, ◌≤◌, [], false, IfOk, OnErr, IsErrOf, length};
 ghost use Rattle.tail_book.specs.Lookup.{activities, aircraft};

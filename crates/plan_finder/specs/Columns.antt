@@ -1,4 +1,4 @@
--- What a dive or a neighbourhood keeps of its own.
+-- What a dive or a neighbourhood keeps of its own: a pool, and a search of routes for it.
 use Rattle.restricted_master.specs.Pool.{IsPoolFor}
 use Rattle.route_search.specs.Search.{IsSearchOf}
 use Rattle.plan_finder.specs.declared.columns.Columns.{Columns}

@@ -1,4 +1,4 @@
--- What a plan that was looked for under marks keeps.
+-- What a plan that was looked for under marks keeps: the rules and the marks, at the cost that is told.
 use Rattle.std.specs.Prelude.{ℕ, ◌<◌, List}
 use Rattle.tail_book.specs.Seen.{BookSeen}
 use Rattle.tail_book.specs.Lookup.{aircraft}

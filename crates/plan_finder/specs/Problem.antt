@@ -1,4 +1,4 @@
--- What plans are looked for in.
+-- What plans are looked for in: a book, with a table of its costs and its network.
 use Rattle.std.specs.Prelude.{◌≡◌}
 use Rattle.tail_book.specs.inside.CostTable.{IsTableFor}
 use Rattle.connection_net.specs.Net.{net_of}

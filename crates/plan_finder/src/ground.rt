@@ -1,4 +1,5 @@
-//! What neighbourhoods of a plan are planned on.
+//! What neighbourhoods of a plan are planned on: the marks, the pool and the duals with which each of them begins. They
+//! are borrowed, and a neighbourhood works on copies or a pool of its own.
 
 use branch_marks::Marks;
 use restricted_master::Pool;

@@ -1,4 +1,5 @@
-//! The judge of what was put together: only a legal plan that fits the marks is told, with its cost.
+//! The judge of what was put together: only a legal plan that fits the marks is told, with its cost. All that is
+//! promised of a plan comes from this look, so whatever found the plan need not be right.
 
 ghost use Rattle.std.specs.Prelude.{◌≡◌, ◌<◌, ℕ, IfOk, IfSome, IsTrue};
 ghost use Rattle.tail_book.specs.Lookup.{aircraft};

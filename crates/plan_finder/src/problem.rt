@@ -1,4 +1,5 @@
-//! What plans are looked for in.
+//! What plans are looked for in: a book, a table of its costs and its network, borrowed as one and the same for all
+//! that seek.
 
 use connection_net::Net;
 use tail_book::{Book, CostTable};

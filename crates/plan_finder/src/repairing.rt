@@ -1,4 +1,7 @@
 //! Stretches of a plan that are planned again, and what is left out put in by that.
+//!
+//! One activity after the other is put in, within short stretches around it first, and then within longer ones. What
+//! comes of it is taken only where it leaves out fewer activities, so a repair never makes a plan worse in that.
 
 ghost use Rattle.std.specs.Prelude.{◌≡◌, ◌<◌, IfOk};
 ghost use Rattle.branch_marks.specs.Settled.{AreDuals};

@@ -1,4 +1,5 @@
-//! Slices of a timetable: the activities from one number on, up to another. Numbers rise with time.
+//! Slices of a timetable: the activities from one number on, up to another. Numbers rise with time, so a slice is a
+//! stretch of it, and what a route has before the end of a slice is a front of the route.
 
 use std::alloc::Global;
 use tail_book::{Memory, Route};

@@ -1,4 +1,5 @@
-//! Plans that may leave activities out.
+//! Plans that may leave activities out, as dives end with them: a route for each aircraft, and beside these a flag for
+//! each activity, so that it is one look whether it is left out.
 
 use std::alloc::Global;
 use tail_book::{Book, Memory, Route};

@@ -1,4 +1,6 @@
-//! What the routes of a pool weigh, for suggestions alone.
+//! What the routes of a pool weigh, for suggestions alone: numbers that are too large stay at the end of their range,
+//! and nothing that is told of a plan rests on them. One pass over the pool keeps a number for each route and each
+//! aircraft.
 
 ghost use Rattle.std.specs.Prelude.{◌≡◌, IfOk};
 
@@ -43,12 +45,12 @@ impl Weights {
         Ok(Weights { routes, least })
     }
 
-    /// The least weight of an aircraft.
+    /// The least weight of an aircraft, in thousandths of a cost unit.
     pub fn least(&self, k: usize) -> i64 {
         self.least.get(k).copied().unwrap_or(i64::MAX)
     }
 
-    /// How much heavier a route of an aircraft is than its lightest.
+    /// How much heavier a route of an aircraft is than its lightest, in thousandths of a cost unit.
     pub fn excess(&self, i: usize, k: usize) -> i64 {
         let weight = self.routes.get(i).copied().unwrap_or(i64::MAX);
         weight.saturating_sub(self.least(k))

@@ -1,4 +1,6 @@
--- A file that is read only up to one byte more than it may have reads as the whole of it: both are too big.
+-- A file that is read only up to one byte more than it may have reads as the whole of it. Where that cuts nothing, it
+-- is the whole; where it cuts, both are too big, and the refusal looks at nothing else. So three tables that are read
+-- alike, one after the other, give the same book or the same refusal.
 use Rattle.std.proofs.Common.{◌≡◌, ◌∙◌, ℕ, ◌+◌, ◌<◌, ◌≤◌, ◌⊎◌, inl, inr, false, arith, List, length, take, refl, ap, sym, length-take-le}
 use Rattle.std.proofs.lemmas.Bool.Decides.{nat_tests}
 use Rattle.std.proofs.lemmas.List.{take_all}

@@ -1,4 +1,7 @@
--- What is held under the names that words give: read up to the limit, judged, and known.
+-- What is held under the names that words give: read up to the limit, judged, and known. The three tables that were
+-- read are the fronts of those that are held, where each of them is told; that is by cases. What follows of what is
+-- held follows where it is told, and where it is known, it holds of that: names are given once, so both speak of the
+-- same.
 use Rattle.std.proofs.Common.{◌≡◌, ◌∙◌, ℕ, List, Option, Some, None, IfSome, ap, option_map, refl, subst, sym, take}
 use Rattle.std.specs.Prelude.{option_and_then}
 use Rattle.tail_outside.specs.Shown.{FilesShown}

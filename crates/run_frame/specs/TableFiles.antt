@@ -1,4 +1,4 @@
--- What is read of the files that words name.
+-- What is read of the files that words name, and what holds of it where files tell what they hold.
 use Rattle.std.specs.Prelude.{◌≡◌, Option, Some, IfSome, IsTrue, option_and_then, option_map}
 use Rattle.tail_outside.specs.Shown.{FilesShown}
 use Rattle.run_frame.specs.Tables.{NamesSeen, TablesSeen}

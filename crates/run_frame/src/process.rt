@@ -1,4 +1,5 @@
-//! What a process is given: its words, the real files and its output.
+//! What a process is given: its words, the real files and its output. This is where a run meets the system, and nothing
+//! is stated of it; the words, the files and the sink are stated where they are used.
 
 ghost use Rattle.std.specs.Prelude.{◌≡◌};
 ghost use Rattle.std.specs.Io.{WritesAtMost};

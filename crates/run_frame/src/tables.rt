@@ -1,4 +1,5 @@
-//! The three tables that a run is over, and their names.
+//! The three tables that a run is over, and their names. All are in memory at once, each at most one byte longer than
+//! it may be.
 
 use std::marker::Model;
 

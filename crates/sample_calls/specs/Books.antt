@@ -1,4 +1,4 @@
--- What is shown of texts that are refused.
+-- What is shown of texts that are refused: the line of their refusal, and nothing where they are a book.
 use Rattle.std.specs.Prelude.{ℕ, List, Option, Some, None, Result, Ok, Err}
 use Rattle.tail_book.specs.Seen.{BookSeen}
 use Rattle.tail_text.specs.declared.refusal.Refusal.{Refusal}

@@ -1,4 +1,4 @@
--- What is told of a plan's file.
+-- What is told of a plan's file: the plan or the refusal that its bytes give, unless a read fails or memory runs out.
 use Rattle.std.specs.Prelude.{◌≡◌, ⊤, Result, Ok, Err}
 use Rattle.tail_book.specs.Seen.{RawPlanSeen}
 use Rattle.tail_text.specs.declared.refusal.Refusal.{Refusal}

@@ -1,4 +1,4 @@
--- Books and activities that are made in memory.
+-- Books and activities that are made in memory, field by field, with no text of them.
 use Rattle.std.specs.Prelude.{ℕ, ℤ, true, List, [], ◌∷◌, ◌++◌, None}
 use Rattle.tail_book.specs.Seen.{ActivitySeen, BookSeen, TailSeen}
 

@@ -1,4 +1,4 @@
--- How far an aircraft comes on a route.
+-- How far an aircraft comes on a route: the longest front that is legal.
 use Rattle.std.specs.Prelude.{ℕ, ℤ, ◌+◌, ◌≤◌, ◌<◌, List, length, take}
 use Rattle.tail_book.specs.Seen.{BookSeen}
 use Rattle.tail_book.specs.declared.place.Place.{Place}

@@ -1,4 +1,4 @@
--- Moments that are put off.
+-- Moments that are put off by minutes, where both are given.
 use Rattle.std.specs.Prelude.{ℕ, ℤ, pos, ◌+ℤ◌, Result, Ok, Err}
 use Rattle.tail_text.specs.Bad.{bad}
 use Rattle.tail_text.specs.declared.bad.Bad.{Bad}

@@ -1,4 +1,5 @@
-//! The audit of a plan that spells its names.
+//! The audit of a plan that spells its names: the first rule that it breaks, or what is kept of it whether it breaks
+//! one or not.
 
 ghost use Rattle.std.specs.Prelude.{◌≡◌, IfOk, Ok, slice_get};
 ghost use Rattle.tail_text.specs.Checks.{look};

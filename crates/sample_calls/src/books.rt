@@ -1,4 +1,5 @@
-//! A book from three texts, and why texts are no book.
+//! A book from three texts, and why texts are no book. The first refusal is the only one: what stands behind it is not
+//! looked at.
 
 ghost use Rattle.std.specs.Prelude.{◌≡◌, IfOk};
 ghost use Rattle.tail_text.specs.inside.Reading.{Answers};

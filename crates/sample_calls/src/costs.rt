@@ -1,4 +1,5 @@
-//! What a plan costs, and what one step of a route costs by a table.
+//! What a plan costs, and what one step of a route costs by a table. The cost of a plan takes an audit of it, that of a
+//! step a few reads.
 
 ghost use Rattle.std.specs.Prelude.{◌≡◌, ◌<◌, ◌+◌, IfOk};
 ghost use Rattle.std.specs.Option.{MatchOption};

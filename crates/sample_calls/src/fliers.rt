@@ -1,4 +1,5 @@
-//! Who may fly what, asked of a book and of its table.
+//! Who may fly what, asked of a book and of its table. The book's rules serve a single question; the table is made
+//! once, and serves many with one read for each.
 
 ghost use Rattle.std.specs.Prelude.{◌≡◌, ◌↔◌, ◌<◌, ◌++◌, [], ◌∷◌, ℕ, if◌then◌else◌, Contains, IfOk, IsTrue, OnOk};
 ghost use Rattle.std.specs.List.Sorted.{IsStrictlyIncreasing};

@@ -1,7 +1,7 @@
 //! A table in a layout of one's own, read as the tables of the programs are: a timetable of flights alone.
 //!
-//! Only the header and the meaning of one record are ours. That the size, the bytes, the header and the number of
-//! records are looked at before, and that the first refusal is told with its place, comes from `read_table`.
+//! Only the header and the meaning of one record are written here. That the size, the bytes, the header and the number
+//! of records are looked at before, and that the first refusal is told with its place, comes from `read_table`.
 
 ghost use Rattle.std.specs.Prelude.{◌≡◌, ◌≤◌, length, IfOk};
 ghost use Rattle.tail_text.specs.inside.Reading.{Answers};

@@ -1,4 +1,5 @@
-//! What is found of a book, printed over any sink: standard output, a file, or memory.
+//! What is found of a book, printed over any sink: standard output, a file, or memory. Where a sink fails in between,
+//! nothing is said of what it took.
 
 ghost use Rattle.std.specs.Prelude.{OnOk, IsErrOf};
 ghost use Rattle.tail_outside.specs.Outside.{PieceHasFailed};

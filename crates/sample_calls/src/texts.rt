@@ -1,4 +1,5 @@
-//! Numbers and moments in texts, and a line that is put together piece by piece.
+//! Numbers and moments in texts, and a line that is put together piece by piece. What is no number or moment is
+//! answered as bad, and not why.
 
 ghost use Rattle.std.specs.Prelude.{◌≡◌, ◌<◌, ◌≤◌, ◌++◌, pos, codes, IfOk};
 ghost use Rattle.std.specs.Fmt.{signed_decimal};

@@ -1,4 +1,6 @@
--- What the words mean, at command lines that are written out.
+-- What the words mean, at command lines that are written out. The rows show a plan's name in each way to write it, as
+-- every program takes it, then a certificate's in its place, and that both at once, one of them twice or another option
+-- are refused.
 use Rattle.std.proofs.Common.{◌≡◌, ℕ, List, [], ◌∷◌, Option, Some, None, codes, refl}
 use Rattle.clap.proofs.OnLiterals.{clap_on_literals}
 use Rattle.trial_texts.specs.inside.PlanWords.{ReadsPlans}

@@ -1,4 +1,6 @@
--- From an answer that is true and printed to what a run promises.
+-- From an answer that is true and printed to what a run promises. What is judged is one case or one refusal, never
+-- both; what is found has the statuses 0, 1 and 8 and all else others. So a status says which it was: an audit whether
+-- the plan breaks a rule, a verdict whether the certificate is accepted, by the two laws that a yes comes exactly then.
 use Rattle.std.proofs.Common.{◌≡◌, ◌≢◌, ◌≤◌, ◌∙◌, ℕ, inl, inr, arith, List, Option, Ok, None, Some, IfSome, subst, sym}
 use Rattle.tail_book.specs.Seen.{BookSeen, RawPlanSeen}
 use Rattle.tail_outside.specs.Outside.{PieceHasFailed, Takes}

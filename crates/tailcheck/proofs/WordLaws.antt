@@ -1,4 +1,5 @@
--- What the words mean, whatever the names are.
+-- What the words mean, whatever the names are. The reading computes for names that are not known: a value behind an
+-- equals sign and names behind two dashes are taken unseen, and other names only have to begin with no dash.
 use Rattle.std.proofs.Common.{false, ◌==◌, ◌≡◌, ℕ, List, [], ◌∷◌, ◌++◌, Option, Some, None, codes, refl}
 use Rattle.clap.proofs.OnLiterals.{clap_on_literals}
 use Rattle.tailcheck.specs.Texts.{CheckNamesSeen, PlanName, CertificateName}

@@ -1,4 +1,5 @@
-//! What a run finds: the audit of a plan or the verdict on a certificate, and how each is printed.
+//! What a run finds: the audit of a plan or the verdict on a certificate, and how each is printed. A certificate that
+//! is too long is a finding as well, with a status of its own, since nothing was judged.
 
 ghost use Rattle.std.specs.Prelude.{◌≡◌, ◌≤◌, ℕ, false, List, OnErr, OnOk, IsErrOf};
 ghost use Rattle.tailcheck.specs.Answers.{found_lines};

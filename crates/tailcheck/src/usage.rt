@@ -1,4 +1,5 @@
-//! The line that is printed where the words are refused.
+//! The line that is printed where the words are refused: all words that the program takes. It does not say which were
+//! wrong.
 
 ghost use Rattle.std.specs.Prelude.{◌≡◌};
 ghost use Rattle.tailcheck.specs.Usage.{usage_line};

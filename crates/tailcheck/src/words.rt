@@ -1,4 +1,5 @@
-//! The reading of the words: by which tables a plan or a certificate is judged.
+//! The reading of the words: by which tables a plan or a certificate is judged. Exactly one of the two has to be named,
+//! since a run gives one verdict.
 
 ghost use Rattle.std.specs.Prelude.{◌≡◌, IfOk, option_map};
 ghost use Rattle.clap.specs.Words.{app_of, found_of, rows_of};

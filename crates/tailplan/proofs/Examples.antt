@@ -1,4 +1,6 @@
--- What the words mean, at command lines that are written out.
+-- What the words mean, at command lines that are written out. The rows show the three names in their order, the two
+-- options in each way to write them, a trial, and what is refused: too few words or too many, a dash in front, a limit
+-- that is no number, an option twice or unknown.
 use Rattle.std.proofs.Common.{◌≡◌, ℕ, List, [], ◌∷◌, Option, Some, None, codes, refl}
 use Rattle.clap.proofs.OnLiterals.{clap_on_literals}
 use Rattle.branch_tree.specs.declared.limit.Limit.TheVariants.{Free, Nodes}

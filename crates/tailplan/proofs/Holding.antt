@@ -1,4 +1,6 @@
--- What files hold once a certificate was written to one of them, or a front of it.
+-- What files hold once a certificate was written to one of them, or a front of it. Only the file of that name was
+-- written, so all others hold what they held. Its file was empty before the first piece, so what the sink took is what
+-- it holds, where it has not ceased; and a certificate that is held whole is a front of itself.
 use Rattle.std.proofs.Common.{◌≡◌, ◌∙◌, inl, ℕ, Bool, false, List, [], Option, Some, None, arith, refl, sym, ap, subst}
 use Rattle.std.proofs.Math.Nat.{le_trans}
 use Rattle.std.proofs.lemmas.List.{append-nil}

@@ -1,4 +1,7 @@
--- From an answer to tables that were read to one to the words, and what the certificate's file is left with.
+-- From an answer to tables that were read to one to the words, and what the certificate's file is left with. The tables
+-- that were read are fronts of those held, and the book of the fronts is that of the whole. Reading changes no file, so
+-- a file that stays as it was after the reading is as it was at first, and a certificate that is due for the fronts is
+-- due for the whole.
 use Rattle.std.proofs.Common.{◌≡◌, ◌∙◌, ◌⊎◌, inl, inr, ℕ, false, List, [], Option, Some, IfSome, Result, Ok, Err, sym, ap, subst}
 use Rattle.std.specs.Prelude.{IfOk, option_and_then, unwrap_or}
 use Rattle.tail_outside.specs.Outside.{OnlyRead}

@@ -1,4 +1,6 @@
--- From an answer that is true and printed to what a run promises.
+-- From an answer that is true and printed to what a run promises. Tables that were read up to the limit say what the
+-- whole files say, so the answer is true of the words. What is held is one book or one refusal, never both, and
+-- outcomes have other statuses than all else: so a status comes exactly for its cause.
 use Rattle.std.specs.Prelude.{option_map}
 use Rattle.std.proofs.Common.{◌≡◌, ◌≢◌, ◌∙◌, ℕ, inl, inr, arith, List, Option, None, Some, IfSome, refl, subst, sym}
 use Rattle.tail_book.specs.Seen.{BookSeen}

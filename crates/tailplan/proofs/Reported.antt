@@ -1,4 +1,6 @@
--- From what a run answered and printed, or did not, to what it promises.
+-- From what a run answered and printed, or did not, to what it promises. Where there is an answer it is the promise of
+-- that answer. Where the certificate could not be written, nothing was printed, which is a front of every text, and the
+-- cause is the write that failed.
 use Rattle.std.proofs.Common.{◌≡◌, ◌≤◌, inl, inr, ℕ, List, [], Option, Some, None, Result, Ok, Err, arith, refl, sym, ap, subst}
 use Rattle.std.proofs.lemmas.List.{append-nil}
 use Rattle.std.specs.Prelude.{IfOk, IsErr}

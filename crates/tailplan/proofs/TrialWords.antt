@@ -1,4 +1,5 @@
--- Words that ask for a trial name no tables, and leave the files alone.
+-- Words that ask for a trial name no tables: the reading of names answers none where the first word asks for a trial.
+-- So what is promised of tables has nothing to hold of, and the files are left alone.
 use Rattle.std.proofs.Common.{◌≡◌, ◌∙◌, inl, ℕ, Bool, true, false, List, Option, Some, None, if◌then◌else◌, refl, sym}
 use Rattle.std.specs.Prelude.{option_and_then}
 use Rattle.tail_outside.specs.Shown.{FilesShown}

@@ -1,4 +1,6 @@
--- From what a trial finds to what its status promises.
+-- From what a trial finds to what its status promises. The plan that the tables were made with is legal, and none
+-- undercuts it. So a true outcome agrees with its cost: an optimal cost is that cost, by both at most the other, and a
+-- bound is at most that cost. The certificate in the sink is that of the outcome, so the checker says yes to it.
 use Rattle.std.proofs.Common.{◌≡◌, ◌∙◌, ◌≤◌, ℕ, Bool, true, false, inl, inr, arith, List, [], Some, Result, Ok, IfOk, refl, sym, subst}
 use Rattle.tail_book.specs.Seen.{BookSeen}
 use Rattle.tail_book.specs.Truth.{IsTrueOutcome, claim_of}

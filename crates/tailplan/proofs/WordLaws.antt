@@ -1,4 +1,6 @@
--- What the words mean, whatever the names are.
+-- What the words mean, whatever the names are. The reading computes for names that are not known: behind two dashes
+-- nothing of them is looked at, and without these only that the first sign is no dash. One case is left to a test: the
+-- first name may ask for a trial.
 use Rattle.std.proofs.Common.{Bool, true, false, ◌==◌, ◌≡◌, ◌∙◌, ℕ, List, [], ◌∷◌, bytes_eq, Option, Some, None, codes, if◌then◌else◌, refl}
 use Rattle.std.specs.Prelude.{option_and_then}
 use Rattle.clap.proofs.OnLiterals.{clap_on_literals}

@@ -1,4 +1,5 @@
-//! What a run finds: a book and what is true of it, which is printed as the report of an outcome.
+//! What a run finds: a book and what is true of it, which is printed as the report of an outcome. The outcome has
+//! numbers, and the book the names that are printed for them.
 
 ghost use Rattle.std.specs.Prelude.{◌≡◌, ◌≤◌, ℕ, false, List, OnErr, OnOk, IsErrOf};
 ghost use Rattle.plan_report.specs.Report.{report_lines};

@@ -1,4 +1,5 @@
-//! The planning of a book: the search, and its certificate where one is asked for.
+//! The planning of a book: the search, and its certificate where one is asked for. Without one no labels are priced to
+//! be told.
 
 ghost use Rattle.std.specs.Prelude.{◌≡◌, IfOk, IfSome, IsErr, IsTrue, None, Some, option_map};
 ghost use Rattle.tail_book.specs.inside.CostTable.{costs_of};

@@ -1,4 +1,5 @@
-//! The line that is printed where the words are refused.
+//! The line that is printed where the words are refused: the words of a run over tables. Those of a trial are not among
+//! them, and it does not say which words were wrong.
 
 ghost use Rattle.std.specs.Prelude.{◌≡◌};
 ghost use Rattle.tailplan.specs.Usage.{usage_line};

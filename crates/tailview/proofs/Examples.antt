@@ -1,4 +1,6 @@
--- What the words mean, at command lines that are written out.
+-- What the words mean, at command lines that are written out. The rows show a plan's name in each way to write it, as
+-- every program takes it, then an airport and a page on request, and that an option twice, without its value or unknown
+-- is refused.
 use Rattle.std.proofs.Common.{◌≡◌, ℕ, true, false, List, [], ◌∷◌, Option, Some, None, codes, refl}
 use Rattle.clap.proofs.OnLiterals.{clap_on_literals}
 use Rattle.trial_texts.specs.inside.PlanWords.{ReadsPlans}

@@ -1,4 +1,6 @@
--- From an answer that is true and printed to what a run promises.
+-- From an answer that is true and printed to what a run promises. The fronts that were read say what the whole files
+-- say. A book and a plan that are read are one case and no refusal, and audits have the statuses 0 and 1. The picture
+-- of a broken plan is the same whatever it costs, so there the cost that is drawn need not be known.
 use Rattle.std.proofs.Common.{◌≡◌, ◌≢◌, ◌∙◌, ◌==◌, ℕ, suc, false, length, inl, inr, arith, List, [], ◌∷◌, Ok, None, Some, IfSome, ap₂, refl, subst, sym}
 use Rattle.std.proofs.lemmas.Bool.Decides.{nat_tests}
 use Rattle.std.specs.Prelude.{Result}

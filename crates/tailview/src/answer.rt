@@ -1,4 +1,5 @@
-//! What a run finds: a book, the kept plan and its audit, which are drawn.
+//! What a run finds: a book, the kept plan and its audit, which are drawn. A plan that breaks rules is drawn too, by
+//! what is kept of it.
 
 ghost use Rattle.std.specs.Prelude.{◌≡◌, ◌≤◌, ℕ, [], false, List, OnErr, OnOk, IsErrOf};
 ghost use Rattle.plan_picture.specs.Picture.{page_lines};

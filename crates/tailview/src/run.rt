@@ -1,4 +1,5 @@
-//! A whole run: the words, the files, the audit of the plan, and the picture that is printed.
+//! A whole run: the words, the files, the audit of the plan, and the picture that is printed. A step that fails gives
+//! the answer, so the first cause is what is told.
 
 ghost use Rattle.std.specs.Prelude.{◌≡◌, ◌≤◌, None, false};
 ghost use Rattle.tail_outside.specs.Outside.{OnlyRead, PieceHasFailed, ReadHasFailed};

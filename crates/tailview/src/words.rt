@@ -1,4 +1,5 @@
-//! The reading of the words: which tables and which plan are drawn, and how.
+//! The reading of the words: which tables and which plan are drawn, and how. The plan's option has to be given; an
+//! airport and a page only add to what is drawn.
 
 ghost use Rattle.std.specs.Prelude.{◌≡◌, IfOk, option_map};
 ghost use Rattle.clap.specs.Words.{app_of, found_of, rows_of};

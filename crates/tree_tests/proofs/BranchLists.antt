@@ -1,4 +1,8 @@
--- Branches that are owed keep the marks that they begin with while facts are added behind these.
+-- A branch that is owed is kept as a length and a fact: its marks are so many of the facts of the node, and that fact.
+-- Facts are only added behind, so a front stays what it was, and so do all branches that are owed. A split puts one
+-- branch more on top, whose front is all facts so far; the branch that comes next cuts the facts to its front and adds
+-- its own.
+-- The facts of a branch are new, since its pair was undecided.
 use Rattle.std.proofs.Common.{◌≡◌, ◌∙◌, ℕ, zero, suc, ◌+◌, ◌<◌, ◌≤◌, Bool, true, false, List, [], ◌∷◌, ◌++◌, length, take, reverse, get_or, refl, sym, ap, subst, arith, append_assoc}
 use Rattle.std.proofs.lemmas.Bool.{and_parts, both_ways, false_from_ne_true}
 use Rattle.std.proofs.lemmas.List.{append-nil, reverse-append, take-append-le}

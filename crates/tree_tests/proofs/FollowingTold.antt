@@ -1,4 +1,7 @@
--- Judging an activity by its floor and what goes on from it, its only carrier, and a link by going over the aircraft.
+-- What the tests of facts answer is what the definitions say. An arrival is dead where there is no floor, or where the
+-- aircraft may neither end there nor go on from the floor. An activity has its only carrier where one aircraft is alive
+-- there and no other. A link is dead where none of the aircraft that were asked goes on over it: by their number, where
+-- those that are passed over are not alive at the link's first activity and so may not use it.
 use Rattle.std.specs.Prelude.{◌↔◌, Contains, IsTrue, not, is_some, nat_eq, nat_lt, ◌&&◌}
 use Rattle.std.specs.Bool.{Decides}
 use Rattle.std.proofs.Common.{◌≡◌, ◌∙◌, ℕ, ℤ, zero, suc, ◌<◌, ◌≤◌, ◌+◌, inl, inr, Bool, true, false, List, refl, sym, ap, subst, arith, below_more, Option, None, Some}

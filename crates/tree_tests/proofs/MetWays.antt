@@ -1,4 +1,7 @@
--- A family goes on from a place where each of the ways from there is met.
+-- A family goes on from a place where each usable link from there is met: the counters pass a limit, or some label
+-- covers what the link comes to. The code asks only the ways of the network. That is enough, since every usable link is
+-- among them; and as each way is an activity of the book, one that is not met is a link over which the family does not
+-- go on.
 use Rattle.std.specs.Prelude.{not, nat_eq, ◌&&◌, ◌||◌}
 use Rattle.std.proofs.Common.{◌≡◌, ◌∙◌, ℕ, ℤ, zero, suc, ◌<◌, Bool, true, false, List, [], ◌∷◌, length, get_or, refl, sym, ap, subst, arith, inl, inr}
 use Rattle.std.proofs.lemmas.Bool.{both_ways, eqb-true, or_cases, or_left, or_right, eq-eqb}

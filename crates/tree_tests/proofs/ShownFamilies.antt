@@ -1,4 +1,5 @@
--- A family whose labels are of the book, in order and alive is shown exactly where it goes on from the carry-in and from each label.
+-- A shown family passes five tests. Labels that are of the book, in order and alive have passed three of them at their
+-- lines, so what is left to ask is whether the family goes on from the carry-in and from each label.
 use Rattle.std.specs.Prelude.{All, ◌==◌, ◌&&◌, nat_le}
 use Rattle.std.specs.List.{list_all}
 use Rattle.std.proofs.Common.{◌≡◌, ◌∙◌, ℕ, ℤ, pos, zero, suc, ◌<◌, ◌≤◌, Bool, true, false, List, [], ◌∷◌, length, get_or, refl, sym, ap, subst, arith}

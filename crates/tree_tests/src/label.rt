@@ -1,4 +1,5 @@
-//! The labels of a cover or of a stuck leaf, as its lines gave them.
+//! The labels of a cover or of a stuck leaf, as its lines gave them. They are only claimed: what they show is tested
+//! once all of them have come.
 
 use branch_marks::Row;
 use std::marker::Model;

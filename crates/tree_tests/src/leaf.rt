@@ -1,4 +1,4 @@
-//! What the labels of a leaf are looked at by.
+//! What the labels of a leaf are looked at by, borrowed as one, so that each test takes it whole and copies nothing.
 
 use crate::label::Label;
 use crate::means::Means;
@@ -11,6 +11,7 @@ pub struct Leaf<'a> {
     pub book: &'a Book,
     pub means: &'a Means,
     pub marks: &'a Marks,
+    /// In thousandths of a cost unit.
     pub duals: &'a [i64],
     pub family: &'a [Label],
     pub starts: &'a [usize],

@@ -1,4 +1,5 @@
-//! What judging reads of a book, made once: its costs, the steps of its counters, and its network.
+//! What judging reads of a book, made once: its costs, the steps of its counters, and its network. None of it depends
+//! on marks, so all lines of a certificate are judged by the same.
 
 ghost use Rattle.std.specs.Prelude.{IfOk};
 ghost use Rattle.tree_tests.specs.inside.Means.{AreMeansOf};

@@ -1,4 +1,4 @@
--- Pricing all aircraft at a leaf, and what is told of it.
+-- Pricing all aircraft at a leaf, and what is told of it: a whole end, a front of one, or nothing.
 use Rattle.std.specs.Prelude.{◌≡◌, ◌+◌, ◌<◌, ◌≤◌, ⊤, ℕ, ℤ, List, [], ◌∷◌, All, length, map, take}
 use Rattle.tail_book.specs.Seen.{BookSeen}
 use Rattle.tail_book.specs.inside.Seen.{CostTableSeen}

@@ -1,4 +1,5 @@
--- Lists of events that are made before they are told.
+-- Lists of the events of a node that are made before they are told: what is due stands at the end, and a line spells
+-- it.
 use Rattle.std.specs.Prelude.{◌≡◌, ◌++◌, ◌<◌, ℕ, List, All, length}
 use Rattle.branch_marks.specs.declared.event.Event.{Event}
 use Rattle.branch_marks.specs.Events.{IsNotable, IsLineLabel}

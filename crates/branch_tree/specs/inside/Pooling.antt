@@ -1,4 +1,4 @@
--- Routes that are added to a pool.
+-- Routes of the aircraft that are added to a pool: each is there then, and the answer tells whether the pool has grown.
 use Rattle.std.specs.Prelude.{◌≡◌, ℕ, ◌<◌, Bool, true, false, List, Contains, length}
 use Rattle.tail_book.specs.Seen.{BookSeen}
 use Rattle.tail_book.specs.Plan.{route_of}

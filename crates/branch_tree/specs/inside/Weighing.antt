@@ -1,4 +1,4 @@
--- What a look at a node under duals comes to.
+-- What a look at a node under duals comes to: its end, or least routes whose sum leaves room below the target.
 use Rattle.std.specs.Prelude.{◌≡◌, ℕ, ℤ, ◌≤◌, List}
 use Rattle.tail_book.specs.Seen.{BookSeen}
 use Rattle.tail_book.specs.inside.Seen.{CostTableSeen}

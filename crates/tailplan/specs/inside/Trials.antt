@@ -1,4 +1,4 @@
--- Whether a verdict is a yes.
+-- Whether a verdict is a yes, as a flag of a trial tells it.
 use Rattle.std.specs.Prelude.{Bool, true, false, ◌≡◌}
 use Rattle.cert_checker.specs.declared.verdict.Verdict.{Verdict}
 use Rattle.cert_checker.specs.declared.verdict.Verdict.TheVariants.{Yes, No}

@@ -1,4 +1,4 @@
--- The names of a run of the checker as contracts see them, and the fronts of what is held.
+-- The names of a run of the viewer as contracts see them, and the fronts of what is held.
 use Rattle.std.specs.Prelude.{option_map}
 use Rattle.run_frame.specs.inside.TableFiles.{front, fronts, names_seen}
 use Rattle.tailview.specs.Texts.{ViewNamesSeen, TextsSeen}

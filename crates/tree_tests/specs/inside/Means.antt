@@ -1,4 +1,4 @@
--- What judging reads of a book.
+-- What judging reads of a book: the tables that its costs, its counters and its network give.
 use Rattle.std.specs.Prelude.{◌≡◌}
 use Rattle.tail_book.specs.Seen.{BookSeen}
 use Rattle.tail_book.specs.inside.CostTable.{costs_of}
