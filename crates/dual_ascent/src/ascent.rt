@@ -25,8 +25,11 @@ const MILDEST: u64 = 5_000;
 
 const HOTTEST: u64 = 1 << 31;
 
-// The temperature at the end.
-const COLDEST: i64 = 20;
+// The temperature at the end of an ascent for few aircraft.
+const COLDEST: u64 = 20;
+
+// Mixtures of one aircraft hold a sum down by so many temperatures.
+const HELD_DOWN: u64 = 3;
 
 // The same for duals that an ascent has been through, under fewer marks.
 const WARM: i64 = 1_000;
@@ -51,6 +54,8 @@ pub struct Ascent {
     powers: Powers,
     mixture: Mixture,
     temperature: i64,
+    // the temperature at the end
+    last: i64,
     radius: i64,
     // no dual is larger, with or without its sign
     most: i64,
@@ -77,6 +82,14 @@ fn first_temperature(first: &Duals) -> i64 {
     }
     let mean = sum / (first.values.len() as u64).max(1);
     (mean / PART).clamp(MILDEST, HOTTEST) as i64
+}
+
+// The temperature at the end. At it the mixtures of all aircraft together hold a sum down by three quarters of a cost unit at
+// most, so that it can still be rounded up to what the pool promises. Where aircraft are few it need not be so low.
+fn last_temperature(table: &CostTable) -> i64 {
+    let most = COST_UNIT * 3 / 4;
+    let parts = HELD_DOWN.saturating_mul(table.m as u64).max(1);
+    (most / parts).clamp(1, COLDEST) as i64
 }
 
 /// Four times the most that an activity costs an aircraft, in thousandths of a cost unit.
@@ -134,6 +147,7 @@ impl Ascent {
             powers: Powers::new(alloc)?,
             mixture: Mixture::new(alloc),
             temperature,
+            last: last_temperature(table),
             radius,
             most: most_of(table),
             best: first.values.clone()?,
@@ -165,7 +179,7 @@ impl Ascent {
     /// Whether the ascent has come to its end: at the last temperature, after a few rounds without a gain, or where no gain
     /// would bound costs higher.
     pub fn is_over(&self) -> bool {
-        self.temperature <= COLDEST && (self.stalls >= STALLS || self.is_high())
+        self.temperature <= self.last && (self.stalls >= STALLS || self.is_high())
     }
 
     // Whether the best sum, rounded up to whole cost units, comes to all that the pool promises.
@@ -290,13 +304,13 @@ impl Ascent {
         };
         let hoped = promised.saturating_sub(best);
         let near = (aircraft as i128).saturating_mul(self.temperature as i128 * 3);
-        self.temperature > COLDEST && hoped <= near
+        self.temperature > self.last && hoped <= near
     }
 
     // Lets the temperature fall.
     fn cool(&mut self)
         ensures { self.new ≡ self.old }
     {
-        self.temperature = (self.temperature.saturating_mul(3) / 4).max(COLDEST);
+        self.temperature = (self.temperature.saturating_mul(3) / 4).max(self.last);
     }
 }

@@ -1,6 +1,8 @@
 //! Trials of the search and of the plan finder on books of real size: the tables in `data`, which `bench/make_tables.py` makes
-//! with the seed 0, and whose least costs are known. Each is searched, and the finder is then asked by itself for a plan, at the
-//! facts of the search's root and the duals of its first bound. What both cost is printed, a line for each book.
+//! with the seed 0, and whose least costs are known. The last three have many aircraft with four flights each.
+//!
+//! Each book is searched, and the finder is then asked by itself for a plan, at the facts of the search's root and the duals of
+//! its first bound. What both cost is printed, a line for each book.
 #![tactic(auto)]
 
 mod failed;
@@ -71,6 +73,9 @@ fn run(rt: &HostRuntime) -> Result<(), Failed> {
         ("tight", 250),
         ("band", 250),
         ("full", 250),
+        ("plain", 128),
+        ("mix", 128),
+        ("band", 128),
     ] {
         try_book(rt, family, activities)?;
     }
