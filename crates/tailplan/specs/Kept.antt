@@ -1,7 +1,8 @@
 -- What becomes of the files of a run: only the certificate's is written, and what it may then hold.
-use Rattle.std.specs.Prelude.{ℕ, ◌≡◌, ◌≢◌, ◌⊎◌, ◌≤◌, false, List, [], Option, None, Some, unwrap_or}
+use Rattle.std.specs.Prelude.{ℕ, ◌≡◌, ◌≢◌, ◌⊎◌, ◌≤◌, false, List, [], Option, None, Some, String, unwrap_or}
 use Rattle.tail_outside.specs.Outside.{HasRisen, OnlyRead, PieceHasFailed, SameNames}
 use Rattle.tail_outside.specs.Shown.{FilesShown, SinkShown}
+use Rattle.run_frame.specs.Spelled.{spelled}
 use Rattle.run_frame.specs.TableFiles.{AreGiven}
 use Rattle.tailplan.specs.Answers.{HasFrontOfDue, OfTask, cert_of}
 
@@ -36,3 +37,8 @@ OnlyReads words status old new = (cert_of words ≡ None) ⊎ EndsBeforeSearch s
 abbrev pub WriteHasFailed : List (List ℕ) → FilesShown → FilesShown → SinkShown → SinkShown → Type 0
 WriteHasFailed words old new before after =
     PieceHasFailed before after ⊎ (AreGiven (cert_of words) × HasRisen old.write_faults new.write_faults)
+
+-- status 6 comes only of a write that failed, where the files and the output show what these two functions say of them
+abbrev pub FailsByWrite : {F S Z : Type 0} → (F → FilesShown) → (S → SinkShown) → List (String Z) → F → F → S → S → ℕ → Type 0
+FailsByWrite files_shown sink_shown words files later before after status =
+    status ≡ 6 → WriteHasFailed (spelled words) (files_shown files) (files_shown later) (sink_shown before) (sink_shown after)

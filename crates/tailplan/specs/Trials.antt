@@ -1,5 +1,5 @@
 -- What a trial finds and prints, and what it promises by its status.
-use Rattle.std.specs.Prelude.{ℕ, ◌≡◌, ◌≤◌, ◌==◌, ⊤, true, List, [], ◌∷◌, ◌++◌, Bool, Option, None, Some, codes, cond, decimal, if◌then◌else◌}
+use Rattle.std.specs.Prelude.{ℕ, ◌≡◌, ◌≤◌, ◌==◌, ⊤, true, List, [], ◌∷◌, ◌++◌, Bool, Option, None, Some, String, codes, cond, decimal, if◌then◌else◌}
 use Rattle.tail_book.specs.Seen.{BookSeen}
 use Rattle.tail_book.specs.Truth.{IsTrueOutcome}
 use Rattle.tail_book.specs.declared.outcome.Outcome.{Outcome}
@@ -10,8 +10,9 @@ use Rattle.branch_tree.specs.declared.limit.Limit.TheVariants.{Nodes}
 use Rattle.certified_search.specs.Written.{IsCertificateOf}
 use Rattle.plan_report.specs.Lines.{text_of}
 use Rattle.plan_report.specs.Report.{first_line}
-use Rattle.run_frame.specs.Answer.{lines_of}
+use Rattle.run_frame.specs.Answer.{IsUnlessStopped, lines_of}
 use Rattle.run_frame.specs.Promise.{PrintsFront}
+use Rattle.run_frame.specs.Spelled.{spelled}
 use Rattle.run_frame.specs.declared.answer.Answer.{Answer}
 use Rattle.run_frame.specs.declared.answer.Answer.TheVariants.{Usage, Refused, Found, ReadFailed, Memory}
 use Rattle.trial_tables.specs.Making.{IsBookOfTrial, making_cost}
@@ -19,7 +20,7 @@ use Rattle.trial_tables.specs.Trial.{trial_of}
 use Rattle.tailplan.specs.Answers.{HasTree}
 use Rattle.tailplan.specs.Promises.{IsBound, Promise}
 use Rattle.tailplan.specs.Usage.{usage_line}
-use Rattle.tailplan.specs.Words.{seed_of}
+use Rattle.tailplan.specs.Words.{run_of, seed_of}
 use Rattle.tailplan.specs.declared.trial.TheConstants.{TRIAL_NODES}
 use Rattle.tailplan.specs.declared.trial.Tried.{Tried}
 
@@ -103,5 +104,11 @@ abbrev pub PromiseBy : Option ℕ → List (List ℕ) → FilesShown → FilesSh
 PromiseBy None words files later before after status = Promise words files later before after status
 PromiseBy (Some seed) words files later before after status = TrialPromise seed before after status
 
-abbrev pub RunPromise : List (List ℕ) → FilesShown → FilesShown → SinkShown → SinkShown → ℕ → Type 0
-RunPromise words files later before after status = PromiseBy (seed_of words) words files later before after status
+-- what any run promises by its status, where its files and its output show what these two functions say of them
+abbrev pub RunPromise : {F S Z : Type 0} → (F → FilesShown) → (S → SinkShown) → List (String Z) → F → F → S → S → ℕ → Type 0
+RunPromise files_shown sink_shown words files later before after status =
+    PromiseBy (seed_of (spelled words)) (spelled words) (files_shown files) (files_shown later) (sink_shown before) (sink_shown after) status
+
+-- words that are neither those of a run over tables nor those of a trial end with status 2, unless a write failed or memory was wanting
+abbrev pub RefusesWords : List (List ℕ) → ℕ → Type 0
+RefusesWords words status = run_of words ≡ None → seed_of words ≡ None → IsUnlessStopped 2 status

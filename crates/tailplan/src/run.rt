@@ -9,9 +9,9 @@ ghost use Rattle.run_frame.specs.Spelled.{spelled};
 ghost use Rattle.run_frame.specs.TableFiles.{AreGiven};
 ghost use Rattle.run_frame.specs.declared.answer.Answer.TheVariants.{ReadFailed};
 ghost use Rattle.tailplan.specs.Answers.{AreRefused, AreSolved, IsTrueAnswer, MayUse, cert_of};
-ghost use Rattle.tailplan.specs.Kept.{LeavesCertificate, OnlyCertificate, OnlyReads, WriteHasFailed};
+ghost use Rattle.tailplan.specs.Kept.{FailsByWrite, LeavesCertificate, OnlyCertificate, OnlyReads, WriteHasFailed};
 ghost use Rattle.tailplan.specs.Promises.{JudgesBook, Promise, RefusesTables};
-ghost use Rattle.tailplan.specs.Trials.{RunPromise};
+ghost use Rattle.tailplan.specs.Trials.{RefusesWords, RunPromise};
 ghost use Rattle.tailplan.specs.Words.{run_of, seed_of};
 ghost use Rattle.tailplan.specs.inside.Ending.{KeepsFiles, LeavesFile};
 
@@ -40,12 +40,12 @@ pub fn solve_run<F: Files, S: Sink>(
     requires { MayUse (spelled words.now) (F.shows files) }
 
     // What the status says, and the causes of faults.
-    ensures promised { RunPromise (spelled words.now) (F.shows files) (F.shows result.files) (S.shows out.old) (S.shows out.new) result.status.0 }
+    ensures promised { RunPromise F.shows S.shows words.now files result.files out.old out.new result.status.0 }
     ensures read_failed { result.status.0 ≡ 5 → ReadHasFailed (F.shows files) (F.shows result.files) }
-    ensures write_failed { result.status.0 ≡ 6 → WriteHasFailed (spelled words.now) (F.shows files) (F.shows result.files) (S.shows out.old) (S.shows out.new) }
+    ensures write_failed { FailsByWrite F.shows S.shows words.now files result.files out.old out.new result.status.0 }
 
     // When each status comes.
-    ensures words_refused { run_of (spelled words.now) ≡ None → seed_of (spelled words.now) ≡ None → IsUnlessStopped 2 result.status.0 }
+    ensures words_refused { RefusesWords (spelled words.now) result.status.0 }
     ensures tables_refused { RefusesTables (spelled words.now) (F.shows files) result.status.0 }
     ensures judged { JudgesBook (spelled words.now) (F.shows files) result.status.0 }
 
