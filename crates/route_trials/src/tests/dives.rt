@@ -3,19 +3,142 @@
 ghost use Rattle.std.specs.Prelude.{IsTrue};
 ghost use Rattle.tail_book.specs.inside.CostTable.{IsTableFor};
 
-use branch_marks::Fact;
-use connection_net::Net;
+use super::are_routes;
+use super::asks::{Ask, Case, by_table, first_wrong};
+use super::books::{ByHand, make};
+use branch_marks::{Fact, Marks};
 use dive_heuristic::{DeadEnd, Dive, DiveStep, dive};
+use plan_finder::Problem;
 use std::alloc::Global;
 use std::test::Fail;
 use tail_book::laws::every_book_is_sound;
 use tail_book::*;
-use trial_books::{
-    Row, are_duals, book, counters, duals_of, flight, marks, plain_book, there_and_back,
-};
 
 mod chance;
 mod memory;
+
+// How a dive ends: with these routes and their cost, or after these steps at a dead end.
+#[derive(Clone, Copy)]
+enum Ends {
+    Plan(&'static [&'static [u32]], u64),
+    Dead(&'static [DiveStep], DeadEnd),
+}
+
+fn is_end(answer: &Dive, ends: Ends) -> bool {
+    match (answer, ends) {
+        (Dive::Plan(plan, cost), Ends::Plan(routes, want)) => {
+            *cost == want && are_routes(plan, routes)
+        }
+        (Dive::Dead { steps, end }, Ends::Dead(want, dead)) => {
+            steps.as_slice() == want && *end == dead
+        }
+        _ => false,
+    }
+}
+
+// A dive ends so.
+#[derive(Clone, Copy)]
+struct DiveEnds(Ends);
+
+impl Ask for DiveEnds {
+    type Answer = bool;
+
+    fn answer(
+        &self,
+        alloc: Global,
+        problem: &Problem,
+        marks: &Marks,
+        duals: &Duals,
+    ) -> Result<bool, Memory> {
+        let Problem { book, table, net } = *problem;
+        match dive(alloc, book, table, net, marks, duals) {
+            Ok(answer) => Ok(is_end(&answer, self.0)),
+            Err(error) => Err(error),
+        }
+    }
+}
+
+const FORCED: &[DiveStep] = &[
+    DiveStep::Forced(Fact::Bar(0, 1)),
+    DiveStep::Forced(Fact::Must(0, 0)),
+];
+
+// A turn of half an hour lets the one aircraft come back: both flights are forced, and its least route is the plan. A minute
+// more, and the way back is dead on arrival, before the only carrier is given the way out.
+const FORCED_ALONE: &[Case<DiveEnds>] = &[
+    (
+        ByHand::Alone(30),
+        &[],
+        &[0, 0],
+        DiveEnds(Ends::Plan(&[&[0, 1]], 120)),
+    ),
+    (
+        ByHand::Alone(31),
+        &[],
+        &[0, 0],
+        DiveEnds(Ends::Dead(FORCED, DeadEnd::Hole(1))),
+    ),
+];
+
+const IN_ORDER: Ends = Ends::Plan(&[&[0], &[1]], 300);
+
+const EXCHANGED: Ends = Ends::Plan(&[&[1], &[0]], 240);
+
+// Each aircraft flies one of the two at most, and a minute costs the second twice as much. Under duals that pay nothing both
+// stay on the ground, and the first is chosen for the first; under good ones it flies the first and the second is chosen
+// for it. What is barred from the start stays so.
+const AFTER_CHOICES: &[Case<DiveEnds>] = &[
+    (ByHand::AtOnce, &[], &[0, 0], DiveEnds(IN_ORDER)),
+    (
+        ByHand::AtOnce,
+        &[],
+        &[120_000, 180_000],
+        DiveEnds(EXCHANGED),
+    ),
+    (
+        ByHand::AtOnce,
+        &[Fact::Bar(0, 0)],
+        &[0, 0],
+        DiveEnds(EXCHANGED),
+    ),
+    (
+        ByHand::AtOnce,
+        &[Fact::Must(1, 1)],
+        &[0, 0],
+        DiveEnds(IN_ORDER),
+    ),
+];
+
+// Where no flight is there, the empty routes are the plan.
+const NOTHING: &[Case<DiveEnds>] = &[(
+    ByHand::Empty,
+    &[],
+    &[],
+    DiveEnds(Ends::Plan(&[&[], &[]], 0)),
+)];
+
+// The last two flights are given to the second aircraft, which has to come to the first of them on one of the two ways:
+// floors see a way, and pricing none.
+const STUCK: &[Case<DiveEnds>] = &[(
+    ByHand::TwoWays,
+    &[Fact::Must(1, 4), Fact::Must(1, 5)],
+    &[0; 6],
+    DiveEnds(Ends::Dead(&[], DeadEnd::Stuck(1))),
+)];
+
+#[test]
+fn dives_by_hand(rt: HostRuntime) -> Result<(), Fail> {
+    for (name, cases) in [
+        ("forced steps alone", FORCED_ALONE),
+        ("plans after choices", AFTER_CHOICES),
+        ("nothing to fly", NOTHING),
+        ("stuck", STUCK),
+    ] {
+        let wrong = first_wrong(rt.alloc(), cases)?;
+        assert!(rt; wrong.is_none(), "{name}: case {wrong:?}");
+    }
+    Ok(())
+}
 
 // Whether the table is one of the book.
 fn is_for(book: &Book, table: &CostTable) -> bool
@@ -26,179 +149,20 @@ fn is_for(book: &Book, table: &CostTable) -> bool
     table.n == n && table.m == m && table.fly.len() == n * m
 }
 
-// Dives by a table; nothing where it is no table of the book, or the duals are not in the box.
-fn dived(
-    alloc: Global,
-    book: &Book,
-    table: &CostTable,
-    facts: &[Fact],
-    duals: &[i64],
-) -> Result<Option<Dive>, Fail> {
-    let net = Net::new(alloc, book)?;
-    let marks = marks(alloc, book, facts)?;
-    let duals = duals_of(alloc, duals)?;
-    if !is_for(book, table) || !are_duals(book, table, &duals) {
-        return Ok(None);
+// Whether a dive by this table ends so where two flights are at once.
+fn ends_by(alloc: Global, table: &CostTable, ends: Ends) -> Result<bool, Fail> {
+    let book = make(alloc, ByHand::AtOnce)?;
+    if !is_for(&book, table) {
+        return Ok(false);
     }
-    Ok(Some(dive(alloc, book, table, &net, &marks, &duals)?))
-}
-
-// Whether the answer is a plan of these two routes, with this cost.
-fn is_plan(answer: &Option<Dive>, first: &[u32], second: &[u32], want: u64) -> bool {
-    match answer {
-        Some(Dive::Plan(plan, cost)) => {
-            plan.0.len() == 2
-                && plan.0[0].0.as_slice() == first
-                && plan.0[1].0.as_slice() == second
-                && *cost == want
-        }
-        _ => false,
-    }
-}
-
-// Whether the answer is this dead end after these steps.
-fn is_dead(answer: &Option<Dive>, want: &[DiveStep], dead: DeadEnd) -> bool {
-    match answer {
-        Some(Dive::Dead { steps, end }) => steps.as_slice() == want && *end == dead,
-        _ => false,
-    }
-}
-
-// Two flights at once, of an hour and of two.
-fn side_by_side() -> [Row; 2] {
-    [flight((0, 1), (360, 420)), flight((0, 1), (360, 480))]
-}
-
-// A turn of half an hour lets the one aircraft come back: both flights are forced, and its least route is the plan. A minute
-// more, and the way back is dead on arrival, before the only carrier is given the way out.
-#[test]
-fn forced_steps_alone(rt: HostRuntime) -> Result<(), Fail> {
-    let soon = there_and_back(rt.alloc(), &[0], 30)?;
-    let table = CostTable::of(rt.alloc(), &soon)?;
-    let answer = dived(rt.alloc(), &soon, &table, &[], &[0, 0])?;
-    match &answer {
-        Some(Dive::Plan(plan, cost)) => {
-            assert_eq!(rt; *cost, 120);
-            assert_eq!(rt; plan.0.len(), 1);
-            assert_eq!(rt; plan.0[0].0.as_slice(), [0u32, 1].as_slice());
-        }
-        _ => assert!(rt; false, "{answer:?}"),
-    }
-    let late = there_and_back(rt.alloc(), &[0], 31)?;
-    let table = CostTable::of(rt.alloc(), &late)?;
-    let answer = dived(rt.alloc(), &late, &table, &[], &[0, 0])?;
-    let steps = [
-        DiveStep::Forced(Fact::Bar(0, 1)),
-        DiveStep::Forced(Fact::Must(0, 0)),
-    ];
-    assert!(rt; is_dead(&answer, &steps, DeadEnd::Hole(1)), "{answer:?}");
-    Ok(())
-}
-
-// Each aircraft flies one of the two at most, and a minute costs the second twice as much. Under duals that pay nothing both
-// stay on the ground, and the first is chosen for the first; under good ones it flies the first and the second is chosen
-// for it. What is barred from the start stays so.
-#[test]
-fn plans_after_choices(rt: HostRuntime) -> Result<(), Fail> {
-    let book = plain_book(rt.alloc(), &side_by_side(), &[0, 1], 30)?;
-    let table = CostTable::of(rt.alloc(), &book)?;
-    for (facts, duals, first, second, cost) in [
-        (
-            [].as_slice(),
-            [0i64, 0],
-            [0u32].as_slice(),
-            [1u32].as_slice(),
-            300,
-        ),
-        (
-            [].as_slice(),
-            [120_000, 180_000],
-            [1].as_slice(),
-            [0].as_slice(),
-            240,
-        ),
-        (
-            [Fact::Bar(0, 0)].as_slice(),
-            [0, 0],
-            [1].as_slice(),
-            [0].as_slice(),
-            240,
-        ),
-        (
-            [Fact::Must(1, 1)].as_slice(),
-            [0, 0],
-            [0].as_slice(),
-            [1].as_slice(),
-            300,
-        ),
-    ] {
-        let answer = dived(rt.alloc(), &book, &table, facts, &duals)?;
-        assert!(rt;
-            is_plan(&answer, first, second, cost),
-            "{facts:?}, {duals:?}: {answer:?}"
-        );
-    }
-    Ok(())
-}
-
-// Where no flight is there, the empty routes are the plan.
-#[test]
-fn nothing_to_fly(rt: HostRuntime) -> Result<(), Fail> {
-    let book = plain_book(rt.alloc(), &[], &[0, 1], 30)?;
-    let table = CostTable::of(rt.alloc(), &book)?;
-    let answer = dived(rt.alloc(), &book, &table, &[], &[])?;
-    assert!(rt; is_plan(&answer, &[], &[], 0), "{answer:?}");
-    Ok(())
+    Ok(by_table(alloc, &book, table, &[], &[0, 0], &DiveEnds(ends))? == Some(true))
 }
 
 // The cost is that of the table that is handed in, whatever the book says.
 #[test]
 fn costs_by_the_table(rt: HostRuntime) -> Result<(), Fail> {
-    let book = plain_book(rt.alloc(), &side_by_side(), &[0, 1], 30)?;
     let fly = vec![in rt.alloc(); 5u64, 7, 11, 13]?;
     let table = CostTable::new(2, 2, fly, Vec::new(rt.alloc()), 20, 0).ok_or("no table")?;
-    let answer = dived(rt.alloc(), &book, &table, &[], &[0, 0])?;
-    assert!(rt; is_plan(&answer, &[0], &[1], 18), "{answer:?}");
-    Ok(())
-}
-
-// To OSL in one long flight, or over two airports in three short ones; then back, and out once more. One way takes too many
-// minutes, the other too many landings, and a floor takes the lesser of each: so propagation sees a way and pricing none.
-fn two_ways() -> [Row; 6] {
-    [
-        flight((0, 1), (360, 480)),
-        flight((0, 2), (360, 380)),
-        flight((2, 3), (400, 420)),
-        flight((3, 1), (440, 460)),
-        flight((1, 0), (500, 520)),
-        flight((0, 1), (540, 600)),
-    ]
-}
-
-// Limits of minutes and of landings, between long stops at airport 2.
-fn tight(alloc: Global, minutes: i64, landings: i64) -> Result<Vec<Counter>, Memory> {
-    let rows = [
-        (CounterKind::Minutes, minutes, 10_000),
-        (CounterKind::Landings, landings, 10_000),
-    ];
-    counters(alloc, 2, &rows)
-}
-
-// The last two flights are given to the second aircraft, which has to come to the first of them on one of the two ways.
-#[test]
-fn floors_see_a_way_and_pricing_none(rt: HostRuntime) -> Result<(), Fail> {
-    let counters = tight(rt.alloc(), 190, 4)?;
-    let book = book(
-        rt.alloc(),
-        &two_ways(),
-        &[0, 0],
-        10,
-        counters,
-        Vec::new(rt.alloc()),
-    )?;
-    let table = CostTable::of(rt.alloc(), &book)?;
-    let facts = [Fact::Must(1, 4), Fact::Must(1, 5)];
-    let answer = dived(rt.alloc(), &book, &table, &facts, &[0, 0, 0, 0, 0, 0])?;
-    assert!(rt; is_dead(&answer, &[], DeadEnd::Stuck(1)), "{answer:?}");
+    assert!(rt; ends_by(rt.alloc(), &table, Ends::Plan(&[&[0], &[1]], 18))?);
     Ok(())
 }

@@ -1,18 +1,14 @@
 //! The slow judge: all legal routes of an aircraft that fit its marks, each with its weight by the book's own costs.
 
-ghost use Rattle.std.specs.Prelude.{◌≡◌, ◌<◌, IfOk};
+ghost use Rattle.std.specs.Prelude.{◌≡◌, ◌<◌, length};
 ghost use Rattle.tail_book.specs.Lookup.{aircraft};
 ghost use Rattle.branch_marks.specs.inside.MarkTables.{AreMarksOf};
 ghost use Rattle.maint_counters.specs.inside.StepTable.{IsStepTableOf};
 
-use super::questions::Question;
-use branch_marks::{Fact, Marks};
+use branch_marks::Marks;
 use maint_counters::{StepTable, is_legal_route};
 use std::alloc::Global;
-use std::process::Abort;
-use std::test::Fail;
 use tail_book::*;
-use trial_books::marks;
 
 /// The activities of a route as bits; none where their numbers do not rise.
 pub fn bits(route: &[u32]) -> Option<u32> {
@@ -100,28 +96,76 @@ pub struct Weights {
     routes: Vec<(u32, i64)>,
 }
 
-/// All routes of at most six activities.
-pub fn weigh_all(
+// Adds the weight of the route of these activities, if it is legal and fits.
+fn add_weight(
     alloc: Global,
     book: &Book,
     marks: &Marks,
     steps: &StepTable,
     duals: &[i64],
     k: u32,
-) -> Result<Weights, Fail>
+    number: u32,
+    values: &mut [i64],
+    routes: &mut Vec<(u32, i64)>,
+) -> Result<(), Memory>
     requires marks { AreMarksOf book.now marks.now }
     requires steps { IsStepTableOf book.now steps.now }
     requires aircraft { k < aircraft book.now }
-    ensures { IfOk result (λ _. k < aircraft book.now) }
+    requires width { length values.old ≡ length book.now.rules.counters }
+    ensures width { length values.new ≡ length book.now.rules.counters }
+{
+    let route = route_of(alloc, number)?;
+    if is_legal_route(book, steps, k, &route, values) && marks.fits(book, k, &route) {
+        routes.push((number, weight(book, duals, k, &route)))?;
+    }
+    Ok(())
+}
+
+// Adds the weights of all routes of at most six activities.
+fn add_weights(
+    alloc: Global,
+    book: &Book,
+    marks: &Marks,
+    steps: &StepTable,
+    duals: &[i64],
+    k: u32,
+    routes: &mut Vec<(u32, i64)>,
+) -> Result<(), Memory>
+    requires marks { AreMarksOf book.now marks.now }
+    requires steps { IsStepTableOf book.now steps.now }
+    requires aircraft { k < aircraft book.now }
 {
     let mut values = vec![in alloc; 0i64; book.rules.counters.len()]?;
-    let mut routes = Vec::new(alloc);
     for number in 0..64u32 {
-        let route = route_of(alloc, number)?;
-        if is_legal_route(book, steps, k, &route, &mut values) && marks.fits(book, k, &route) {
-            routes.push((number, weight(book, duals, k, &route)))?;
-        }
+        add_weight(
+            alloc,
+            book,
+            marks,
+            steps,
+            duals,
+            k,
+            number,
+            &mut values,
+            routes,
+        )?;
     }
+    Ok(())
+}
+
+/// Weighs all routes of an aircraft, those of at most six activities.
+pub fn weigh_all(
+    alloc: Global,
+    book: &Book,
+    marks: &Marks,
+    duals: &[i64],
+    k: u32,
+) -> Result<Weights, Memory>
+    requires marks { AreMarksOf book.now marks.now }
+    requires aircraft { k < aircraft book.now }
+{
+    let steps = StepTable::of(alloc, book)?;
+    let mut routes = Vec::new(alloc);
+    add_weights(alloc, book, marks, &steps, duals, k, &mut routes)?;
     Ok(Weights { routes })
 }
 
@@ -165,29 +209,4 @@ impl Weights {
         }
         Ok(ties)
     }
-}
-
-// All weights of an aircraft of the book.
-fn weights_in(
-    rt: &impl Abort,
-    alloc: Global,
-    book: &Book,
-    facts: &[Fact],
-    duals: &[i64],
-    k: u32,
-) -> Result<Weights, Fail> {
-    assert!(rt; (k as usize) < book.tails.len());
-    let marks = marks(alloc, book, facts)?;
-    let steps = StepTable::of(alloc, book)?;
-    weigh_all(alloc, book, &marks, &steps, duals, k)
-}
-
-/// All weights of an aircraft of the question's book.
-pub fn weights_of(
-    rt: &impl Abort,
-    alloc: Global,
-    asked: &Question,
-    k: u32,
-) -> Result<Weights, Fail> {
-    weights_in(rt, alloc, &asked.book, &asked.facts, &asked.duals, k)
 }

@@ -1,26 +1,24 @@
 //! Dives by chance: the answer ends one of the dives of the definition. The judge walks all of them, over all least routes that
 //! tie, with all routes by enumeration.
 
-ghost use Rattle.std.specs.Prelude.{◌≡◌, ◌<◌, ◌*◌, length, IfOk};
-ghost use Rattle.tail_book.specs.Lookup.{aircraft};
-ghost use Rattle.tail_book.specs.inside.CostTable.{IsTableFor};
-ghost use Rattle.connection_net.specs.Net.{net_of};
+ghost use Rattle.std.specs.Prelude.{◌≡◌, ◌<◌, ◌*◌, length};
+ghost use Rattle.tail_book.specs.Lookup.{activities, aircraft};
 ghost use Rattle.branch_marks.specs.inside.MarkTables.{AreMarksOf};
-ghost use Rattle.maint_counters.specs.inside.StepTable.{IsStepTableOf};
+ghost use Rattle.plan_finder.specs.Problem.{IsProblem};
 
-use super::{dived, tight};
-use crate::tests::weights::weigh_all;
+use crate::tests::asks::{Ask, answer_to, has_aircraft};
+use crate::tests::books::tight;
+use crate::tests::questions::Question;
+use crate::tests::weights::{bits, weigh_all};
 use branch_marks::{Fact, Marks};
-use connection_net::Net;
 use dice::Dice;
-use dive_heuristic::{DeadEnd, Dive, DiveStep};
-use maint_counters::StepTable;
+use dive_heuristic::{DeadEnd, Dive, DiveStep, dive};
+use plan_finder::Problem;
 use propagator::{Closed, close};
 use std::alloc::Global;
-use std::process::Abort;
 use std::test::Fail;
 use tail_book::*;
-use trial_books::{Row, book, costs, flight, marks};
+use trial_books::{Row, book, flight};
 
 // Five flights of half an hour or an hour between three airports, in order of their starts. Two aircraft can fly them, as
 // far as places and times go.
@@ -84,56 +82,63 @@ fn duals(dice: &mut Dice, alloc: Global) -> Result<Vec<i64>, Memory> {
     Ok(duals)
 }
 
-// All routes of an aircraft that are of least weight, as numbers.
-fn least_routes(
-    alloc: Global,
-    book: &Book,
-    marks: &Marks,
-    steps: &StepTable,
-    duals: &[i64],
-    k: u32,
-) -> Result<Vec<u32>, Fail>
+// The question of a seed. Dives ask for no slack.
+fn make_dive(alloc: Global, seed: u64) -> Result<Question, Fail> {
+    let mut dice = Dice::new(seed);
+    let book = chance_book(&mut dice, alloc)?;
+    let (facts, duals) = (facts(&mut dice, alloc)?, duals(&mut dice, alloc)?);
+    Ok(Question {
+        book,
+        facts,
+        duals,
+        slack: 0,
+    })
+}
+
+// Whether a route has an activity. Routes are numbers here, with their activities as bits.
+fn has(route: u32, a: u32) -> bool {
+    route >> a.min(31) & 1 == 1
+}
+
+// In how many of these routes an activity is.
+fn holders(routes: &[u32], a: u32) -> usize {
+    routes.iter().filter(|route| has(**route, a)).count()
+}
+
+// The aircraft that is given an activity: the first whose route has it, or that may fly it where no route has it.
+fn chosen(book: &Book, marks: &Marks, routes: &[u32], a: u32, free: bool) -> Option<Fact>
     requires marks { AreMarksOf book.now marks.now }
-    requires steps { IsStepTableOf book.now steps.now }
-    requires aircraft { k < aircraft book.now }
+    requires activity { a < activities book.now }
 {
-    let weights = weigh_all(alloc, book, marks, steps, duals, k)?;
-    Ok(weights.ties(alloc)?)
+    for (k, route) in (0..3u32).zip(routes) {
+        if has_aircraft(book, k) && (has(*route, a) || free && marks.alive(book, k, a)) {
+            return Some(Fact::Must(k, a));
+        }
+    }
+    None
 }
 
 // The choice where these routes are taken: nothing where each activity is in exactly one.
-fn choice(rt: &impl Abort, book: &Book, marks: &Marks, routes: &[u32]) -> Option<Fact>
+fn choice(book: &Book, marks: &Marks, routes: &[u32]) -> Option<Fact>
     requires { AreMarksOf book.now marks.now }
 {
     for a in 0..book.activities.len() as u32 {
-        let holders = routes
-            .iter()
-            .filter(|route| **route >> a.min(31) & 1 == 1)
-            .count();
-        if holders == 1 {
-            continue;
-        }
-        for k in 0..routes.len().min(3) as u32 {
-            assert!(rt; (k as usize) < book.tails.len());
-            let has = routes[k as usize] >> a.min(31) & 1 == 1;
-            if has || (holders == 0 && marks.alive(book, k, a)) {
-                return Some(Fact::Must(k, a));
+        let count = holders(routes, a);
+        if count != 1 {
+            let fact = chosen(book, marks, routes, a, count == 0);
+            if fact.is_some() {
+                return fact;
             }
         }
     }
     None
 }
 
-// The marks after these facts and these steps.
-fn marks_after(
-    alloc: Global,
-    book: &Book,
-    facts: &[Fact],
-    steps: &[DiveStep],
-) -> Result<Marks, Fail>
-    ensures { IfOk result (AreMarksOf book.now) }
+// Adds the facts of these steps to the marks.
+fn add_steps(book: &Book, marks: &mut Marks, steps: &[DiveStep]) -> Result<(), Memory>
+    requires { AreMarksOf book.now marks.old }
+    ensures { AreMarksOf book.now marks.new }
 {
-    let mut marks = marks(alloc, book, facts)?;
     for step in steps {
         let fact = match *step {
             DiveStep::Chosen(fact) => fact,
@@ -143,7 +148,7 @@ fn marks_after(
             marks.add(book, fact)?;
         }
     }
-    Ok(marks)
+    Ok(())
 }
 
 // The route that is picked for each aircraft, or nothing past the last pick. Each pick is a number, with the aircraft's
@@ -161,7 +166,20 @@ fn picked(alloc: Global, ties: &[Vec<u32>], pick: usize) -> Result<Option<Vec<u3
     Ok(if rest == 0 { Some(routes) } else { None })
 }
 
-// Whether the answer is the plan of these routes.
+// What a route costs an aircraft by the table.
+fn route_cost(table: &CostTable, k: u32, route: &[u32]) -> u64
+    requires { length table.now.fly ≡ table.now.n * table.now.m }
+{
+    let mut sum = 0u64;
+    for a in route {
+        if (k as usize) < table.m && (*a as usize) < table.n {
+            sum = sum.saturating_add(table.activity_cost(k, *a));
+        }
+    }
+    sum
+}
+
+// Whether the answer is the plan of these routes, with what they cost by the table.
 fn is_plan(answer: &Dive, table: &CostTable, routes: &[u32]) -> bool
     requires { length table.now.fly ≡ table.now.n * table.now.m }
 {
@@ -172,17 +190,11 @@ fn is_plan(answer: &Dive, table: &CostTable, routes: &[u32]) -> bool
         return false;
     }
     let mut sum = 0u64;
-    for k in 0..routes.len().min(3) {
-        let mut number = 0u32;
-        for a in &plan.0[k].0 {
-            number |= 1 << (*a).min(31);
-            if k < table.m && (*a as usize) < table.n {
-                sum = sum.saturating_add(table.activity_cost(k as u32, *a));
-            }
-        }
-        if number != routes[k] {
+    for ((k, route), number) in (0..3u32).zip(&plan.0).zip(routes) {
+        if bits(&route.0) != Some(*number) {
             return false;
         }
+        sum = sum.saturating_add(route_cost(table, k, &route.0));
     }
     sum == *cost
 }
@@ -198,17 +210,16 @@ fn is_dead(answer: &Dive, want: &[DiveStep], dead: DeadEnd) -> bool {
 // Adds what follows from the marks, a step each; the hole, if there is one.
 fn add_forced(
     alloc: Global,
-    book: &Book,
-    net: &Net,
+    problem: &Problem,
     marks: &mut Marks,
     steps: &mut Vec<DiveStep>,
 ) -> Result<Option<u32>, Memory>
-    requires net { net.now ≡ net_of book.now }
-    requires marks { AreMarksOf book.now marks.old }
-    ensures { AreMarksOf book.now marks.new }
+    requires problem { IsProblem problem.now }
+    requires marks { AreMarksOf problem.now.book.now marks.old }
+    ensures { AreMarksOf problem.now.book.now marks.new }
 {
     let mut forced = Vec::new(alloc);
-    let closed = close(alloc, book, net, marks, &mut forced)?;
+    let closed = close(alloc, problem.book, problem.net, marks, &mut forced)?;
     for fact in &forced {
         steps.push(DiveStep::Forced(*fact))?;
     }
@@ -218,23 +229,37 @@ fn add_forced(
     }
 }
 
-// The routes of least weight of each aircraft.
+// The routes of least weight of an aircraft, as numbers.
 fn ties_of(
-    rt: &impl Abort,
     alloc: Global,
     book: &Book,
     marks: &Marks,
     duals: &[i64],
-) -> Result<Vec<Vec<u32>>, Fail>
+    k: u32,
+) -> Result<Vec<u32>, Memory>
+    requires marks { AreMarksOf book.now marks.now }
+    requires aircraft { k < aircraft book.now }
+{
+    let weights = weigh_all(alloc, book, marks, duals, k)?;
+    weights.ties(alloc)
+}
+
+// The same of each aircraft.
+fn add_ties(
+    alloc: Global,
+    book: &Book,
+    marks: &Marks,
+    duals: &[i64],
+    ties: &mut Vec<Vec<u32>>,
+) -> Result<(), Memory>
     requires { AreMarksOf book.now marks.now }
 {
-    let steps = StepTable::of(alloc, book)?;
-    let mut ties = Vec::new(alloc);
-    for k in 0..book.tails.len().min(3) as u32 {
-        assert!(rt; (k as usize) < book.tails.len());
-        ties.push(least_routes(alloc, book, marks, &steps, duals, k)?)?;
+    for k in 0..3u32 {
+        if has_aircraft(book, k) {
+            ties.push(ties_of(alloc, book, marks, duals, k)?)?;
+        }
     }
-    Ok(ties)
+    Ok(())
 }
 
 // An aircraft without a route whose dead end the answer is.
@@ -247,66 +272,73 @@ fn is_stuck(answer: &Dive, steps: &[DiveStep], ties: &[Vec<u32>]) -> bool {
     false
 }
 
-// What is chosen, over all picks of routes that tie; nothing where the answer is the plan of one of them.
-fn choices(
-    rt: &impl Abort,
+// Adds what is chosen, over all picks of routes that tie. Whether the answer is the plan of one of them.
+fn add_choices(
     alloc: Global,
-    book: &Book,
-    table: &CostTable,
+    problem: &Problem,
     marks: &Marks,
     answer: &Dive,
     ties: &[Vec<u32>],
-) -> Result<Option<Vec<Fact>>, Memory>
-    requires table { IsTableFor book.now table.now }
-    requires marks { AreMarksOf book.now marks.now }
+    facts: &mut Vec<Fact>,
+) -> Result<bool, Memory>
+    requires problem { IsProblem problem.now }
+    requires marks { AreMarksOf problem.now.book.now marks.now }
 {
-    let mut facts = Vec::new(alloc);
     for pick in 0..64 {
         let Some(routes) = picked(alloc, ties, pick)? else {
-            return Ok(Some(facts));
+            return Ok(false);
         };
-        match choice(rt, book, marks, &routes) {
+        match choice(problem.book, marks, &routes) {
             Some(fact) => facts.push(fact)?,
             None => {
-                if is_plan(answer, table, &routes) {
-                    return Ok(None);
+                if is_plan(answer, problem.table, &routes) {
+                    return Ok(true);
                 }
             }
         }
     }
-    Ok(Some(facts))
+    Ok(false)
 }
 
-// Whether the answer ends after these steps and what follows from them; if not, what is chosen there.
-fn go_on(
-    rt: &impl Abort,
+// Whether the answer ends after these steps; what is chosen there, if not.
+fn ends_here(
     alloc: Global,
-    book: &Book,
-    table: &CostTable,
-    net: &Net,
-    facts: &[Fact],
-    duals: &[i64],
+    problem: &Problem,
+    marks: &Marks,
+    duals: &Duals,
+    answer: &Dive,
+    steps: &[DiveStep],
+    facts: &mut Vec<Fact>,
+) -> Result<bool, Memory>
+    requires problem { IsProblem problem.now }
+    requires marks { AreMarksOf problem.now.book.now marks.now }
+{
+    let mut ties = Vec::new(alloc);
+    add_ties(alloc, problem.book, marks, &duals.values, &mut ties)?;
+    if is_stuck(answer, steps, &ties) {
+        return Ok(true);
+    }
+    add_choices(alloc, problem, marks, answer, &ties, facts)
+}
+
+// Whether the answer ends after these steps and what follows from them. The marks are those of the steps.
+fn ends_after(
+    alloc: Global,
+    problem: &Problem,
+    marks: &mut Marks,
+    duals: &Duals,
     answer: &Dive,
     steps: &mut Vec<DiveStep>,
-) -> Result<Option<Vec<Fact>>, Fail>
-    requires table { IsTableFor book.now table.now }
-    requires net { net.now ≡ net_of book.now }
+    facts: &mut Vec<Fact>,
+) -> Result<bool, Memory>
+    requires problem { IsProblem problem.now }
+    requires marks { AreMarksOf problem.now.book.now marks.old }
 {
-    let mut marks = marks_after(alloc, book, facts, steps)?;
-    let hole = add_forced(alloc, book, net, &mut marks, steps)?;
-    if let Some(a) = hole {
-        let none = Vec::new(alloc);
-        return Ok(if is_dead(answer, steps, DeadEnd::Hole(a)) {
-            None
-        } else {
-            Some(none)
-        });
+    add_steps(problem.book, marks, steps)?;
+    match add_forced(alloc, problem, marks, steps)? {
+        Some(a) => Ok(is_dead(answer, steps, DeadEnd::Hole(a))),
+        None => ends_here(alloc, problem, marks, duals, answer, steps, facts),
     }
-    let ties = ties_of(rt, alloc, book, &marks, duals)?;
-    if is_stuck(answer, steps, &ties) {
-        return Ok(None);
-    }
-    Ok(choices(rt, alloc, book, table, &marks, answer, &ties)?)
 }
 
 // The steps with each of these chosen behind them.
@@ -324,34 +356,103 @@ fn push_lines(
     Ok(())
 }
 
+// Whether the answer ends after these steps; if not, they go on with what is chosen there.
+fn ends_or_goes_on(
+    alloc: Global,
+    problem: &Problem,
+    marks: &Marks,
+    duals: &Duals,
+    answer: &Dive,
+    steps: &mut Vec<DiveStep>,
+    next: &mut Vec<Vec<DiveStep>>,
+) -> Result<bool, Memory>
+    requires problem { IsProblem problem.now }
+    requires marks { AreMarksOf problem.now.book.now marks.now }
+{
+    let mut marks = marks.copy()?;
+    let mut facts = Vec::new(alloc);
+    let ends = ends_after(alloc, problem, &mut marks, duals, answer, steps, &mut facts)?;
+    if !ends {
+        push_lines(alloc, steps, &facts, next)?;
+    }
+    Ok(ends)
+}
+
 // Whether the answer ends one of the dives.
 fn ends_a_dive(
-    rt: &impl Abort,
     alloc: Global,
-    book: &Book,
-    table: &CostTable,
-    facts: &[Fact],
-    duals: &[i64],
+    problem: &Problem,
+    marks: &Marks,
+    duals: &Duals,
     answer: &Dive,
-) -> Result<bool, Fail>
-    requires { IsTableFor book.now table.now }
+) -> Result<bool, Memory>
+    requires problem { IsProblem problem.now }
+    requires marks { AreMarksOf problem.now.book.now marks.now }
 {
-    let net = Net::new(alloc, book)?;
     let mut next = Vec::new(alloc);
     next.push(Vec::new(alloc))?;
     for _ in 0..2000 {
         let Some(mut steps) = next.pop() else {
             return Ok(false);
         };
-        let chosen = go_on(
-            rt, alloc, book, table, &net, facts, duals, answer, &mut steps,
-        )?;
-        let Some(chosen) = chosen else {
+        if ends_or_goes_on(alloc, problem, marks, duals, answer, &mut steps, &mut next)? {
             return Ok(true);
-        };
-        push_lines(alloc, &steps, &chosen, &mut next)?;
+        }
     }
     Ok(false)
+}
+
+// Where a dive ends: at a plan, at a hole, or at a stuck aircraft; or as none of the definition does.
+#[derive(Clone, Copy)]
+enum Ending {
+    Wrong,
+    Plan,
+    Hole,
+    Stuck,
+}
+
+fn end_of(answer: &Dive) -> Ending {
+    match answer {
+        Dive::Plan(_, _) => Ending::Plan,
+        Dive::Dead {
+            end: DeadEnd::Hole(_),
+            ..
+        } => Ending::Hole,
+        Dive::Dead {
+            end: DeadEnd::Stuck(_),
+            ..
+        } => Ending::Stuck,
+    }
+}
+
+// Where a dive ends.
+#[derive(Clone, Copy)]
+struct EndsAt;
+
+impl Ask for EndsAt {
+    type Answer = Ending;
+
+    fn answer(
+        &self,
+        alloc: Global,
+        problem: &Problem,
+        marks: &Marks,
+        duals: &Duals,
+    ) -> Result<Ending, Memory> {
+        let Problem { book, table, net } = *problem;
+        let answer = dive(alloc, book, table, net, marks, duals)?;
+        match ends_a_dive(alloc, problem, marks, duals, &answer) {
+            Ok(true) => Ok(end_of(&answer)),
+            Ok(false) => Ok(Ending::Wrong),
+            Err(error) => Err(error),
+        }
+    }
+}
+
+// Nothing where the duals are not in the box.
+fn judge_dive(alloc: Global, seed: u64) -> Result<Option<Ending>, Fail> {
+    let asked = make_dive(alloc, seed)?;
+    Ok(answer_to(alloc, &asked, &EndsAt)?)
 }
 
 // Of 100 dives some end in a plan, some at a hole, and some at a stuck aircraft; some of the last after a choice.
@@ -359,26 +460,11 @@ fn ends_a_dive(
 fn as_a_dive_of_the_definition(rt: HostRuntime) -> Result<(), Fail> {
     let (mut plans, mut holes, mut stuck) = (0u32, 0u32, 0u32);
     for seed in 0..100u64 {
-        let mut dice = Dice::new(seed);
-        let book = chance_book(&mut dice, rt.alloc())?;
-        let (facts, duals) = (facts(&mut dice, rt.alloc())?, duals(&mut dice, rt.alloc())?);
-        let table = costs(rt.alloc(), &book)?;
-        let Some(answer) = dived(rt.alloc(), &book, &table, &facts, &duals)? else {
-            assert!(rt; false, "seed {seed}: no dive");
-            continue;
-        };
-        let ends = ends_a_dive(&rt, rt.alloc(), &book, &table, &facts, &duals, &answer)?;
-        assert!(rt; ends, "seed {seed}: {answer:?}");
-        match &answer {
-            Dive::Plan(_, _) => plans = plans.saturating_add(1),
-            Dive::Dead {
-                end: DeadEnd::Hole(_),
-                ..
-            } => holes = holes.saturating_add(1),
-            Dive::Dead {
-                end: DeadEnd::Stuck(_),
-                ..
-            } => stuck = stuck.saturating_add(1),
+        match judge_dive(rt.alloc(), seed)? {
+            None | Some(Ending::Wrong) => assert!(rt; false, "seed {seed}"),
+            Some(Ending::Plan) => plans = plans.saturating_add(1),
+            Some(Ending::Hole) => holes = holes.saturating_add(1),
+            Some(Ending::Stuck) => stuck = stuck.saturating_add(1),
         }
     }
     assert!(rt;

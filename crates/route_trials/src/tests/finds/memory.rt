@@ -1,42 +1,44 @@
 //! Plans for which memory may run out. The test here holds where any one allocation fails, and where none does;
 //! `tests/each_allocation` runs it with each of them failing in turn.
 
-use super::{found, found_near, is_plan, side_by_side};
+use super::{AMPLE, EXCHANGED, Finds, FindsNear, Want};
+use crate::tests::asks::{Case, first_wrong};
+use crate::tests::books::ByHand;
 use std::alloc::Global;
 use std::process::{Abort, ExitCode, Termination};
 use std::test::Fail;
-use trial_books::{plain_book, there_and_back};
 
-// The least plan of two flights at once, whose routes are then in the pool.
-fn is_found(rt: &impl Abort, alloc: Global) -> Result<(), Fail> {
-    let together = plain_book(alloc, &side_by_side(), &[0, 1], 30)?;
-    let (answer, routes) = found(alloc, &together, &[], &[0, 0])?;
-    assert!(rt; is_plan(&answer, &[1], &[0], 240));
-    assert_eq!(rt; routes, 2);
-    Ok(())
-}
-
-// None where the one aircraft can't come back.
-fn is_missed(rt: &impl Abort, alloc: Global) -> Result<(), Fail> {
-    let late = there_and_back(alloc, &[0], 31)?;
-    let (answer, _) = found(alloc, &late, &[], &[0, 0])?;
-    assert!(rt; answer.is_none());
-    Ok(())
-}
+// The least plan of two flights at once, whose routes are then in the pool. None where the one aircraft can't come back.
+const FOUND: &[Case<Finds>] = &[
+    (
+        ByHand::AtOnce,
+        &[],
+        &[0, 0],
+        Finds(AMPLE, EXCHANGED, Some(2)),
+    ),
+    (
+        ByHand::Alone(31),
+        &[],
+        &[0, 0],
+        Finds(AMPLE, Want::Nothing, None),
+    ),
+];
 
 // The cheap plan near the dear one.
-fn is_near(rt: &impl Abort, alloc: Global) -> Result<(), Fail> {
-    let together = plain_book(alloc, &side_by_side(), &[0, 1], 30)?;
-    let answer = found_near(alloc, &together, &[], &[0], &[1])?;
-    assert!(rt; is_plan(&answer, &[1], &[0], 240));
-    Ok(())
-}
+const NEAR: &[Case<FindsNear>] = &[(
+    ByHand::AtOnce,
+    &[],
+    &[0, 0],
+    FindsNear([&[0], &[1]], EXCHANGED),
+)];
 
 // All of these, one after the other.
 fn are_answered(rt: &impl Abort, alloc: Global) -> Result<(), Fail> {
-    is_found(rt, alloc)?;
-    is_missed(rt, alloc)?;
-    is_near(rt, alloc)
+    let wrong = first_wrong(alloc, FOUND)?;
+    assert!(rt; wrong.is_none(), "case {wrong:?}");
+    let wrong = first_wrong(alloc, NEAR)?;
+    assert!(rt; wrong.is_none(), "case {wrong:?} near a plan");
+    Ok(())
 }
 
 // Where memory runs out, plans are looked for again, with all that is made for it.

@@ -1,99 +1,118 @@
 //! Pricing for which memory may run out. The test here holds where any one allocation fails, and where none does;
 //! `tests/each_allocation` runs it with each of them failing in turn.
 
-ghost use Rattle.std.specs.Prelude.{◌≡◌, ◌<◌};
-ghost use Rattle.tail_book.specs.Lookup.{aircraft};
-ghost use Rattle.tail_book.specs.inside.CostTable.{IsTableFor};
-ghost use Rattle.connection_net.specs.Net.{net_of};
+ghost use Rattle.std.specs.Prelude.{◌≡◌, ◌<◌, ◌+◌, length};
+ghost use Rattle.tail_book.specs.Lookup.{activities, aircraft};
 ghost use Rattle.branch_marks.specs.Settled.{AreDuals};
 ghost use Rattle.branch_marks.specs.inside.MarkTables.{AreMarksOf};
+ghost use Rattle.plan_finder.specs.Problem.{IsProblem};
+ghost use Rattle.pricing.specs.inside.Prepared.{IsPricerOf};
 
-use super::{Way, is_route, musts, pricer_by, store, twice};
-use branch_marks::{Fact, Marks};
-use connection_net::Net;
-use pricing::Priced;
+use super::{Want, Way, is_wanted, pricer_by, store};
+use crate::tests::asks::{Ask, Case, are_right, first_wrong, has_aircraft};
+use crate::tests::books::{ByHand, MUSTS};
+use branch_marks::Marks;
+use label_store::Store;
+use plan_finder::Problem;
+use pricing::Pricer;
 use std::alloc::Global;
 use std::process::{Abort, ExitCode, Termination};
 use std::test::Fail;
 use tail_book::*;
-use trial_books::{are_duals, costs, duals_of, marks};
 
-/// What two pricings of the same aircraft answered; nothing where memory ran out.
-#[derive(Debug, Drop)]
-struct Prices {
-    first: Option<Priced>,
-    again: Option<Priced>,
-}
-
-// Prices an aircraft twice with a pricer and a store that are kept, whatever became of the first time.
-fn price_twice(
-    alloc: Global,
-    book: &Book,
-    table: &CostTable,
-    net: &Net,
+// Whether an aircraft's price is right; nothing where memory ran out.
+fn is_priced(
+    problem: &Problem,
     marks: &Marks,
     duals: &Duals,
     k: u32,
-    way: Way,
-) -> Result<Prices, Memory>
-    requires table { IsTableFor book.now table.now }
-    requires net { net.now ≡ net_of book.now }
-    requires marks { AreMarksOf book.now marks.now }
-    requires duals { AreDuals table.now book.now duals.now.values }
-    requires aircraft { k < aircraft book.now }
+    pricer: &mut Pricer,
+    store: &mut Store,
+    want: Want,
+) -> Option<bool>
+    requires problem { IsProblem problem.now }
+    requires marks { AreMarksOf problem.now.book.now marks.now }
+    requires duals { AreDuals problem.now.table.now problem.now.book.now duals.now.values }
+    requires aircraft { k < aircraft problem.now.book.now }
+    requires pricer { IsPricerOf problem.now.book.now problem.now.table.now pricer.old }
+    requires nodes { length store.old.buckets ≡ activities problem.now.book.now }
+    requires width { store.old.width ≡ 1 + length problem.now.book.now.rules.counters }
+    ensures pricer { IsPricerOf problem.now.book.now problem.now.table.now pricer.new }
+    ensures nodes { length store.new.buckets ≡ activities problem.now.book.now }
+    ensures width { store.new.width ≡ 1 + length problem.now.book.now.rules.counters }
 {
-    let mut store = store(alloc, book)?;
-    let mut pricer = pricer_by(alloc, book, table, way)?;
-    let first = pricer
-        .price(book, table, net, marks, duals, k, &mut store)
-        .ok();
-    let again = pricer
-        .price(book, table, net, marks, duals, k, &mut store)
-        .ok();
-    Ok(Prices { first, again })
-}
-
-// The same of the first aircraft under these facts, with duals of 0, where the book has an aircraft.
-fn prices_under(
-    alloc: Global,
-    book: &Book,
-    facts: &[Fact],
-    way: Way,
-) -> Result<Option<Prices>, Fail> {
-    let table = costs(alloc, book)?;
-    let net = Net::new(alloc, book)?;
-    let marks = marks(alloc, book, facts)?;
-    let duals = duals_of(alloc, &[0; 5])?;
-    if book.tails.is_empty() || !are_duals(book, &table, &duals) {
-        return Ok(None);
+    let Problem { book, table, net } = *problem;
+    match pricer.price(book, table, net, marks, duals, k, store) {
+        Ok(answer) => Some(is_wanted(&answer, want)),
+        Err(_) => None,
     }
-    let prices = price_twice(alloc, book, &table, &net, &marks, &duals, 0, way)?;
-    Ok(Some(prices))
 }
 
-// Whether both answers are this weight and route, but for one at most that ran out of memory.
-fn are_so(prices: &Prices, weight: i64, route: &[u32]) -> bool {
-    let (first, again) = (&prices.first, &prices.again);
-    (first.is_some() || again.is_some())
-        && (first.is_none() || is_route(first, weight, route))
-        && (again.is_none() || is_route(again, weight, route))
+// An aircraft, the way that it is priced twice, by a pricer and a store that are kept whatever became of the first time, and
+// what it weighs each time.
+#[derive(Clone, Copy)]
+struct WeighsTwice(u32, Way, Want);
+
+fn are_priced(
+    alloc: Global,
+    problem: &Problem,
+    marks: &Marks,
+    duals: &Duals,
+    asked: &WeighsTwice,
+    store: &mut Store,
+) -> Result<bool, Memory>
+    requires problem { IsProblem problem.now }
+    requires marks { AreMarksOf problem.now.book.now marks.now }
+    requires duals { AreDuals problem.now.table.now problem.now.book.now duals.now.values }
+    requires aircraft { asked.now.0 < aircraft problem.now.book.now }
+    requires nodes { length store.old.buckets ≡ activities problem.now.book.now }
+    requires width { store.old.width ≡ 1 + length problem.now.book.now.rules.counters }
+{
+    let WeighsTwice(k, way, want) = *asked;
+    let mut pricer = pricer_by(alloc, problem.book, problem.table, way)?;
+    let first = is_priced(problem, marks, duals, k, &mut pricer, store, want);
+    let again = is_priced(problem, marks, duals, k, &mut pricer, store, want);
+    Ok(are_right(&[first, again]))
+}
+
+impl Ask for WeighsTwice {
+    type Answer = bool;
+
+    fn answer(
+        &self,
+        alloc: Global,
+        problem: &Problem,
+        marks: &Marks,
+        duals: &Duals,
+    ) -> Result<bool, Memory> {
+        if !has_aircraft(problem.book, self.0) {
+            return Ok(false);
+        }
+        let mut store = store(alloc, problem.book)?;
+        are_priced(alloc, problem, marks, duals, self, &mut store)
+    }
 }
 
 // An aircraft that must fly four flights, of which a dear way to the third keeps the labels apart; with lines, and link by
 // link.
+const DEAR_ARRIVAL: &[Case<WeighsTwice>] = &[
+    (
+        ByHand::Twice(3, false),
+        MUSTS,
+        &[0; 5],
+        WeighsTwice(0, Way::Lines, Want::Route(740_000, &[0, 1, 3, 4])),
+    ),
+    (
+        ByHand::Twice(3, false),
+        MUSTS,
+        &[0; 5],
+        WeighsTwice(0, Way::Links, Want::Route(740_000, &[0, 1, 3, 4])),
+    ),
+];
+
 fn each_is_priced(rt: &impl Abort, alloc: Global) -> Result<(), Fail> {
-    let book = twice(alloc, 3, false)?;
-    for way in [Way::Lines, Way::Links] {
-        match prices_under(alloc, &book, &musts(), way)? {
-            Some(prices) => {
-                assert!(rt;
-                    are_so(&prices, 740_000, &[0, 1, 3, 4]),
-                    "{prices:?}, {way:?}"
-                )
-            }
-            None => assert!(rt; false, "no aircraft"),
-        }
-    }
+    let wrong = first_wrong(alloc, DEAR_ARRIVAL)?;
+    assert!(rt; wrong.is_none(), "case {wrong:?}");
     Ok(())
 }
 

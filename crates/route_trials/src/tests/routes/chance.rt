@@ -1,174 +1,112 @@
 //! Least routes within a cut by chance: the answer at each cut is that of all routes, and so is what is suggested.
 
-ghost use Rattle.std.specs.Prelude.{◌≡◌, ◌<◌, IfOk};
+ghost use Rattle.std.specs.Prelude.{◌<◌};
 ghost use Rattle.tail_book.specs.Lookup.{aircraft};
-ghost use Rattle.tail_book.specs.inside.CostTable.{IsTableFor};
-ghost use Rattle.connection_net.specs.Net.{net_of};
 ghost use Rattle.branch_marks.specs.Settled.{AreDuals};
 ghost use Rattle.branch_marks.specs.inside.MarkTables.{AreMarksOf};
+ghost use Rattle.plan_finder.specs.Problem.{IsProblem};
+ghost use Rattle.route_search.specs.Search.{IsSearchOf};
 
-use super::{found, is_none};
-use crate::tests::questions::{Question, make_question};
-use crate::tests::weights::{Weights, weights_of};
-use branch_marks::{Fact, Marks};
-use connection_net::Net;
-use route_search::{Found, RouteSearch, Suggestions};
+use super::{Known, Sought, Want, is_found_beside};
+use crate::tests::asks::{Ask, Judged, Tally, answer_by_chance, answer_to, has_aircraft};
+use crate::tests::questions::make_question;
+use crate::tests::weights::{Weights, weigh_all};
+use branch_marks::Marks;
+use plan_finder::Problem;
+use route_search::{RouteSearch, Suggestions};
 use std::alloc::Global;
-use std::process::Abort;
 use std::test::Fail;
 use tail_book::*;
-use trial_books::{are_duals, costs, duals_of, marks};
 
-// Whether the answer is the least weight, with a route of it.
-fn is_of_weight(answer: Option<&Found>, weights: &Weights, least: i64) -> bool {
-    match answer {
-        Some(Found::Best { value, route }) => {
-            *value == least && weights.of(&route.0) == Some(least)
+// An aircraft whose least route, which is searched for with this slack, is that of all routes.
+#[derive(Clone, Copy)]
+struct Beside {
+    k: u32,
+    slack: u32,
+}
+
+impl Ask for Beside {
+    type Answer = Judged;
+
+    fn answer(
+        &self,
+        alloc: Global,
+        problem: &Problem,
+        marks: &Marks,
+        duals: &Duals,
+    ) -> Result<Judged, Memory> {
+        let Beside { k, slack } = *self;
+        if !has_aircraft(problem.book, k) {
+            return Ok(Judged::Wrong);
         }
-        _ => false,
+        let weights = weigh_all(alloc, problem.book, marks, &duals.values, k)?;
+        let (least, known) = (weights.least(0), Known::All(&weights));
+        let want = Want { least, known };
+        let sought = Sought { k, slack, want };
+        match is_found_beside(alloc, problem, marks, duals, sought, 70_000) {
+            Ok(true) if least.is_none() => Ok(Judged::Nothing),
+            Ok(true) => Ok(Judged::Small),
+            Ok(false) => Ok(Judged::Wrong),
+            Err(error) => Err(error),
+        }
     }
 }
 
-// What is found at these cuts.
-fn found_at(alloc: Global, asked: &Question, k: u32, cuts: &[i64]) -> Result<Vec<Found>, Fail> {
-    found(
-        alloc,
-        &asked.book,
-        &asked.facts,
-        &asked.duals,
-        k,
-        cuts,
-        asked.slack,
-    )
-}
-
-// Whether there is nothing at the first cut, and this weight at the three behind.
-fn are_right(answers: &[Found], weights: &Weights, least: i64) -> bool {
-    is_none(answers.get(0))
-        && is_of_weight(answers.get(1), weights, least)
-        && is_of_weight(answers.get(2), weights, least)
-        && is_of_weight(answers.get(3), weights, least)
-}
-
-// Whether a search finds nothing within any cut.
-fn is_stuck(alloc: Global, asked: &Question, k: u32) -> Result<bool, Fail> {
-    let answers = found_at(alloc, asked, k, &[i64::MAX])?;
-    Ok(is_none(answers.get(0)))
-}
-
-// Whether a search answers as the weights say, at cuts below, at and above the least of them.
-fn answers_at(
-    alloc: Global,
-    asked: &Question,
-    k: u32,
-    weights: &Weights,
-    least: i64,
-) -> Result<bool, Fail> {
-    let (below, above) = (least.saturating_sub(1), least.saturating_add(70_000));
-    let answers = found_at(alloc, asked, k, &[below, least, above, i64::MAX])?;
-    Ok(are_right(&answers, weights, least))
-}
-
-// Whether a search answers as all routes say, and the aircraft is stuck or has a route.
-fn judge_least(
-    rt: &impl Abort,
-    alloc: Global,
-    asked: &Question,
-    k: u32,
-) -> Result<(bool, bool), Fail> {
-    let weights = weights_of(rt, alloc, asked, k)?;
-    match weights.least(0) {
-        Some(least) => Ok((answers_at(alloc, asked, k, &weights, least)?, false)),
-        None => Ok((is_stuck(alloc, asked, k)?, true)),
-    }
+fn judge_least(alloc: Global, seed: u64, k: u32) -> Result<Option<Judged>, Fail> {
+    let asked = make_question(alloc, seed)?;
+    let slack = asked.slack;
+    Ok(answer_to(alloc, &asked, &Beside { k, slack })?)
 }
 
 // With and without slack. Of 300 books some aircraft are stuck.
 #[test]
 fn as_all_routes_weigh(rt: HostRuntime) -> Result<(), Fail> {
-    let mut stuck = 0u32;
+    let mut tally = Tally::new();
     for seed in 0..300u64 {
-        let asked = make_question(rt.alloc(), seed)?;
         for k in 0..2 {
-            let (right, none) = judge_least(&rt, rt.alloc(), &asked, k)?;
-            assert!(rt; right, "seed {seed}, aircraft {k}");
-            stuck = stuck.saturating_add(none as u32);
+            tally.add(seed, k, judge_least(rt.alloc(), seed, k)?);
         }
     }
-    assert!(rt; stuck > 30, "{stuck} stuck");
+    assert!(rt; tally.wrong.is_none(), "{:?}", tally.wrong);
+    assert!(rt; tally.nothing > 30, "{} stuck", tally.nothing);
     Ok(())
 }
 
-// What a search within a cut suggests, all routes in one list.
-fn suggested_in(
-    alloc: Global,
-    book: &Book,
-    table: &CostTable,
-    net: &Net,
+// What a search within a cut suggests to the first aircraft, all routes in one list.
+fn suggest_by(
+    problem: &Problem,
     marks: &Marks,
     duals: &Duals,
-    k: u32,
     cut: i64,
-) -> Result<Suggestions, Memory>
-    requires table { IsTableFor book.now table.now }
-    requires net { net.now ≡ net_of book.now }
-    requires marks { AreMarksOf book.now marks.now }
-    requires duals { AreDuals table.now book.now duals.now.values }
-    requires aircraft { k < aircraft book.now }
-    ensures { IfOk result (λ _. k < aircraft book.now) }
+    search: &mut RouteSearch,
+    into: &mut Suggestions,
+) -> Result<(), Memory>
+    requires problem { IsProblem problem.now }
+    requires marks { AreMarksOf problem.now.book.now marks.now }
+    requires duals { AreDuals problem.now.table.now problem.now.book.now duals.now.values }
+    requires aircraft { 0 < aircraft problem.now.book.now }
+    requires search { IsSearchOf problem.now.book.now search.old }
 {
-    let mut search = RouteSearch::new(alloc, book)?;
-    let mut into = Suggestions::new(alloc);
-    search.least_route(book, table, net, marks, duals, k, cut, 60_000)?;
-    search.suggest(book, table, net, marks, duals, k, cut, &mut into)?;
-    Ok(into)
+    let Problem { book, table, net } = *problem;
+    search.least_route(book, table, net, marks, duals, 0, cut, 60_000)?;
+    search.suggest(book, table, net, marks, duals, 0, cut, into)
 }
 
-// The same for the first aircraft, by marks of these facts and by these duals.
-fn suggested_under(
-    rt: &impl Abort,
+fn suggest(
     alloc: Global,
-    book: &Book,
-    table: &CostTable,
-    net: &Net,
-    facts: &[Fact],
-    duals: &[i64],
+    problem: &Problem,
+    marks: &Marks,
+    duals: &Duals,
     cut: i64,
-) -> Result<Suggestions, Fail>
-    requires table { IsTableFor book.now table.now }
-    requires net { net.now ≡ net_of book.now }
-    ensures { IfOk result (λ _. 0 < aircraft book.now) }
+    into: &mut Suggestions,
+) -> Result<(), Memory>
+    requires problem { IsProblem problem.now }
+    requires marks { AreMarksOf problem.now.book.now marks.now }
+    requires duals { AreDuals problem.now.table.now problem.now.book.now duals.now.values }
+    requires aircraft { 0 < aircraft problem.now.book.now }
 {
-    let marks = marks(alloc, book, facts)?;
-    let duals = duals_of(alloc, duals)?;
-    assert!(rt; book.tails.len() > 0);
-    assert!(rt; are_duals(book, table, &duals));
-    let into = suggested_in(alloc, book, table, net, &marks, &duals, 0, cut)?;
-    Ok(into)
-}
-
-// The same by the book's own costs.
-fn suggested_by(
-    rt: &impl Abort,
-    alloc: Global,
-    book: &Book,
-    facts: &[Fact],
-    duals: &[i64],
-    cut: i64,
-) -> Result<Suggestions, Fail> {
-    let table = costs(alloc, book)?;
-    let net = Net::new(alloc, book)?;
-    suggested_under(rt, alloc, book, &table, &net, facts, duals, cut)
-}
-
-// What the first aircraft is suggested.
-fn suggested(
-    rt: &impl Abort,
-    alloc: Global,
-    asked: &Question,
-    cut: i64,
-) -> Result<Suggestions, Fail> {
-    suggested_by(rt, alloc, &asked.book, &asked.facts, &asked.duals, cut)
+    let mut search = RouteSearch::new(alloc, problem.book)?;
+    suggest_by(problem, marks, duals, cut, &mut search, into)
 }
 
 // Lowers what is known of each activity of a route to its weight.
@@ -180,7 +118,8 @@ fn lower(best: &mut [i64; 6], route: &[u32], weight: i64) {
     }
 }
 
-// For each activity the least weight of the suggested routes that have it; nothing where one of them is none of these, or is past the cut.
+// For each activity the least weight of the suggested routes that have it; nothing where one of them is none of these, or is
+// past the cut.
 fn best_suggested(
     book: &Book,
     into: &Suggestions,
@@ -212,55 +151,71 @@ fn best_through(weights: &Weights, cut: i64) -> [i64; 6] {
     best
 }
 
-// How the suggestions of a question compare with all routes: some are not the best ones, or they are, at most one or more.
-#[derive(Clone, Copy, Debug)]
-enum Judged {
-    Wrong,
-    Few,
-    Many,
-}
-
-fn judged_within(
-    rt: &impl Abort,
-    alloc: Global,
-    asked: &Question,
-    weights: &Weights,
-    cut: i64,
-) -> Result<Judged, Fail> {
-    let into = suggested(rt, alloc, asked, cut)?;
-    let best = best_suggested(&asked.book, &into, weights, cut);
-    Ok(if best != Some(best_through(weights, cut)) {
+// How suggestions compare with all routes: they are large where there is more than one.
+fn judge(book: &Book, into: &Suggestions, weights: &Weights, cut: i64) -> Judged {
+    if best_suggested(book, into, weights, cut) != Some(best_through(weights, cut)) {
         Judged::Wrong
     } else if into.count() > 1 {
-        Judged::Many
+        Judged::Large
     } else {
-        Judged::Few
-    })
+        Judged::Small
+    }
 }
 
-fn judge(rt: &impl Abort, alloc: Global, asked: &Question) -> Result<Judged, Fail> {
-    let weights = weights_of(rt, alloc, asked, 0)?;
-    match weights.least(0) {
-        Some(least) => {
-            let cut = least.saturating_add(60_000);
-            judged_within(rt, alloc, asked, &weights, cut)
+// The same of those that weigh no more than 60,000 above the least route.
+fn judge_within(
+    alloc: Global,
+    problem: &Problem,
+    marks: &Marks,
+    duals: &Duals,
+    weights: &Weights,
+    least: i64,
+) -> Result<Judged, Memory>
+    requires problem { IsProblem problem.now }
+    requires marks { AreMarksOf problem.now.book.now marks.now }
+    requires duals { AreDuals problem.now.table.now problem.now.book.now duals.now.values }
+    requires aircraft { 0 < aircraft problem.now.book.now }
+{
+    let (cut, mut into) = (least.saturating_add(60_000), Suggestions::new(alloc));
+    match suggest(alloc, problem, marks, duals, cut, &mut into) {
+        Ok(()) => Ok(judge(problem.book, &into, weights, cut)),
+        Err(error) => Err(error),
+    }
+}
+
+// What the first aircraft is suggested.
+#[derive(Clone, Copy)]
+struct Suggested;
+
+impl Ask for Suggested {
+    type Answer = Judged;
+
+    fn answer(
+        &self,
+        alloc: Global,
+        problem: &Problem,
+        marks: &Marks,
+        duals: &Duals,
+    ) -> Result<Judged, Memory> {
+        if !has_aircraft(problem.book, 0) {
+            return Ok(Judged::Wrong);
         }
-        None => Ok(Judged::Few),
+        let weights = weigh_all(alloc, problem.book, marks, &duals.values, 0)?;
+        match weights.least(0) {
+            Some(least) => judge_within(alloc, problem, marks, duals, &weights, least),
+            None => Ok(Judged::Nothing),
+        }
     }
 }
 
 // With so few rests nothing is missed: the best route through each activity within the cut is there, and no other one.
 #[test]
 fn suggestions_are_the_best_through_each(rt: HostRuntime) -> Result<(), Fail> {
-    let mut many = 0u32;
+    let mut tally = Tally::new();
     for seed in 0..150u64 {
-        let asked = make_question(rt.alloc(), seed)?;
-        match judge(&rt, rt.alloc(), &asked)? {
-            Judged::Wrong => assert!(rt; false, "seed {seed}"),
-            Judged::Few => (),
-            Judged::Many => many = many.saturating_add(1),
-        }
+        tally.add(seed, 0, answer_by_chance(rt.alloc(), seed, &Suggested)?);
     }
-    assert!(rt; many > 30, "{many} with more than one");
+    assert!(rt; tally.wrong.is_none(), "{:?}", tally.wrong);
+    assert!(rt; tally.large > 30, "{} with more than one", tally.large);
     Ok(())
 }
