@@ -7,6 +7,7 @@ ghost use Rattle.tail_outside.specs.Outside.{PieceHasFailed, Takes, TakesFront};
 use std::alloc::Global;
 use std::io::Write;
 use std::os::fd::AsRawFd;
+use std::process::Abort;
 use std::test::Fail;
 use std::{fs, io};
 use tail_outside::{
@@ -61,24 +62,25 @@ fn file(alloc: Global, name: &str, bytes: &[u8]) -> Result<MemFile, Fail> {
     })
 }
 
+fn files_of(alloc: Global, rows: &[(&str, &[u8])]) -> Result<Vec<MemFile>, Fail> {
+    let mut files = Vec::new(alloc);
+    for &(name, bytes) in rows {
+        files.push(file(alloc, name, bytes)?)?;
+    }
+    Ok(files)
+}
+
 // Three files, of which two have one name.
-fn files(alloc: Global) -> Result<Vec<MemFile>, Fail> {
-    let (plan, again, log) = (
-        file(alloc, "plan", b"old")?,
-        file(alloc, "plan", b"second")?,
-        file(alloc, "log", b"abcde")?,
-    );
-    Ok(vec![in alloc; plan, again, log]?)
+const THREE: &[(&str, &[u8])] = &[("plan", b"old"), ("plan", b"second"), ("log", b"abcde")];
+
+// Files of which the call of this number fails.
+fn failing_files(alloc: Global, number: u64, rows: &[(&str, &[u8])]) -> Result<MemFiles, Fail> {
+    let listed = [number].to_vec(alloc)?;
+    Ok(MemFiles::new(alloc, files_of(alloc, rows)?, listed)?)
 }
 
-fn failing_sink(alloc: Global, number: u64) -> Result<MemSink, Fail> {
-    let listed = [number].to_vec(alloc)?;
-    Ok(MemSink::new(alloc, listed)?)
-}
-
-fn failing_files(alloc: Global, number: u64) -> Result<MemFiles, Fail> {
-    let listed = [number].to_vec(alloc)?;
-    Ok(MemFiles::new(alloc, files(alloc)?, listed)?)
+fn sure_files(alloc: Global, room: usize) -> Result<SureFiles, Fail> {
+    Ok(SureFiles::new(alloc, files_of(alloc, THREE)?, room)?)
 }
 
 // Whether a file that is rewritten with the piece reads back so.
@@ -93,13 +95,13 @@ fn reads_back<F: Files>(files: &mut F, name: &str, piece: &[u8], want: &[u8]) ->
     }
 }
 
-// Whether a buffer of four bytes takes these of a file, from a place on.
-fn reads_at<F: Files>(files: &mut F, name: &str, at: u64, want: &[u8]) -> bool
+// Whether a buffer of so many bytes, at most four, takes these of a file, from a place on.
+fn reads_at<F: Files>(files: &mut F, name: &str, at: u64, room: usize, want: &[u8]) -> bool
     requires reads { IsTrue ((F.shows files.old).lets_read name.now) }
     requires near { at ≤ 2 ^ 40 }
 {
     let mut into = [0; 4];
-    match files.read_at(name, at, &mut into) {
+    match files.read_at(name, at, &mut into[..room.min(4)]) {
         Ok(count) => count == want.len() && into.starts_with(want),
         Err(_) => false,
     }
@@ -122,93 +124,145 @@ fn reads_whole<F: Files>(
     }
 }
 
-// Two pieces and what they are together, for each kind of sink.
-const PIECES: &[(&[u8], &[u8], &[u8])] = &[
-    (b"ab", b"c", b"abc"),
-    (b"ab", b"", b"ab"),
-    (b"", b"c", b"c"),
-    (b"", b"", b""),
-];
+// Two pieces, the answer that is wanted of a sink of which the put of this number fails, and what it then holds.
+type Pieces = (
+    u64,
+    &'static [u8],
+    &'static [u8],
+    Result<(), Fault>,
+    &'static [u8],
+);
 
+fn held_takes(alloc: Global, &(number, first, second, want, bytes): &Pieces) -> Result<bool, Fail> {
+    let listed = [number].to_vec(alloc)?;
+    let mut out = MemSink::new(alloc, listed)?;
+    Ok(put_both(&mut out, first, second) == want && out.bytes() == bytes)
+}
+
+// Each put fails in turn, and then one that is never made.
 #[test]
-fn a_held_sink_takes_both_pieces(rt: HostRuntime) -> Result<(), Fail> {
-    for &(first, second, both) in PIECES {
-        let mut out = failing_sink(rt.alloc(), 0)?;
-        assert!(rt; put_both(&mut out, first, second).is_ok());
-        assert!(rt; out.bytes() == both);
+fn a_held_sink_takes_pieces(rt: HostRuntime) -> Result<(), Fail> {
+    let rows: &[Pieces] = &[
+        (0, b"ab", b"c", Ok(()), b"abc"),
+        (0, b"ab", b"", Ok(()), b"ab"),
+        (0, b"", b"c", Ok(()), b"c"),
+        (0, b"", b"", Ok(()), b""),
+        (1, b"ab", b"c", Err(Fault::Failed), b""),
+        (2, b"ab", b"c", Err(Fault::Failed), b"ab"),
+        (3, b"ab", b"c", Ok(()), b"abc"),
+    ];
+    for row in 0..rows.len() {
+        assert!(rt; held_takes(rt.alloc(), &rows[row])?, "row {row}");
     }
     Ok(())
 }
 
+// The same of a sink over a file that isn't there yet.
+fn file_takes(alloc: Global, &(number, first, second, want, bytes): &Pieces) -> Result<bool, Fail> {
+    let mut out = FileSink::new(failing_files(alloc, number, THREE)?, "new");
+    Ok(put_both(&mut out, first, second) == want && out.into_files().bytes("new") == Some(bytes))
+}
+
+// Two pieces are taken, and then the second fails.
 #[test]
-fn a_sure_sink_takes_both_pieces(rt: HostRuntime) -> Result<(), Fail> {
-    for &(first, second, both) in PIECES {
-        let mut out = SureSink::new(rt.alloc(), 3)?;
-        assert!(rt; put_both(&mut out, first, second).is_ok());
-        assert!(rt; out.bytes() == both);
+fn a_file_takes_pieces(rt: HostRuntime) -> Result<(), Fail> {
+    let rows: &[Pieces] = &[
+        (0, b"ab", b"c", Ok(()), b"abc"),
+        (0, b"ab", b"", Ok(()), b"ab"),
+        (0, b"", b"c", Ok(()), b"c"),
+        (0, b"", b"", Ok(()), b""),
+        (2, b"ab", b"c", Err(Fault::Failed), b"ab"),
+    ];
+    for row in 0..rows.len() {
+        assert!(rt; file_takes(rt.alloc(), &rows[row])?, "row {row}");
     }
     Ok(())
 }
 
+// Whether two pieces are taken by a sink of so much room, which then holds these bytes.
+fn sure_takes(
+    alloc: Global,
+    room: usize,
+    first: &[u8],
+    second: &[u8],
+    bytes: &[u8],
+) -> Result<bool, Fail> {
+    let mut out = SureSink::new(alloc, room)?;
+    Ok(put_both(&mut out, first, second) == Ok(()) && out.bytes() == bytes)
+}
+
+// Both pieces fit, or the second passes the room by one byte and is dropped.
 #[test]
-fn a_file_takes_both_pieces(rt: HostRuntime) -> Result<(), Fail> {
-    for &(first, second, both) in PIECES {
-        let mut out = FileSink::new(failing_files(rt.alloc(), 0)?, "new");
-        assert!(rt; put_both(&mut out, first, second).is_ok());
-        assert!(rt; out.into_files().bytes("new") == Some(both));
+fn a_sure_sink_drops_past_its_room(rt: HostRuntime) -> Result<(), Fail> {
+    let rows: &[(usize, &[u8], &[u8], &[u8])] = &[
+        (3, b"ab", b"c", b"abc"),
+        (3, b"ab", b"", b"ab"),
+        (3, b"", b"c", b"c"),
+        (3, b"", b"", b""),
+        (2, b"ab", b"c", b"ab"),
+        (1, b"ab", b"c", b""),
+    ];
+    for row in 0..rows.len() {
+        let (room, first, second, bytes) = rows[row];
+        assert!(rt;
+            sure_takes(rt.alloc(), room, first, second, bytes)?,
+            "row {row}"
+        );
     }
     Ok(())
 }
 
 #[test]
 fn the_output_takes_both_pieces(rt: HostRuntime) {
-    for &(first, second, _) in PIECES {
+    let rows: &[(&[u8], &[u8])] = &[(b"ab", b"c"), (b"ab", b""), (b"", b"c"), (b"", b"")];
+    for &(first, second) in rows {
         let mut out = RealOut::new(&rt);
         assert!(rt; put_both(&mut out, first, second).is_ok());
     }
 }
 
+fn held_reads_back(alloc: Global, piece: &[u8], want: &[u8]) -> Result<bool, Fail> {
+    let mut held = failing_files(alloc, 0, THREE)?;
+    Ok(reads_back(&mut held, "plan", piece, want))
+}
+
+fn sure_reads_back(alloc: Global, piece: &[u8], want: &[u8]) -> Result<bool, Fail> {
+    let mut sure = sure_files(alloc, 6)?;
+    Ok(reads_back(&mut sure, "plan", piece, want))
+}
+
+fn real_reads_back(rt: &HostRuntime, name: &str, piece: &[u8], want: &[u8]) -> bool {
+    let mut real = RealFiles::new(rt.alloc(), rt);
+    reads_back(&mut real, name, piece, want)
+}
+
 // The same calls to each kind of files: a piece that fits the buffer, one that is longer, and an empty one.
 #[test]
 fn files_are_rewritten_alike(rt: HostRuntime) -> Result<(), Fail> {
+    let name = "tail_outside_alike";
     for &(piece, want) in &[
         (b"xyz".as_slice(), b"xyz".as_slice()),
         (b"uvwxyz".as_slice(), b"uvwx".as_slice()),
         (b"".as_slice(), b"".as_slice()),
     ] {
-        let mut held = failing_files(rt.alloc(), 0)?;
-        assert!(rt; reads_back(&mut held, "plan", piece, want));
-        let mut sure = SureFiles::new(rt.alloc(), files(rt.alloc())?, 6)?;
-        assert!(rt; reads_back(&mut sure, "plan", piece, want));
-        let mut real = RealFiles::new(rt.alloc(), &rt);
-        assert!(rt; reads_back(&mut real, "tail_outside_alike", piece, want));
-        fs::remove_file(&rt, "tail_outside_alike")?;
+        assert!(rt; held_reads_back(rt.alloc(), piece, want)?);
+        assert!(rt; sure_reads_back(rt.alloc(), piece, want)?);
+        assert!(rt; real_reads_back(&rt, name, piece, want));
+        fs::remove_file(&rt, name)?;
     }
     Ok(())
 }
 
-// Each call fails in turn, and then one that is never made.
-#[test]
-fn a_listed_put_takes_nothing(rt: HostRuntime) -> Result<(), Fail> {
-    for &(number, want, bytes) in &[
-        (1, Err(Fault::Failed), b"".as_slice()),
-        (2, Err(Fault::Failed), b"ab".as_slice()),
-        (3, Ok(()), b"abc".as_slice()),
-    ] {
-        let mut out = failing_sink(rt.alloc(), number)?;
-        assert!(rt; put_both(&mut out, b"ab", b"c") == want, "at {number}");
-        assert!(rt; out.bytes() == bytes, "at {number}");
-    }
-    Ok(())
-}
-
-// A sink over a file that isn't there yet, of which the second piece fails.
-#[test]
-fn a_file_takes_pieces(rt: HostRuntime) -> Result<(), Fail> {
-    let mut out = FileSink::new(failing_files(rt.alloc(), 2)?, "new");
-    assert!(rt; put_both(&mut out, b"ab", b"c") == Err(Fault::Failed));
-    assert!(rt; out.into_files().bytes("new") == Some(b"ab".as_slice()));
-    Ok(())
+// Whether a file is rewritten with this answer where the call of this number fails, and then has these bytes.
+fn is_rewritten(
+    alloc: Global,
+    number: u64,
+    name: &str,
+    want: Result<usize, Fault>,
+    bytes: &[u8],
+) -> Result<bool, Fail> {
+    let mut held = failing_files(alloc, number, THREE)?;
+    Ok(rewrite(&mut held, name, b"xyz", &mut [0; 4]) == want && held.bytes(name) == Some(bytes))
 }
 
 // Begin, append and read fail in turn, and a file is made. The first of two with one name counts.
@@ -221,12 +275,10 @@ fn a_file_is_rewritten(rt: HostRuntime) -> Result<(), Fail> {
         (4, "plan", Ok(3), b"xyz".as_slice()),
         (4, "new", Ok(3), b"xyz".as_slice()),
     ] {
-        let mut held = failing_files(rt.alloc(), number)?;
         assert!(rt;
-            rewrite(&mut held, name, b"xyz", &mut [0; 4]) == want,
-            "at {number}"
+            is_rewritten(rt.alloc(), number, name, want, bytes)?,
+            "{name} at {number}"
         );
-        assert!(rt; held.bytes(name) == Some(bytes), "at {number}");
     }
     Ok(())
 }
@@ -234,7 +286,7 @@ fn a_file_is_rewritten(rt: HostRuntime) -> Result<(), Fail> {
 // A front of the buffer is filled, and nothing exactly at the end or in an empty buffer.
 #[test]
 fn a_file_is_read_at_a_place(rt: HostRuntime) -> Result<(), Fail> {
-    let mut held = failing_files(rt.alloc(), 0)?;
+    let mut held = failing_files(rt.alloc(), 0, THREE)?;
     for &(at, room, want) in &[
         (0, 2, b"ab".as_slice()),
         (3, 4, b"de".as_slice()),
@@ -242,15 +294,24 @@ fn a_file_is_read_at_a_place(rt: HostRuntime) -> Result<(), Fail> {
         (9, 4, b"".as_slice()),
         (0, 0, b"".as_slice()),
     ] {
-        let mut into = [0; 4];
-        assert!(rt;
-            held.read_at("log", at, &mut into[..room]) == Ok(want.len()),
-            "at {at}"
-        );
-        assert!(rt; into.starts_with(want), "at {at}");
+        assert!(rt; reads_at(&mut held, "log", at, room, want), "at {at}");
     }
     assert!(rt; held.read_at("none", 0, &mut [0; 4]) == Err(Failed));
     Ok(())
+}
+
+fn held_reads_whole(alloc: Global, limit: usize, want: &[u8]) -> Result<bool, Fail>
+    requires { limit ≤ 2 ^ 40 }
+{
+    let mut held = failing_files(alloc, 0, THREE)?;
+    Ok(reads_whole(alloc, &mut held, "log", limit, want))
+}
+
+fn sure_reads_whole(alloc: Global, limit: usize, want: &[u8]) -> Result<bool, Fail>
+    requires { limit ≤ 2 ^ 40 }
+{
+    let mut sure = sure_files(alloc, 0)?;
+    Ok(reads_whole(alloc, &mut sure, "log", limit, want))
 }
 
 // A file is read to its end, or to a limit before, at or behind it.
@@ -262,18 +323,25 @@ fn a_file_is_read_whole(rt: HostRuntime) -> Result<(), Fail> {
         (5, b"abcde".as_slice()),
         (9, b"abcde".as_slice()),
     ] {
-        let mut held = failing_files(rt.alloc(), 0)?;
         assert!(rt;
-            reads_whole(rt.alloc(), &mut held, "log", limit, want),
-            "up to {limit}"
+            held_reads_whole(rt.alloc(), limit, want)?,
+            "held up to {limit}"
         );
-        let mut sure = SureFiles::new(rt.alloc(), files(rt.alloc())?, 0)?;
         assert!(rt;
-            reads_whole(rt.alloc(), &mut sure, "log", limit, want),
-            "up to {limit}"
+            sure_reads_whole(rt.alloc(), limit, want)?,
+            "sure up to {limit}"
         );
     }
     Ok(())
+}
+
+// How many bytes are read of a long file where the call of this number fails.
+fn length_read(alloc: Global, number: u64, bytes: &[u8]) -> Result<Result<usize, ReadFail>, Fail> {
+    let mut held = failing_files(alloc, number, &[("long", bytes)])?;
+    Ok(match read_all(alloc, &mut held, "long", 100_000) {
+        Ok(bytes) => Ok(bytes.len()),
+        Err(fail) => Err(fail),
+    })
 }
 
 // Of a file that is longer than a piece the first read fails, the one at its end, or none.
@@ -286,34 +354,27 @@ fn a_long_file_is_read_in_pieces(rt: HostRuntime) -> Result<(), Fail> {
         (3, Err(ReadFail::Failed)),
         (4, Ok(70_000)),
     ] {
-        let listed = [number].to_vec(rt.alloc())?;
-        let held = vec![in rt.alloc(); file(rt.alloc(), "long", &long)?]?;
-        let mut held = MemFiles::new(rt.alloc(), held, listed)?;
-        let length = match read_all(rt.alloc(), &mut held, "long", 100_000) {
-            Ok(bytes) => Ok(bytes.len()),
-            Err(fail) => Err(fail),
-        };
-        assert!(rt; length == want, "at {number}");
+        assert!(rt;
+            length_read(rt.alloc(), number, &long)? == want,
+            "at {number}"
+        );
     }
     Ok(())
 }
 
-// The second piece fits, or passes the room by one byte and is dropped.
-#[test]
-fn a_sure_sink_drops_past_its_room(rt: HostRuntime) -> Result<(), Fail> {
-    for &(room, bytes) in &[
-        (3, b"abc".as_slice()),
-        (2, b"ab".as_slice()),
-        (1, b"".as_slice()),
-    ] {
-        let mut out = SureSink::new(rt.alloc(), room)?;
-        assert!(rt; put_both(&mut out, b"ab", b"c") == Ok(()), "at {room}");
-        assert!(rt; out.bytes() == bytes, "at {room}");
-    }
-    Ok(())
+// Whether a file of so much room is rewritten with this answer, and then has these bytes.
+fn is_rewritten_within(
+    alloc: Global,
+    room: usize,
+    name: &str,
+    count: usize,
+    bytes: Option<&[u8]>,
+) -> Result<bool, Fail> {
+    let mut held = sure_files(alloc, room)?;
+    Ok(rewrite(&mut held, name, b"xyz", &mut [0; 4]) == Ok(count) && held.bytes(name) == bytes)
 }
 
-// The same for a file, and a name that no file has is read as an empty one.
+// A piece fits, or passes the room by one byte and is dropped. A name that no file has is read as an empty file.
 #[test]
 fn a_sure_file_drops_past_its_room(rt: HostRuntime) -> Result<(), Fail> {
     for &(room, name, count, bytes) in &[
@@ -321,12 +382,10 @@ fn a_sure_file_drops_past_its_room(rt: HostRuntime) -> Result<(), Fail> {
         (2, "plan", 0, Some(b"".as_slice())),
         (3, "none", 0, None),
     ] {
-        let mut held = SureFiles::new(rt.alloc(), files(rt.alloc())?, room)?;
         assert!(rt;
-            rewrite(&mut held, name, b"xyz", &mut [0; 4]) == Ok(count),
-            "at {room}"
+            is_rewritten_within(rt.alloc(), room, name, count, bytes)?,
+            "{name} at {room}"
         );
-        assert!(rt; held.bytes(name) == bytes, "at {room}");
     }
     Ok(())
 }
@@ -343,49 +402,89 @@ fn a_real_file_is_rewritten(rt: HostRuntime) -> Result<(), Fail> {
     Ok(())
 }
 
+// Asks that a file that is begun and to which these pieces are added is read so at these places, one after the other.
+fn is_read_on(
+    rt: &impl Abort,
+    mut real: RealFiles<&HostRuntime>,
+    name: &str,
+    pieces: &[&[u8]],
+    rows: &[(u8, &[u8])],
+) {
+    assert!(rt; real.begin(name).is_ok());
+    for piece in pieces {
+        assert!(rt; real.append(name, piece).is_ok());
+    }
+    for &(at, want) in rows {
+        assert!(rt; reads_at(&mut real, name, at as u64, 4, want), "at {at}");
+    }
+}
+
 // The bytes of a long file in turn, then again from its beginning, at a place behind it and at one before it.
 #[test]
 fn a_real_file_is_read_on(rt: HostRuntime) -> Result<(), Fail> {
     let name = "tail_outside_forward";
-    let mut real = RealFiles::new(rt.alloc(), &rt);
-    assert!(rt; real.begin(name).is_ok());
-    assert!(rt; real.append(name, b"abcdefg").is_ok());
-    for &(at, want) in &[
-        (0, b"abcd".as_slice()),
-        (4, b"efg".as_slice()),
-        (7, b"".as_slice()),
-        (0, b"abcd".as_slice()),
-        (6, b"g".as_slice()),
-        (1, b"bcde".as_slice()),
-        (5, b"fg".as_slice()),
-    ] {
-        assert!(rt; reads_at(&mut real, name, at, want), "at {at}");
-    }
+    let rows: &[(u8, &[u8])] = &[
+        (0, b"abcd"),
+        (4, b"efg"),
+        (7, b""),
+        (0, b"abcd"),
+        (6, b"g"),
+        (1, b"bcde"),
+        (5, b"fg"),
+    ];
+    let real = RealFiles::new(rt.alloc(), &rt);
+    is_read_on(&rt, real, name, &[b"abcdefg"], rows);
     fs::remove_file(&rt, name)?;
     Ok(())
 }
 
+// What a file is given joins what it holds.
+#[test]
+fn a_real_file_is_added_to(rt: HostRuntime) -> Result<(), Fail> {
+    let name = "tail_outside_added";
+    let real = RealFiles::new(rt.alloc(), &rt);
+    is_read_on(&rt, real, name, &[b"ab", b"c"], &[(0, b"abc"), (2, b"c")]);
+    fs::remove_file(&rt, name)?;
+    Ok(())
+}
+
+const FIRST: &str = "tail_outside_first";
+
+const SECOND: &str = "tail_outside_second";
+
 // Two files in turn: each is read at its own place.
+fn are_read_in_turn(rt: &impl Abort, mut real: RealFiles<&HostRuntime>) {
+    assert!(rt; real.append(FIRST, b"abc").is_ok());
+    assert!(rt; real.append(SECOND, b"xyz").is_ok());
+    for &(name, at, want) in &[
+        (FIRST, 0, b"a"),
+        (SECOND, 1, b"y"),
+        (FIRST, 1, b"b"),
+        (FIRST, 2, b"c"),
+        (SECOND, 2, b"z"),
+    ] {
+        assert!(rt; reads_at(&mut real, name, at, 1, want), "{name} at {at}");
+    }
+}
+
 #[test]
 fn real_files_are_read_in_turn(rt: HostRuntime) -> Result<(), Fail> {
-    let (first, second) = ("tail_outside_first", "tail_outside_second");
-    let mut real = RealFiles::new(rt.alloc(), &rt);
-    assert!(rt; real.append(first, b"abc").is_ok());
-    assert!(rt; real.append(second, b"xyz").is_ok());
-    for &(name, at, want) in &[
-        (first, 0, b"a"),
-        (second, 1, b"y"),
-        (first, 1, b"b"),
-        (first, 2, b"c"),
-        (second, 2, b"z"),
-    ] {
-        let mut into = [0; 1];
-        assert!(rt; real.read_at(name, at, &mut into) == Ok(1));
-        assert!(rt; into == *want, "{name} at {at}");
-    }
-    fs::remove_file(&rt, first)?;
-    fs::remove_file(&rt, second)?;
+    are_read_in_turn(&rt, RealFiles::new(rt.alloc(), &rt));
+    fs::remove_file(&rt, FIRST)?;
+    fs::remove_file(&rt, SECOND)?;
     Ok(())
+}
+
+// Asks that a pipe of six bytes is read on to its end, and not at a place before it.
+fn is_read_to_its_end(rt: &impl Abort, mut real: RealFiles<&HostRuntime>, name: &str) {
+    for &(at, want) in &[
+        (0, b"abcd".as_slice()),
+        (4, b"ef".as_slice()),
+        (6, b"".as_slice()),
+    ] {
+        assert!(rt; reads_at(&mut real, name, at, 4, want), "at {at}");
+    }
+    assert!(rt; real.read_at(name, 3, &mut [0; 4]) == Err(Failed));
 }
 
 // A pipe has no places to go back to: it is read on to its end, piece by piece.
@@ -395,39 +494,15 @@ fn a_pipe_is_read_to_its_end(rt: HostRuntime) -> Result<(), Fail> {
     writer.write_all(b"abcdef")?;
     drop(writer);
     let name = format!(in rt.alloc(); "/dev/fd/{}", reader.as_raw_fd())?;
-    let mut real = RealFiles::new(rt.alloc(), &rt);
-    for &(at, want) in &[
-        (0, b"abcd".as_slice()),
-        (4, b"ef".as_slice()),
-        (6, b"".as_slice()),
-    ] {
-        assert!(rt; reads_at(&mut real, &name, at, want), "at {at}");
-    }
-    assert!(rt; real.read_at(&name, 3, &mut [0; 4]) == Err(Failed));
+    is_read_to_its_end(&rt, RealFiles::new(rt.alloc(), &rt), &name);
     Ok(())
 }
 
-// What a file is given joins what it holds.
-#[test]
-fn a_real_file_is_added_to(rt: HostRuntime) -> Result<(), Fail> {
-    let name = "tail_outside_added";
-    let mut real = RealFiles::new(rt.alloc(), &rt);
-    assert!(rt; real.begin(name).is_ok());
-    assert!(rt; real.append(name, b"ab").is_ok());
-    assert!(rt; real.append(name, b"c").is_ok());
-    assert!(rt; reads_at(&mut real, name, 0, b"abc"));
-    assert!(rt; reads_at(&mut real, name, 2, b"c"));
-    fs::remove_file(&rt, name)?;
-    Ok(())
-}
-
-// A folder is no file. The output takes what is put.
+// A folder is no file.
 #[test]
 fn a_folder_is_no_file(rt: HostRuntime) {
     let mut real = RealFiles::new(rt.alloc(), &rt);
     assert!(rt; real.read_at(".", 0, &mut [0; 4]) == Err(Failed));
     assert!(rt; real.begin(".") == Err(Fault::Failed));
     assert!(rt; real.append(".", b"!") == Err(Fault::Failed));
-    let mut out = RealOut::new(&rt);
-    assert!(rt; put_both(&mut out, b"ab", b"c").is_ok());
 }

@@ -1,9 +1,47 @@
 //! Tables of records as texts: so many good ones, a good one before one of which some fields are others, and texts that
 //! end in several ways.
 
-use std::alloc::Global;
+use fleet_rules::read_fleet;
+use std::alloc::{AllocError, Global};
 use std::process::Abort;
 use std::test::Fail;
+use tail_text::{Stopped, Table};
+use timetable_reader::read_timetable;
+
+// How many records a table has, or the code and the place of its refusal.
+pub type Told = Result<usize, (u8, u64)>;
+
+// A table of records: its header, a good record, and the fields of another one.
+#[derive(Clone, Copy)]
+pub struct Form {
+    pub table: Table,
+    pub header: &'static str,
+    pub record: &'static str,
+    pub usual: &'static [(&'static str, &'static str)],
+}
+
+// The code and the place of a refusal of this table; zeros where it is another's or memory is wanting.
+pub fn refusal_of(table: Table, stopped: Stopped) -> (u8, u64) {
+    match stopped {
+        Stopped::Refused(refusal) if refusal.table == table => (refusal.code, refusal.place),
+        _ => (0, 0),
+    }
+}
+
+// What is told of a fleet or a timetable.
+pub fn told(alloc: Global, table: Table, text: &[u8]) -> Told {
+    let stopped = match table {
+        Table::Fleet => match read_fleet(alloc, text) {
+            Ok(tails) => return Ok(tails.len()),
+            Err(stopped) => stopped,
+        },
+        _ => match read_timetable(alloc, text) {
+            Ok(activities) => return Ok(activities.len()),
+            Err(stopped) => stopped,
+        },
+    };
+    Err(refusal_of(table, stopped))
+}
 
 // The field of this name among the changes, and else the usual one.
 fn field_of<'a>(changes: &[(&str, &'a str)], name: &str, usual: &'a str) -> &'a str {
@@ -15,49 +53,107 @@ fn field_of<'a>(changes: &[(&str, &'a str)], name: &str, usual: &'a str) -> &'a 
     usual
 }
 
-// What stands in front, and a record of the usual fields with these in place of its own.
-pub fn with_fields<'a>(
-    alloc: Global,
-    front: &str,
-    usual: &[(&str, &'a str)],
-    changes: &[(&str, &'a str)],
-) -> Result<String, Fail> {
-    let mut table = format!(in alloc; "{front}")?;
+// A header and so many good records.
+fn push_good(table: &mut String, form: &Form, count: usize) -> Result<(), AllocError> {
+    table.push_str(form.header)?;
+    for _ in 0..count {
+        table.push_str(form.record)?;
+    }
+    Ok(())
+}
+
+// The table of a good record and of one with these fields in place of its own.
+fn push_changed(
+    table: &mut String,
+    form: &Form,
+    changes: &[(&str, &str)],
+) -> Result<(), AllocError> {
+    push_good(table, form, 1)?;
     let mut before = "";
-    for &(name, text) in usual {
+    for &(name, text) in form.usual {
         table.push_str(before)?;
         table.push_str(field_of(changes, name, text))?;
         before = ",";
     }
-    table.push('\n')?;
-    Ok(table)
+    table.push('\n')
 }
 
-// A header and so many records.
-pub fn table_of(alloc: Global, header: &str, record: &str, count: usize) -> Result<String, Fail> {
-    let mut table = format!(in alloc; "{header}")?;
-    for _ in 0..count {
-        table.push_str(record)?;
-    }
-    Ok(table)
+fn is_change_told(
+    alloc: Global,
+    form: &Form,
+    changes: &[(&str, &str)],
+    want: Told,
+) -> Result<bool, Fail> {
+    let mut table = String::new(alloc);
+    push_changed(&mut table, form, changes)?;
+    Ok(told(alloc, form.table, table.as_bytes()) == want)
 }
 
-// How many records a table has, or the code and the place of its refusal.
-pub type Told = Result<usize, (u8, u64)>;
-
-// Asks that a text with each of these ends behind it is read so.
-pub fn each_end_is_read<F: Fn(Global, &[u8]) -> Told>(
+// Asks that a record with each of these texts in each of these fields is told so.
+pub fn each_field_is_told(
     rt: &impl Abort,
     alloc: Global,
-    read: F,
-    front: &str,
-    ends: &[(&str, Told)],
-) -> Result<(), Fail>
-    requires { F.IsAlwaysCallable read }
-{
-    for &(end, want) in ends {
-        let table = format!(in alloc; "{front}{end}")?;
-        assert!(rt; read(alloc, table.as_bytes()) == want, "{end}");
+    form: &Form,
+    rows: &[(&str, &[(&str, Told)])],
+) -> Result<(), Fail> {
+    for &(field, texts) in rows {
+        for &(text, want) in texts {
+            assert!(rt;
+                is_change_told(alloc, form, &[(field, text)], want)?,
+                "{field} {text}"
+            );
+        }
     }
     Ok(())
+}
+
+// Asks that a record with each of these two fields in place of its own is told so.
+pub fn each_pair_is_told(
+    rt: &impl Abort,
+    alloc: Global,
+    form: &Form,
+    rows: &[(&str, &str, &str, &str, Told)],
+) -> Result<(), Fail> {
+    for &(first, text, second, other, want) in rows {
+        assert!(rt;
+            is_change_told(alloc, form, &[(first, text), (second, other)], want)?,
+            "{first} {text} {second} {other}"
+        );
+    }
+    Ok(())
+}
+
+fn is_end_told(
+    alloc: Global,
+    form: &Form,
+    count: usize,
+    end: &str,
+    want: Told,
+) -> Result<bool, Fail> {
+    let mut table = String::new(alloc);
+    push_good(&mut table, form, count)?;
+    table.push_str(end)?;
+    Ok(told(alloc, form.table, table.as_bytes()) == want)
+}
+
+// Asks that so many good records with each of these ends behind them are told so.
+pub fn each_end_is_told(
+    rt: &impl Abort,
+    alloc: Global,
+    form: &Form,
+    count: usize,
+    ends: &[(&str, Told)],
+) -> Result<(), Fail> {
+    for &(end, want) in ends {
+        assert!(rt; is_end_told(alloc, form, count, end, want)?, "{end}");
+    }
+    Ok(())
+}
+
+// Asks that each of these texts is told so.
+pub fn each_text_is_told(rt: &impl Abort, alloc: Global, table: Table, rows: &[(&[u8], Told)]) {
+    for row in 0..rows.len() {
+        let (text, want) = rows[row];
+        assert!(rt; told(alloc, table, text) == want, "row {row}");
+    }
 }

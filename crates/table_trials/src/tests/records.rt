@@ -4,12 +4,15 @@ ghost use Rattle.std.specs.Prelude.{[], ◌∷◌, codes, length, ◌==◌, if�
 ghost use Rattle.tail_text.specs.declared.refusal.Table.TheVariants.{Fleet};
 ghost use Rattle.table_records.specs.Fields.{field_at};
 
+use crate::tests::record_texts::refusal_of;
 use std::alloc::Global;
+use std::process::Abort;
 use std::test::Fail;
 use table_records::{
     Fields, NoRow, Records, Row, name_in, names, number_in, optional_name_in, read_table, stamp_in,
 };
-use tail_text::{Refusal, SIZE_LIMIT, Stopped, Table};
+use tail_book::Memory;
+use tail_text::{SIZE_LIMIT, Table};
 
 // A table of the fields `name` and `note` with at most two records: how long each name is, and code 5 for an empty one.
 #[derive(Clone, Copy, PartialEq, Eq, Debug)]
@@ -48,40 +51,48 @@ impl Row for Size {
     }
 }
 
-// How long the names of a table are, or the code and the place of its refusal.
-fn read(alloc: Global, table: &[u8]) -> Result<Vec<Size>, (u8, u64)> {
-    match read_table::<Size>(alloc, table) {
-        Ok(rows) => Ok(rows),
-        Err(Stopped::Refused(Refusal { code, table, place })) if table == Table::Fleet => {
-            Err((code, place))
-        }
-        Err(_) => Err((0, 0)),
+// Whether the names of a table are that long.
+fn has_sizes(alloc: Global, text: &str, sizes: &[Size]) -> bool {
+    match read_table::<Size>(alloc, text.as_bytes()) {
+        Ok(rows) => rows.as_slice() == sizes,
+        Err(_) => false,
     }
 }
 
-// Two records however they are written: in quotes a comma, a quote and a line end are part of a field.
-#[test]
-fn tables_are_written_in_several_ways(rt: HostRuntime) -> Result<(), Fail> {
-    for text in [
-        "name,note\nab,\"x, y\"\n\nabc,\n",
-        "\u{feff}name,note\r\nab,x\r\nabc,",
-        "name,note\rab,x\rabc,y\r",
-        "\n\r\n\"name\",note\n\nab,x\n\n\n\"abc\",\"\"",
-        "name,note\n\"a,\",x\n\"a\"\"b\",y\n",
-        "name,note\n\"a\n\",x\n\"a\r\n\",y\n",
-    ] {
-        let rows = read(rt.alloc(), text.as_bytes());
-        assert!(rt;
-            rows.is_ok_and(|rows| rows.as_slice() == [Size(2), Size(3)].as_slice()),
-            "{text}"
-        );
+// Whether a table is refused with this code at this place.
+fn is_refused(alloc: Global, table: &[u8], want: (u8, u64)) -> bool {
+    match read_table::<Size>(alloc, table) {
+        Ok(_) => false,
+        Err(stopped) => refusal_of(Table::Fleet, stopped) == want,
     }
-    Ok(())
+}
+
+// Two records however they are written: in quotes a comma, a quote and a line end are part of a field. A header alone has
+// no rows.
+#[test]
+fn tables_are_written_in_several_ways(rt: HostRuntime) {
+    let rows: &[(&str, &[Size])] = &[
+        ("name,note\nab,\"x, y\"\n\nabc,\n", &[Size(2), Size(3)]),
+        ("\u{feff}name,note\r\nab,x\r\nabc,", &[Size(2), Size(3)]),
+        ("name,note\rab,x\rabc,y\r", &[Size(2), Size(3)]),
+        (
+            "\n\r\n\"name\",note\n\nab,x\n\n\n\"abc\",\"\"",
+            &[Size(2), Size(3)],
+        ),
+        ("name,note\n\"a,\",x\n\"a\"\"b\",y\n", &[Size(2), Size(3)]),
+        ("name,note\n\"a\n\",x\n\"a\r\n\",y\n", &[Size(2), Size(3)]),
+        ("name,note", &[]),
+        ("name,note\n", &[]),
+        ("\u{feff}name,note\r\n\r\n", &[]),
+    ];
+    for &(text, sizes) in rows {
+        assert!(rt; has_sizes(rt.alloc(), text, sizes), "{text}");
+    }
 }
 
 // A place is the number of a record with the header: an empty line has none, and a field's line ends make no record.
 #[test]
-fn tables_are_read_up_to_their_first_refusal(rt: HostRuntime) -> Result<(), Fail> {
+fn tables_are_read_up_to_their_first_refusal(rt: HostRuntime) {
     for &(text, want) in &[
         ("", (3, 1)),
         ("\n\n", (3, 1)),
@@ -101,30 +112,19 @@ fn tables_are_read_up_to_their_first_refusal(rt: HostRuntime) -> Result<(), Fail
         ("name,note\nab,x\nabc,y\nz\n", (4, 4)),
         ("name,note\nab,x\nabc,y\n,z\nz\n", (10, 4)),
     ] {
-        let got = read(rt.alloc(), text.as_bytes()).err();
-        assert!(rt; got == Some(want), "{text}");
+        assert!(rt; is_refused(rt.alloc(), text.as_bytes(), want), "{text}");
     }
-    Ok(())
-}
-
-#[test]
-fn a_header_alone_has_no_rows(rt: HostRuntime) -> Result<(), Fail> {
-    for text in ["name,note", "name,note\n", "\u{feff}name,note\r\n\r\n"] {
-        let rows = read(rt.alloc(), text.as_bytes());
-        assert!(rt; rows.is_ok_and(|rows| rows.is_empty()), "{text}");
-    }
-    Ok(())
 }
 
 // The size is looked at first, and the largest one is allowed.
 #[test]
 fn a_table_has_its_size_and_is_text(rt: HostRuntime) -> Result<(), Fail> {
-    let mut large = vec![in rt.alloc(); 255; SIZE_LIMIT]?;
-    assert!(rt; read(rt.alloc(), large.as_slice()).err() == Some((2, 0)));
-    large.push(255)?;
-    assert!(rt; read(rt.alloc(), large.as_slice()).err() == Some((1, 0)));
-    assert!(rt; read(rt.alloc(), b"name,note\n\xff,x\n").err() == Some((2, 0)));
-    assert!(rt; read(rt.alloc(), b"name,note\nab\n\xe2\x82").err() == Some((2, 0)));
+    let alloc = rt.alloc();
+    let large = vec![in alloc; 255; SIZE_LIMIT + 1]?;
+    assert!(rt; is_refused(alloc, &large[1..], (2, 0)));
+    assert!(rt; is_refused(alloc, &large, (1, 0)));
+    assert!(rt; is_refused(alloc, b"name,note\n\xff,x\n", (2, 0)));
+    assert!(rt; is_refused(alloc, b"name,note\nab\n\xe2\x82", (2, 0)));
     Ok(())
 }
 
@@ -135,15 +135,25 @@ fn takes(
     count: usize,
     first: &str,
     second: &str,
-) -> Result<bool, Fail> {
-    if !records.take(fields)? {
-        return Ok(false);
-    }
+) -> Result<bool, Memory> {
     Ok(
-        fields.len() == count
+        records.take(fields)?
+            && fields.len() == count
             && fields.at(0) == first.as_bytes()
             && fields.at(1) == second.as_bytes(),
     )
+}
+
+// Asks that there is a record of `a` and `b`, one of `c`, and no other.
+fn two_are_taken(
+    rt: &impl Abort,
+    records: &mut Records,
+    fields: &mut Fields,
+) -> Result<(), Memory> {
+    assert!(rt; takes(records, fields, 2, "a", "b")?);
+    assert!(rt; takes(records, fields, 1, "c", "")?);
+    assert!(rt; !records.take(fields)?);
+    Ok(())
 }
 
 // A field that a record does not have is empty.
@@ -151,20 +161,26 @@ fn takes(
 fn records_come_one_after_the_other(rt: HostRuntime) -> Result<(), Fail> {
     let mut records = Records::new(rt.alloc(), b"a,b\nc\n");
     let mut fields = Fields::new(rt.alloc());
-    assert!(rt; takes(&mut records, &mut fields, 2, "a", "b")?);
-    assert!(rt; takes(&mut records, &mut fields, 1, "c", "")?);
-    assert!(rt; !records.take(&mut fields)?);
+    two_are_taken(&rt, &mut records, &mut fields)?;
     Ok(())
 }
 
+// How many names a field has, or the code of its refusal.
+fn count_of(alloc: Global, field: &str) -> Result<usize, u8> {
+    match names(alloc, field.as_bytes()) {
+        Ok(names) => Ok(names.len()),
+        Err(NoRow::Code(code)) => Err(code),
+        Err(NoRow::Memory) => Err(0),
+    }
+}
+
 #[test]
-fn names_stand_between_single_spaces(rt: HostRuntime) -> Result<(), Fail> {
-    let twenty = "a b c d e f g h i j k l m n o p q r s t";
+fn names_stand_between_single_spaces(rt: HostRuntime) {
     for &(field, want) in &[
         ("", Ok(0)),
         ("A320", Ok(1)),
         ("A320 B738", Ok(2)),
-        (twenty, Ok(20)),
+        ("a b c d e f g h i j k l m n o p q r s t", Ok(20)),
         (" A320", Err(5)),
         ("A320 ", Err(5)),
         ("A320  B738", Err(5)),
@@ -172,18 +188,12 @@ fn names_stand_between_single_spaces(rt: HostRuntime) -> Result<(), Fail> {
         ("a b c d e f g h i j k l m n o p q r s t u", Err(10)),
         ("a b c d e f g h i j k l m n o p q r s t u -", Err(5)),
     ] {
-        let got = match names(rt.alloc(), field.as_bytes()) {
-            Ok(names) => Ok(names.len()),
-            Err(NoRow::Code(code)) => Err(code),
-            Err(NoRow::Memory) => Err(0),
-        };
-        assert!(rt; got == want, "{field}");
+        assert!(rt; count_of(rt.alloc(), field) == want, "{field}");
     }
-    Ok(())
 }
 
 #[test]
-fn numbers_have_no_zero_in_front(rt: HostRuntime) -> Result<(), Fail> {
+fn numbers_have_no_zero_in_front(rt: HostRuntime) {
     for &(field, want) in &[
         ("0", Ok(0)),
         ("7", Ok(7)),
@@ -204,7 +214,6 @@ fn numbers_have_no_zero_in_front(rt: HostRuntime) -> Result<(), Fail> {
         number_in(b"18446744073709551615", 18_446_744_073_709_551_615)
             == Ok(18_446_744_073_709_551_615)
     );
-    Ok(())
 }
 
 // Whether a field is read as a name, where it is one, and else refused.
@@ -215,30 +224,30 @@ fn is_told(field: &str, is_name: bool) -> bool {
     }
 }
 
-// The same where a name may be missing.
+// The same where a name may be missing: an empty field names nobody.
 fn is_told_or_missing(field: &str, is_name: bool) -> bool {
     match optional_name_in(field.as_bytes()) {
-        Ok(found) => found.is_some() == is_name,
-        Err(code) => !is_name && code == 5,
+        Ok(Some(_)) => is_name,
+        Ok(None) => field.is_empty(),
+        Err(code) => !is_name && !field.is_empty() && code == 5,
     }
 }
 
-// Where a name may be missing, an empty field names nobody.
 #[test]
-fn fields_hold_names_and_moments(rt: HostRuntime) -> Result<(), Fail> {
+fn fields_hold_names_and_moments(rt: HostRuntime) {
     for &(field, is_name) in &[
         ("LN-ABC", true),
         ("ABCDEFGHIJKLMNOP", true),
         ("ABCDEFGHIJKLMNOPQ", false),
         ("-", false),
         ("A B", false),
+        ("", false),
     ] {
-        assert!(rt; is_told(field, is_name), "{field}");
-        assert!(rt; is_told_or_missing(field, is_name), "{field}");
+        assert!(rt;
+            is_told(field, is_name) && is_told_or_missing(field, is_name),
+            "{field}"
+        );
     }
-    assert!(rt; name_in(b"").err() == Some(5));
-    assert!(rt; optional_name_in(b"") == Ok(None));
     assert!(rt; stamp_in(b"1970-01-02T00:01") == Ok(1441));
     assert!(rt; stamp_in(b"2025-03-01T24:00") == Err(6));
-    Ok(())
 }

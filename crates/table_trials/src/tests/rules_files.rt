@@ -1,20 +1,20 @@
 //! Tables of rules read whole: every key of every entry, the order of refusals, the limits, and a good table.
 
+use crate::tests::record_texts::refusal_of;
 use crate::tests::wanted::{are_names, is_airport, is_type};
 use fleet_rules::{RawCounter, RawCurfew, RawRules, read_rules};
 use std::alloc::{AllocError, Global};
 use std::test::Fail;
 use tail_book::{AircraftType, Airport, Band, CounterKind};
-use tail_text::{Refusal, Stopped, Table};
+use tail_text::Table;
 
 // How many entries each key has, or the code and the place of the refusal.
-fn read(alloc: Global, text: &[u8]) -> Result<[usize; 5], (u8, u64)> {
+type Told = Result<[usize; 5], (u8, u64)>;
+
+fn told(alloc: Global, text: &[u8]) -> Told {
     match read_rules(alloc, text) {
         Ok(rules) => Ok(sizes(&rules)),
-        Err(Stopped::Refused(Refusal { code, table, place })) if table == Table::Rules => {
-            Err((code, place))
-        }
-        Err(_) => Err((0, 0)),
+        Err(stopped) => Err(refusal_of(Table::Rules, stopped)),
     }
 }
 
@@ -28,80 +28,67 @@ fn sizes(rules: &RawRules) -> [usize; 5] {
     ]
 }
 
-// The lines of a good entry.
-fn good(key: &str) -> &'static [&'static str] {
+// The keys of a good entry and their values.
+fn good(key: &str) -> &'static [(&'static str, &'static str)] {
     match key {
-        "type" => &["name = \"P\"", "rate = 1", "turn = 30"],
-        "airport" => &["name = \"ARN\"", "offset = 60", "turn = 20"],
+        "type" => &[("name", "\"P\""), ("rate", "1"), ("turn", "30")],
+        "airport" => &[("name", "\"ARN\""), ("offset", "60"), ("turn", "20")],
         "curfew" => &[
-            "airport = \"ARN\"",
-            "from = \"23:00\"",
-            "to = \"06:00\"",
-            "types = [\"P\"]",
-            "start = true",
-            "landing = false",
+            ("airport", "\"ARN\""),
+            ("from", "\"23:00\""),
+            ("to", "\"06:00\""),
+            ("types", "[\"P\"]"),
+            ("start", "true"),
+            ("landing", "false"),
         ],
         "counter" => &[
-            "name = \"fh\"",
-            "kind = \"minutes\"",
-            "limit = 120",
-            "bases = [\"ARN\"]",
-            "stop = 60",
+            ("name", "\"fh\""),
+            ("kind", "\"minutes\""),
+            ("limit", "120"),
+            ("bases", "[\"ARN\"]"),
+            ("stop", "60"),
         ],
-        _ => &["upto = 59", "cost = 500"],
+        _ => &[("upto", "59"), ("cost", "500")],
     }
-}
-
-fn push_line(text: &mut String, line: &str) -> Result<(), AllocError> {
-    text.push_str(line)?;
-    text.push_str("\n")
-}
-
-// A good entry of the key, but for the line that begins so: another stands in its place, or none where that is empty.
-fn push_entry(text: &mut String, key: &str, begins: &str, other: &str) -> Result<(), AllocError> {
-    text.push_str("[[")?;
-    text.push_str(key)?;
-    push_line(text, "]]")?;
-    for line in good(key) {
-        if !line.starts_with(begins) || begins.is_empty() {
-            push_line(text, line)?;
-        }
-    }
-    push_line(text, other)
-}
-
-// A table of one entry.
-fn one_entry(alloc: Global, key: &str, begins: &str, other: &str) -> Result<String, AllocError> {
-    let mut text = String::new(alloc);
-    push_entry(&mut text, key, begins, other)?;
-    Ok(text)
 }
 
 // The line `NAME = VALUE`.
-fn line_of(alloc: Global, name: &str, value: &str) -> Result<String, AllocError> {
-    let mut line = String::new(alloc);
-    line.push_str(name)?;
-    line.push_str(" = ")?;
-    line.push_str(value)?;
-    Ok(line)
+fn push_value(text: &mut String, name: &str, value: &str) -> Result<(), AllocError> {
+    text.push_str(name)?;
+    text.push_str(" = ")?;
+    text.push_str(value)?;
+    text.push_str("\n")
 }
 
-// What a table of one entry gives, with one key of it changed, or left out where the value is empty.
-fn changed(
+// A good entry of the key, but for the line of this name: another value stands behind the others, or an empty
+// line where it is empty.
+fn push_entry(text: &mut String, key: &str, name: &str, value: &str) -> Result<(), AllocError> {
+    text.push_str("[[")?;
+    text.push_str(key)?;
+    text.push_str("]]\n")?;
+    for &(usual, good) in good(key) {
+        if usual != name {
+            push_value(text, usual, good)?;
+        }
+    }
+    if value.is_empty() {
+        return text.push_str("\n");
+    }
+    push_value(text, name, value)
+}
+
+// Whether a table of one entry, with one key of it changed, or left out where the value is empty, is refused with this
+// code; with 0 it is good.
+fn is_told(
     alloc: Global,
     key: &str,
     name: &str,
     value: &str,
-) -> Result<Result<[usize; 5], (u8, u64)>, AllocError> {
-    let mut begins = String::new(alloc);
-    begins.push_str(name)?;
-    begins.push_str(" ")?;
-    let mut line = String::new(alloc);
-    if !value.is_empty() {
-        line = line_of(alloc, name, value)?;
-    }
-    let text = one_entry(alloc, key, begins.as_str(), line.as_str())?;
-    Ok(read(alloc, text.as_bytes()))
+    code: u8,
+) -> Result<bool, AllocError> {
+    let mut text = String::new(alloc);
+    push_entry(&mut text, key, name, value)?;
+    Ok(told(alloc, text.as_bytes()) == wanted(key, code))
 }
 
 // Each key absent, of each other kind, and beside its range or its grammar.
@@ -128,11 +115,8 @@ fn each_key_is_there_and_has_its_kind(rt: HostRuntime) -> Result<(), Fail> {
         ("band", "upto", "integer", 9),
         ("band", "cost", "integer", 9),
     ] {
-        assert!(rt;
-            changed(rt.alloc(), key, name, "")? == Err((15, 1)),
-            "{key} without {name}"
-        );
         for &(other, value) in &[
+            ("nothing", ""),
             ("string", "\"P\""),
             ("integer", "1"),
             ("float", "1.0"),
@@ -141,10 +125,11 @@ fn each_key_is_there_and_has_its_kind(rt: HostRuntime) -> Result<(), Fail> {
             ("array", "[\"P\"]"),
             ("table", "{ a = 1 }"),
         ] {
-            if other != kind {
-                let got = changed(rt.alloc(), key, name, value)?;
-                assert!(rt; got == Err((code, 1)), "{key} with {name} = {value}");
-            }
+            let code = if value.is_empty() { 15 } else { code };
+            assert!(rt;
+                other == kind || is_told(rt.alloc(), key, name, value, code)?,
+                "{key} with {name} = {value}"
+            );
         }
     }
     Ok(())
@@ -223,8 +208,10 @@ fn ranges_end_where_they_say(rt: HostRuntime) -> Result<(), Fail> {
         ("band", "cost", "1000000", 0),
         ("band", "cost", "1000001", 9),
     ] {
-        let got = changed(rt.alloc(), key, name, value)?;
-        assert!(rt; got == wanted(key, code), "{key} with {name} = {value}");
+        assert!(rt;
+            is_told(rt.alloc(), key, name, value, code)?,
+            "{key} with {name} = {value}"
+        );
     }
     Ok(())
 }
@@ -241,7 +228,7 @@ fn one(key: &str) -> [usize; 5] {
 }
 
 // The same, or the refusal of that entry with a code that is not 0.
-fn wanted(key: &str, code: u8) -> Result<[usize; 5], (u8, u64)> {
+fn wanted(key: &str, code: u8) -> Told {
     if code == 0 {
         Ok(one(key))
     } else {
@@ -251,21 +238,23 @@ fn wanted(key: &str, code: u8) -> Result<[usize; 5], (u8, u64)> {
 
 // A counter of this kind and this limit.
 fn counter_of(alloc: Global, kind: &str, limit: &str) -> Result<String, AllocError> {
-    let mut text = String::new(alloc);
-    text.push_str("[[counter]]\nname = \"c\"\nbases = []\nstop = 60\nkind = \"")?;
-    text.push_str(kind)?;
-    text.push_str("\"\nlimit = ")?;
-    text.push_str(limit)?;
-    Ok(text)
+    format!(in alloc;
+        "[[counter]]\nname = \"c\"\nbases = []\nstop = 60\nkind = \"{kind}\"\nlimit = {limit}"
+    )
 }
 
 // What is kept as the limit, in minutes or landings, or the code of a table of one counter.
-fn limit_kept(alloc: Global, kind: &str, limit: &str) -> Result<Result<i64, u8>, AllocError> {
-    let text = counter_of(alloc, kind, limit)?;
+fn limit_kept(alloc: Global, text: &str) -> Result<i64, u8> {
     match read_rules(alloc, text.as_bytes()) {
-        Ok(rules) => Ok(Ok(rules.counters.last().map_or(0, |counter| counter.limit))),
-        Err(Stopped::Refused(refusal)) => Ok(Err(refusal.code)),
-        Err(Stopped::Memory) => Ok(Err(0)),
+        Ok(rules) => Ok(first_limit(&rules.counters)),
+        Err(stopped) => Err(refusal_of(Table::Rules, stopped).0),
+    }
+}
+
+fn first_limit(counters: &[RawCounter]) -> i64 {
+    match counters {
+        [counter] => counter.limit,
+        _ => 0,
     }
 }
 
@@ -281,22 +270,34 @@ fn limits_of_days_are_kept_in_minutes(rt: HostRuntime) -> Result<(), Fail> {
         ("landings", "10000000", Ok(10_000_000)),
         ("landings", "10000001", Err(9)),
     ] {
-        let got = limit_kept(rt.alloc(), kind, limit)?;
-        assert!(rt; got == want, "{limit} {kind}");
+        let text = counter_of(rt.alloc(), kind, limit)?;
+        assert!(rt; limit_kept(rt.alloc(), &text) == want, "{limit} {kind}");
     }
     Ok(())
 }
 
 // An array of so many good names and one more.
-fn names_and(alloc: Global, count: usize, last: &str) -> Result<String, AllocError> {
-    let mut array = String::new(alloc);
+fn push_names(array: &mut String, count: usize, last: &str) -> Result<(), AllocError> {
     array.push_str("[")?;
     for _ in 0..count {
         array.push_str("\"A\", ")?;
     }
     array.push_str(last)?;
-    array.push_str("]")?;
-    Ok(array)
+    array.push_str("]")
+}
+
+// Whether an entry with such an array is refused with this code; with 0 it is good.
+fn is_list_told(
+    alloc: Global,
+    key: &str,
+    name: &str,
+    count: usize,
+    last: &str,
+    code: u8,
+) -> Result<bool, AllocError> {
+    let mut array = String::new(alloc);
+    push_names(&mut array, count, last)?;
+    is_told(alloc, key, name, array.as_str(), code)
 }
 
 // Only good names are counted.
@@ -310,9 +311,10 @@ fn lists_of_names_have_a_limit(rt: HostRuntime) -> Result<(), Fail> {
         ("counter", "bases", 200, "\"A\"", 10),
         ("counter", "bases", 201, "5", 5),
     ] {
-        let array = names_and(rt.alloc(), count, last)?;
-        let got = changed(rt.alloc(), key, name, array.as_str())?;
-        assert!(rt; got == wanted(key, code), "{count} {name} and {last}");
+        assert!(rt;
+            is_list_told(rt.alloc(), key, name, count, last, code)?,
+            "{count} {name} and {last}"
+        );
     }
     Ok(())
 }
@@ -325,16 +327,32 @@ fn push_entries(text: &mut String, key: &str, count: usize) -> Result<(), AllocE
     Ok(())
 }
 
-// As many entries as there may be, and then one more, which is not looked at.
+// As many entries as there may be.
+fn push_all(text: &mut String) -> Result<(), AllocError> {
+    push_entries(text, "type", 20)?;
+    push_entries(text, "airport", 200)?;
+    push_entries(text, "curfew", 400)?;
+    push_entries(text, "counter", 6)?;
+    push_entries(text, "band", 8)
+}
+
+// Whether one entry more, which is not looked at, is refused at this place.
+fn is_one_too_many(
+    alloc: Global,
+    text: &mut String,
+    key: &str,
+    place: u64,
+) -> Result<bool, AllocError> {
+    push_entry(text, key, "speed", "1")?;
+    Ok(told(alloc, text.as_bytes()) == Err((10, place)))
+}
+
+// As many entries as there may be, and then one more.
 #[test]
 fn each_key_has_a_limit_of_entries(rt: HostRuntime) -> Result<(), Fail> {
     let mut text = String::new(rt.alloc());
-    push_entries(&mut text, "type", 20)?;
-    push_entries(&mut text, "airport", 200)?;
-    push_entries(&mut text, "curfew", 400)?;
-    push_entries(&mut text, "counter", 6)?;
-    push_entries(&mut text, "band", 8)?;
-    assert!(rt; read(rt.alloc(), text.as_bytes()) == Ok([20, 200, 400, 6, 8]));
+    push_all(&mut text)?;
+    assert!(rt; told(rt.alloc(), text.as_bytes()) == Ok([20, 200, 400, 6, 8]));
     for &(key, place) in &[
         ("band", 635),
         ("counter", 627),
@@ -342,9 +360,8 @@ fn each_key_has_a_limit_of_entries(rt: HostRuntime) -> Result<(), Fail> {
         ("airport", 221),
         ("type", 21),
     ] {
-        push_entry(&mut text, key, "", "speed = 1")?;
         assert!(rt;
-            read(rt.alloc(), text.as_bytes()) == Err((10, place)),
+            is_one_too_many(rt.alloc(), &mut text, key, place)?,
             "{key}"
         );
     }
@@ -353,7 +370,7 @@ fn each_key_has_a_limit_of_entries(rt: HostRuntime) -> Result<(), Fail> {
 
 // Whole texts: what TOML makes of them, the keys of the table, and the order in which entries are looked at.
 #[test]
-fn rules_are_read_up_to_their_first_refusal(rt: HostRuntime) -> Result<(), Fail> {
+fn rules_are_read_up_to_their_first_refusal(rt: HostRuntime) {
     for &(text, want) in &[
         ("", Ok([0, 0, 0, 0, 0])),
         ("# no rules\n", Ok([0, 0, 0, 0, 0])),
@@ -432,14 +449,12 @@ fn rules_are_read_up_to_their_first_refusal(rt: HostRuntime) -> Result<(), Fail>
             Err((14, 1)),
         ),
     ] {
-        assert!(rt; read(rt.alloc(), text.as_bytes()) == want, "{text}");
+        assert!(rt; told(rt.alloc(), text.as_bytes()) == want, "{text}");
     }
-    Ok(())
 }
 
 // A key `band` with so many arrays in one another.
-fn nested(alloc: Global, deep: usize) -> Result<String, AllocError> {
-    let mut text = String::new(alloc);
+fn push_nested(text: &mut String, deep: usize) -> Result<(), AllocError> {
     text.push_str("band = ")?;
     for _ in 0..deep {
         text.push_str("[")?;
@@ -447,7 +462,13 @@ fn nested(alloc: Global, deep: usize) -> Result<String, AllocError> {
     for _ in 0..deep {
         text.push_str("]")?;
     }
-    Ok(text)
+    Ok(())
+}
+
+fn is_nested_told(alloc: Global, deep: usize, want: Told) -> Result<bool, AllocError> {
+    let mut text = String::new(alloc);
+    push_nested(&mut text, deep)?;
+    Ok(told(alloc, text.as_bytes()) == want)
 }
 
 // A text that nests deeper than TOML is read here is refused as a whole.
@@ -458,8 +479,7 @@ fn texts_nest_at_most_80_deep(rt: HostRuntime) -> Result<(), Fail> {
         (80, Err((4, 0))),
         (81, Err((13, 0))),
     ] {
-        let text = nested(rt.alloc(), deep)?;
-        assert!(rt; read(rt.alloc(), text.as_bytes()) == want, "{deep}");
+        assert!(rt; is_nested_told(rt.alloc(), deep, want)?, "{deep}");
     }
     Ok(())
 }
@@ -468,8 +488,8 @@ fn texts_nest_at_most_80_deep(rt: HostRuntime) -> Result<(), Fail> {
 #[test]
 fn rules_have_a_size_and_are_text(rt: HostRuntime) -> Result<(), Fail> {
     let large = vec![in rt.alloc(); 255; 16_777_217]?;
-    assert!(rt; read(rt.alloc(), large.as_slice()) == Err((1, 0)));
-    assert!(rt; read(rt.alloc(), b"[[type\xff") == Err((2, 0)));
+    assert!(rt; told(rt.alloc(), large.as_slice()) == Err((1, 0)));
+    assert!(rt; told(rt.alloc(), b"[[type\xff") == Err((2, 0)));
     Ok(())
 }
 
@@ -522,17 +542,29 @@ turn = 30
 
 // Entries keep the order of the text within their key.
 #[test]
-fn entries_have_the_values_of_their_keys(rt: HostRuntime) -> Result<(), Fail> {
-    let Ok(rules) = read_rules(rt.alloc(), EACH_KEY.as_bytes()) else {
-        assert!(rt; false, "refused");
-        return Ok(());
+fn entries_have_the_values_of_their_keys(rt: HostRuntime) {
+    let wrong = match read_rules(rt.alloc(), EACH_KEY.as_bytes()) {
+        Ok(rules) => wrong_of(&rules),
+        Err(_) => "refused",
     };
-    assert!(rt; are_types(&rules.kinds), "types");
-    assert!(rt; are_airports(&rules.airports), "airports");
-    assert!(rt; are_curfews(&rules.curfews), "curfews");
-    assert!(rt; are_counters(&rules.counters), "counters");
-    assert!(rt; are_bands(&rules.bands), "bands");
-    Ok(())
+    assert!(rt; wrong.is_empty(), "{wrong}");
+}
+
+// What is wrong of those rules; nothing is empty.
+fn wrong_of(rules: &RawRules) -> &'static str {
+    if !are_types(&rules.kinds) {
+        "types"
+    } else if !are_airports(&rules.airports) {
+        "airports"
+    } else if !are_curfews(&rules.curfews) {
+        "curfews"
+    } else if !are_counters(&rules.counters) {
+        "counters"
+    } else if !are_bands(&rules.bands) {
+        "bands"
+    } else {
+        ""
+    }
 }
 
 fn are_types(kinds: &[AircraftType]) -> bool {
