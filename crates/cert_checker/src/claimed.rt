@@ -1,46 +1,20 @@
-//! Whether a certificate's plan is the one that its claim has. The routes are made of the fliers, with one pass over
-//! them for each aircraft, and audited like those of any plan.
+//! Whether a certificate's plan is the one that its claim has. The routes are made of the fliers, and audited like those of
+//! any plan.
 
 ghost use Rattle.std.specs.Prelude.{◌≡◌, ◌<◌, ◌^◌, IfOk, Some, length};
 ghost use Rattle.tail_book.specs.Seen.{BookSeen};
-ghost use Rattle.tail_book.specs.inside.Fliers.{plan_by, route_by};
 ghost use Rattle.cert_checker.specs.Certificate.{asked_of, claimed_cost};
 ghost use Rattle.cert_checker.specs.Reasons.{has_claimed_plan, is_plan_of_fliers, reaches};
 ghost use Rattle.tree_tests.specs.inside.Means.{AreMeansOf};
 
+use flier_plans::plan_by;
 use plan_audit::audit_plan;
 use std::alloc::Global;
 use tail_book::laws::{
     every_book_is_sound, legal_plan_decides, own_costs_are_for_book, own_costs_of_legal_plans,
 };
-use tail_book::{Book, Claim, Memory, Plan, Route};
+use tail_book::{Book, Claim, Memory};
 use tree_tests::Means;
-
-// The activities that a list of fliers gives an aircraft.
-fn route_of(alloc: Global, fliers: &[u32], k: u32) -> Result<Route, Memory>
-    requires { length fliers.now < 2 ^ 32 }
-    ensures { IfOk result (λ route. route ≡ route_by fliers.now k) }
-{
-    let mut route = Vec::new(alloc);
-    for (a, flier) in fliers.iter().enumerate() {
-        if *flier == k {
-            route.push(a as u32)?;
-        }
-    }
-    Ok(Route(route))
-}
-
-// The routes that a list of fliers gives so many aircraft.
-fn plan_of(alloc: Global, fliers: &[u32], count: u32) -> Result<Plan, Memory>
-    requires { length fliers.now < 2 ^ 32 }
-    ensures { IfOk result (λ plan. plan ≡ plan_by fliers.now count) }
-{
-    let mut routes = Vec::new(alloc);
-    for k in 0..count {
-        routes.push(route_of(alloc, fliers, k)?)?;
-    }
-    Ok(Plan(routes))
-}
 
 // Whether a list of fliers makes a legal plan of this cost.
 fn is_plan_of_fliers(
@@ -58,7 +32,7 @@ fn is_plan_of_fliers(
     legal_plan_decides();
     own_costs_are_for_book();
     own_costs_of_legal_plans();
-    let plan = plan_of(alloc, fliers, book.tails.len() as u32)?;
+    let plan = plan_by(alloc, fliers, book.tails.len() as u32)?;
     let audited = audit_plan(alloc, book, &means.costs, &plan)?;
     let Some(found) = audited else {
         return Ok(false);

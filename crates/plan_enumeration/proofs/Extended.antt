@@ -20,7 +20,8 @@ use Rattle.tail_book.specs.inside.Route.{counters_from, place_after}
 use Rattle.tail_book.specs.Cost.{activity_cost, connection_cost, cost_from, route_cost, cost_of_routes}
 use Rattle.plan_enumeration.specs.inside.Assignment.{IsLegalSoFar, IsLegalAssignment, assignment_cost}
 use Rattle.plan_enumeration.specs.inside.Enumeration.{GoesOn, next_cost}
-use Rattle.plan_enumeration.proofs.Assigned.{route_flown_from, route_flown_from-push, route_is, routes_from}
+use Rattle.flier_plans.specs.inside.FlownInTurn.{route_flown_from, routes_from, RoutesAreFlownInTurn}
+use Rattle.plan_enumeration.proofs.Assigned.{route_flown_from-push}
 
 -- a route and what follows it
 pub route_flown_from-append : (k i : ℕ) (xs ys : List ℕ) → route_flown_from k i (xs ++ ys) ≡ route_flown_from k i xs ++ route_flown_from k (i + length xs) ys
@@ -64,75 +65,76 @@ module _ (book : BookSeen) (k : ℕ) where
       moved : (a r s t : ℕ) → r ≡ s + t → a + r ≡ a + s + t
       moved a r s t e = omega arith
 
--- the routes of an assignment with one activity more
-pub route_flown-same : (k : ℕ) (who : List ℕ) → route_by (who ++ k ∷ []) k ≡ route_by who k ++ length who ∷ []
-route_flown-same k who =
-    route_is k (who ++ k ∷ []) ∙ route_flown_from-push k 0 k who
-    ∙ rw (eq-eqb k k refl) (ap (λ (n : ℕ). route_flown_from k 0 who ++ n ∷ []) (omega arith))
-    ∙ ap (λ (r : List ℕ). r ++ length who ∷ []) (sym (route_is k who))
+module _ (in_turn : RoutesAreFlownInTurn) where
+  -- the routes of an assignment with one activity more
+  pub route_flown-same : (k : ℕ) (who : List ℕ) → route_by (who ++ k ∷ []) k ≡ route_by who k ++ length who ∷ []
+  route_flown-same k who =
+      in_turn k (who ++ k ∷ []) ∙ route_flown_from-push k 0 k who
+      ∙ rw (eq-eqb k k refl) (ap (λ (n : ℕ). route_flown_from k 0 who ++ n ∷ []) (omega arith))
+      ∙ ap (λ (r : List ℕ). r ++ length who ∷ []) (sym (in_turn k who))
 
-pub route_flown-other : (k j : ℕ) (who : List ℕ) → k ≢ j → route_by (who ++ k ∷ []) j ≡ route_by who j
-route_flown-other k j who ne =
-    route_is j (who ++ k ∷ []) ∙ route_flown_from-push j 0 k who ∙ rw (ne_eqb k j ne) (append-nil (route_flown_from j 0 who)) ∙ sym (route_is j who)
+  pub route_flown-other : (k j : ℕ) (who : List ℕ) → k ≢ j → route_by (who ++ k ∷ []) j ≡ route_by who j
+  route_flown-other k j who ne =
+      in_turn j (who ++ k ∷ []) ∙ route_flown_from-push j 0 k who ∙ rw (ne_eqb k j ne) (append-nil (route_flown_from j 0 who)) ∙ sym (in_turn j who)
 
--- it stays legal where the activity goes on
-pub legal_more : (book : BookSeen) (who : List ℕ) (k : ℕ) → k < aircraft book → length who < activities book → IsLegalSoFar book who → GoesOn book who k → IsLegalSoFar book (who ++ k ∷ [])
-legal_more book who k lt room h goes = record {
-  fliers = All-push (λ (j : ℕ). j < aircraft book) who k h.fliers lt;
-  routes = λ j below. elim (cases_Bool (nat_eq k j)) [
+  -- it stays legal where the activity goes on
+  pub legal_more : (book : BookSeen) (who : List ℕ) (k : ℕ) → k < aircraft book → length who < activities book → IsLegalSoFar book who → GoesOn book who k → IsLegalSoFar book (who ++ k ∷ [])
+  legal_more book who k lt room h goes = record {
+    fliers = All-push (λ (j : ℕ). j < aircraft book) who k h.fliers lt;
+    routes = λ j below. elim (cases_Bool (nat_eq k j)) [
+      | inl same ↦
+          let is : k ≡ j = eqb-true k j same in
+          subst (λ (i : ℕ). IsLegalRoute book i (route_by (who ++ k ∷ []) i)) is
+          (rw (route_flown-same k who) (legal_push book k Carry (carry_of book k) (route_by who k) (length who) (h.routes k lt) room goes.link goes.limits))
+      | inr other ↦
+          let ne : k ≢ j = λ e. both_ways (nat_eq k j) other (eq-eqb k j e) in
+          rw (route_flown-other k j who ne) (h.routes j below)
+    ];
+  }
+
+  -- what completes an assignment legally goes on from it
+  pub completed : (book : BookSeen) (who : List ℕ) (k : ℕ) (rest : List ℕ) → k < aircraft book → IsLegalAssignment book (who ++ k ∷ rest) → GoesOn book who k
+  completed book who k rest lt h =
+      let start : 0 + length who ≡ length who = omega arith in
+      let split : route_by (who ++ k ∷ rest) k ≡ route_by who k ++ length who ∷ route_flown_from k (length who + 1) rest =
+      in_turn k (who ++ k ∷ rest) ∙ route_flown_from-append k 0 who (k ∷ rest) ∙ ap (λ (n : ℕ). route_flown_from k 0 who ++ route_flown_from k n (k ∷ rest)) start ∙ rw (eq-eqb k k refl) refl
+      ∙ ap (λ (r : List ℕ). r ++ length who ∷ route_flown_from k (length who + 1) rest) (sym (in_turn k who)) in
+      let parts = legal_front book k Carry (carry_of book k) (route_by who k) (length who) (route_flown_from k (length who + 1) rest)
+      (subst (λ (route : List ℕ). IsLegalRoute book k route) split (h.legal.routes k lt)) in
+      record { link = parts.2; limits = parts.3 }
+
+  -- what the routes of a range of aircraft cost more
+  cost_outside : (book : BookSeen) (i count : ℕ) (who : List ℕ) (k : ℕ) → k < i → cost_of_routes book i (routes_from i count (who ++ k ∷ [])) ≡ cost_of_routes book i (routes_from i count who)
+  cost_outside book i zero who k out = refl
+  cost_outside book i (suc count) who k out =
+      let here : route_cost book i (route_by (who ++ k ∷ []) i) ≡ route_cost book i (route_by who i) = ap (route_cost book i) (route_flown-other k i who (λ e. absurd (omega (arith, e, out)))) in
+      let rest = cost_outside book (i + 1) count who k (omega arith) in
+      rw (here, rest) refl
+
+  cost_inside : (book : BookSeen) (i count : ℕ) (who : List ℕ) (k : ℕ) → i ≤ k → k < i + count
+      → cost_of_routes book i (routes_from i count (who ++ k ∷ [])) ≡ cost_of_routes book i (routes_from i count who) + next_cost book who k
+  cost_inside book i zero who k low high = absurd (omega arith)
+  cost_inside book i (suc count) who k low high = elim (cases_Bool (nat_eq k i)) [
     | inl same ↦
-        let is : k ≡ j = eqb-true k j same in
-        subst (λ (i : ℕ). IsLegalRoute book i (route_by (who ++ k ∷ []) i)) is
-        (rw (route_flown-same k who) (legal_push book k Carry (carry_of book k) (route_by who k) (length who) (h.routes k lt) room goes.link goes.limits))
+        let is : k ≡ i = eqb-true k i same in
+        let more : route_cost book k (route_by (who ++ k ∷ []) k) ≡ route_cost book k (route_by who k) + next_cost book who k = ap (route_cost book k) (route_flown-same k who) ∙ cost_push book k Carry (route_by who k) (length who) in
+        let here : route_cost book i (route_by (who ++ k ∷ []) i) ≡ route_cost book i (route_by who i) + next_cost book who k =
+        subst (λ (n : ℕ). route_cost book n (route_by (who ++ k ∷ []) n) ≡ route_cost book n (route_by who n) + next_cost book who k) is more in
+        let rest = cost_outside book (i + 1) count who k (omega (arith, is)) in
+        rw (here, rest) (turned (route_cost book i (route_by who i)) (next_cost book who k) _)
     | inr other ↦
-        let ne : k ≢ j = λ e. both_ways (nat_eq k j) other (eq-eqb k j e) in
-        rw (route_flown-other k j who ne) (h.routes j below)
-  ];
-}
+        let ne : k ≢ i = λ e. both_ways (nat_eq k i) other (eq-eqb k i e) in
+        let here : route_cost book i (route_by (who ++ k ∷ []) i) ≡ route_cost book i (route_by who i) = ap (route_cost book i) (route_flown-other k i who ne) in
+        let rest = cost_inside book (i + 1) count who k (omega (arith, low, ne)) (omega (arith, high)) in
+        rw (here, rest) (sym (add_assoc (route_cost book i (route_by who i)) _ _))
+  ]
+    where
+      turned : (r n s : ℕ) → r + n + s ≡ r + s + n
+      turned r n s = omega arith
 
--- what completes an assignment legally goes on from it
-pub completed : (book : BookSeen) (who : List ℕ) (k : ℕ) (rest : List ℕ) → k < aircraft book → IsLegalAssignment book (who ++ k ∷ rest) → GoesOn book who k
-completed book who k rest lt h =
-    let start : 0 + length who ≡ length who = omega arith in
-    let split : route_by (who ++ k ∷ rest) k ≡ route_by who k ++ length who ∷ route_flown_from k (length who + 1) rest =
-    route_is k (who ++ k ∷ rest) ∙ route_flown_from-append k 0 who (k ∷ rest) ∙ ap (λ (n : ℕ). route_flown_from k 0 who ++ route_flown_from k n (k ∷ rest)) start ∙ rw (eq-eqb k k refl) refl
-    ∙ ap (λ (r : List ℕ). r ++ length who ∷ route_flown_from k (length who + 1) rest) (sym (route_is k who)) in
-    let parts = legal_front book k Carry (carry_of book k) (route_by who k) (length who) (route_flown_from k (length who + 1) rest)
-    (subst (λ (route : List ℕ). IsLegalRoute book k route) split (h.legal.routes k lt)) in
-    record { link = parts.2; limits = parts.3 }
-
--- what the routes of a range of aircraft cost more
-cost_outside : (book : BookSeen) (i count : ℕ) (who : List ℕ) (k : ℕ) → k < i → cost_of_routes book i (routes_from i count (who ++ k ∷ [])) ≡ cost_of_routes book i (routes_from i count who)
-cost_outside book i zero who k out = refl
-cost_outside book i (suc count) who k out =
-    let here : route_cost book i (route_by (who ++ k ∷ []) i) ≡ route_cost book i (route_by who i) = ap (route_cost book i) (route_flown-other k i who (λ e. absurd (omega (arith, e, out)))) in
-    let rest = cost_outside book (i + 1) count who k (omega arith) in
-    rw (here, rest) refl
-
-cost_inside : (book : BookSeen) (i count : ℕ) (who : List ℕ) (k : ℕ) → i ≤ k → k < i + count
-    → cost_of_routes book i (routes_from i count (who ++ k ∷ [])) ≡ cost_of_routes book i (routes_from i count who) + next_cost book who k
-cost_inside book i zero who k low high = absurd (omega arith)
-cost_inside book i (suc count) who k low high = elim (cases_Bool (nat_eq k i)) [
-  | inl same ↦
-      let is : k ≡ i = eqb-true k i same in
-      let more : route_cost book k (route_by (who ++ k ∷ []) k) ≡ route_cost book k (route_by who k) + next_cost book who k = ap (route_cost book k) (route_flown-same k who) ∙ cost_push book k Carry (route_by who k) (length who) in
-      let here : route_cost book i (route_by (who ++ k ∷ []) i) ≡ route_cost book i (route_by who i) + next_cost book who k =
-      subst (λ (n : ℕ). route_cost book n (route_by (who ++ k ∷ []) n) ≡ route_cost book n (route_by who n) + next_cost book who k) is more in
-      let rest = cost_outside book (i + 1) count who k (omega (arith, is)) in
-      rw (here, rest) (turned (route_cost book i (route_by who i)) (next_cost book who k) _)
-  | inr other ↦
-      let ne : k ≢ i = λ e. both_ways (nat_eq k i) other (eq-eqb k i e) in
-      let here : route_cost book i (route_by (who ++ k ∷ []) i) ≡ route_cost book i (route_by who i) = ap (route_cost book i) (route_flown-other k i who ne) in
-      let rest = cost_inside book (i + 1) count who k (omega (arith, low, ne)) (omega (arith, high)) in
-      rw (here, rest) (sym (add_assoc (route_cost book i (route_by who i)) _ _))
-]
-  where
-    turned : (r n s : ℕ) → r + n + s ≡ r + s + n
-    turned r n s = omega arith
-
--- what the assignment costs more
-pub cost_more : (book : BookSeen) (who : List ℕ) (k : ℕ) → k < aircraft book → assignment_cost book (who ++ k ∷ []) ≡ assignment_cost book who + next_cost book who k
-cost_more book who k lt = cost_inside book 0 (aircraft book) who k (omega arith) (omega (arith, lt))
+  -- what the assignment costs more
+  pub cost_more : (book : BookSeen) (who : List ℕ) (k : ℕ) → k < aircraft book → assignment_cost book (who ++ k ∷ []) ≡ assignment_cost book who + next_cost book who k
+  cost_more book who k lt = cost_inside book 0 (aircraft book) who k (omega arith) (omega (arith, lt))
 
 -- an assignment of nothing costs nothing
 costs_nothing_from : (book : BookSeen) (i count : ℕ) → cost_of_routes book i (routes_from i count []) ≡ 0

@@ -1,7 +1,7 @@
 -- Every legal plan is the plan of an assignment, that of its fliers, and the plan of a legal assignment is legal: both
 -- by the laws of fliers. In a legal plan each activity has a flier of the book, and the plan of these fliers is the
 -- plan itself, so their routes are its own and thus legal.
-use Rattle.std.proofs.Common.{◌≡◌, ◌∙◌, ℕ, ◌+◌, ◌<◌, arith, List, [], length, sym, ap, subst}
+use Rattle.std.proofs.Common.{◌≡◌, ◌∙◌, ℕ, ◌<◌, arith, List, [], length, sym, ap, subst}
 use Rattle.std.proofs.lemmas.List.FromFn.{length-map-range_with_len, get_or-map-range_with_len}
 use Rattle.tail_book.specs.Seen.{BookSeen}
 use Rattle.tail_book.specs.Lookup.{activities, aircraft}

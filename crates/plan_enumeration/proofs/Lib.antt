@@ -4,4 +4,3 @@ pub mod Extended
 pub mod Rows
 pub mod Trials
 pub mod Truth
-pub mod Built

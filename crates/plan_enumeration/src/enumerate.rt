@@ -12,7 +12,7 @@ ghost use Rattle.std.specs.Prelude.{◌≡◌, ◌<◌, ◌≤◌, ◌+◌, ◌*
 ghost use Rattle.tail_book.specs.declared.limits.TheConstants.{LEG_COST_LIMIT};
 ghost use Rattle.tail_book.specs.Lookup.{activities, aircraft, carry_of};
 ghost use Rattle.tail_book.specs.Counters.{step, WithinLimits};
-ghost use Rattle.tail_book.specs.inside.Fliers.{plan_by, route_by};
+ghost use Rattle.tail_book.specs.inside.Fliers.{plan_by};
 ghost use Rattle.plan_enumeration.specs.inside.Assignment.{IsLegalAssignment, assignment_cost};
 ghost use Rattle.tail_book.specs.Truth.{IsTrueOutcome};
 ghost use Rattle.plan_enumeration.specs.inside.Enumeration.{Advances, AgreesBelow, HasRow, GoesOn, HasTried, IsBest, IsCounterValue, IsNoBetter, IsTrial, KeepsBest, IsPlaceBefore, IsRowBefore, next_cost, row_of, values_at, width_of, with_row};
@@ -23,9 +23,11 @@ ghost use Rattle.tail_book.specs.inside.Place.{IsPlaceOf};
 
 use crate::book_tables::{BookTables, tables_of};
 use crate::cost::going_cost;
+use flier_plans::laws::routes_are_flown_in_turn;
+use flier_plans::plan_by;
 use maint_counters::{start, step};
 use std::alloc::Global;
-use tail_book::{Book, Memory, Outcome, Place, Plan, Route, laws};
+use tail_book::{Book, Memory, Outcome, Place, laws};
 use turn_rules::link_by;
 
 /// The best assignment so far: for each activity the aircraft that flies it, and its cost in cost units. Neither means
@@ -162,6 +164,7 @@ fn can_go_on(book: &Book, tables: &BookTables, trial: &mut Trial, k: u32, a: u32
     ensures rows { length trial.new.values.items ≡ length trial.old.values.items }
 {
     laws::every_book_is_sound(book);
+    routes_are_flown_in_turn();
     let from = place_of(trial, k);
     link_by(book, &tables.permissions, k, from, a)
         && step_values(book, &mut trial.values, k, from, a)
@@ -178,6 +181,7 @@ fn go_on(book: &Book, tables: &BookTables, trial: &mut Trial, k: u32, a: u32) ->
     ensures stays { IfNone result (IsTrial book.now a trial.new) }
     ensures agrees { IfNone result (AgreesBelow book.now a trial.old trial.new) }
 {
+    routes_are_flown_in_turn();
     if !can_go_on(book, tables, trial, k, a) {
         return None;
     }
@@ -213,6 +217,7 @@ fn assign_to(
     ensures agrees { AgreesBelow book.now a trial.old trial.new }
 {
     laws::every_book_is_sound(book);
+    routes_are_flown_in_turn();
     let Some(advance) = go_on(book, tables, trial, k, a) else {
         return;
     };
@@ -242,6 +247,7 @@ fn assign_from(
     ensures trial { IsTrial book.now a trial.new }
     ensures agrees { AgreesBelow book.now a trial.old trial.new }
 {
+    routes_are_flown_in_turn();
     if best.found && best.cost <= cost {
         return;
     }
@@ -274,30 +280,6 @@ fn best_assignment(alloc: Global, book: &Book) -> Result<Best, Memory>
     Ok(best)
 }
 
-fn route_of(alloc: Global, fliers: &[u32], k: u32) -> Result<Route, Memory>
-    requires { length fliers.now < 2 ^ 32 }
-    ensures { IfOk result (λ route. route ≡ route_by fliers.now k) }
-{
-    let mut route = Vec::new(alloc);
-    for (a, flier) in fliers.iter().enumerate() {
-        if *flier == k {
-            route.push(a as u32)?;
-        }
-    }
-    Ok(Route(route))
-}
-
-fn plan_of(alloc: Global, fliers: &[u32], count: u32) -> Result<Plan, Memory>
-    requires { length fliers.now < 2 ^ 32 }
-    ensures { IfOk result (λ plan. plan ≡ plan_by fliers.now count) }
-{
-    let mut routes = Vec::new(alloc);
-    for k in 0..count {
-        routes.push(route_of(alloc, fliers, k)?)?;
-    }
-    Ok(Plan(routes))
-}
-
 fn outcome_of(alloc: Global, book: &Book, best: &Best) -> Result<Outcome, Memory>
     requires best { IsBest book.now best.now }
     requires tried { HasTried book.now best.now [] }
@@ -311,7 +293,7 @@ fn outcome_of(alloc: Global, book: &Book, best: &Best) -> Result<Outcome, Memory
     if !best.found {
         return Ok(Outcome::Infeasible);
     }
-    let plan = plan_of(alloc, &best.fliers, book.tails.len() as u32)?;
+    let plan = plan_by(alloc, &best.fliers, book.tails.len() as u32)?;
     Ok(Outcome::Optimal(plan, best.cost))
 }
 

@@ -1,7 +1,7 @@
 use Rattle.std.proofs.Common.{◌≡◌, ◌++◌, drop}
 use Rattle.tail_book.specs.inside.Fliers.{route_by}
-use Rattle.cert_checker.proofs.Planned.{route_flown_from}
-use Rattle.cert_checker.proofs.claimed.route_of.Given as goal
+use Rattle.flier_plans.specs.inside.FlownInTurn.{route_flown_from}
+use Rattle.flier_plans.proofs.making.route_by.Given as goal
 
 -- what was found so far, and what is left
 abbrev pub invariant-loop-a : goal.invariant-loop-a

@@ -1,9 +1,8 @@
 use Rattle.std.proofs.Common.{◌≡◌, [], rules}
-use Rattle.cert_checker.proofs.Planned.{route_is}
-use Rattle.cert_checker.proofs.claimed.route_of.Goals as goal
+use Rattle.flier_plans.proofs.making.route_by.Goals as goal
 
 -- the route as it is found, one flier after the other
 pub loop-a-init : goal.loop-a-init
 loop-a-init c =
     let none : c.new-route.result.items ≡ [] = search rules in
-    rw none (route_is c.args.k c.args.fliers.now)
+    rw none (c.routes_are_flown_in_turn.ensures c.args.k c.args.fliers.now)

@@ -1,7 +1,7 @@
 use Rattle.std.proofs.Common.{◌≡◌, ◌++◌, ◌-◌}
 use Rattle.tail_book.specs.inside.Fliers.{plan_by}
-use Rattle.plan_enumeration.proofs.Assigned.{routes_from}
-use Rattle.plan_enumeration.proofs.enumerate.plan_of.Given as goal
+use Rattle.flier_plans.specs.inside.FlownInTurn.{routes_from}
+use Rattle.flier_plans.proofs.making.plan_by.Given as goal
 
 -- the routes so far, and those that are left
 abbrev pub invariant-loop-k : goal.invariant-loop-k
