@@ -24,23 +24,14 @@ use restricted_master::Pool;
 use route_search::{RouteSearch, Suggestions};
 use std::alloc::Global;
 use tail_book::laws::every_book_is_sound;
-use tail_book::{Book, COST_UNIT, CostTable, Duals, Memory, Route};
-
-// What a route costs less the duals of its activities, in thousandths of a cost unit.
-fn pooled_weight(cost: u64, route: &[u32], duals: &[i64]) -> i64 {
-    let mut weight = (cost.min(1 << 52) * COST_UNIT) as i64;
-    for a in route {
-        weight = weight.saturating_sub(duals.get(*a as usize).copied().unwrap_or(0));
-    }
-    weight
-}
+use tail_book::{Book, CostTable, Duals, Memory, Route};
 
 /// For each aircraft the least weight of its routes in a pool, in thousandths of a cost unit: no least weight is above
 /// it, if those routes fit.
 pub fn cuts_of(alloc: Global, book: &Book, pool: &Pool, duals: &Duals) -> Result<Vec<i64>, Memory> {
     let mut cuts = vec![in alloc; i64::MAX; book.tails.len()]?;
     for i in 0..pool.count() {
-        let weight = pooled_weight(pool.cost(i), pool.route(i), &duals.values);
+        let weight = pool.weight(i, &duals.values);
         if let Some(cut) = cuts.get_mut(pool.aircraft(i) as usize) {
             *cut = weight.min(*cut);
         }

@@ -94,15 +94,6 @@ pub struct Mixture {
     rests: Vec<u32>,
 }
 
-// What a route costs less the duals of its activities, in thousandths of a cost unit.
-fn weigh(cost: u64, route: &[u32], duals: &[i64]) -> i64 {
-    let mut weight = (cost.min(1 << 52) * 1000) as i64;
-    for a in route {
-        weight = weight.saturating_sub(duals.get(*a as usize).copied().unwrap_or(0));
-    }
-    weight
-}
-
 impl Mixture {
     /// Mixtures without a route.
     pub fn new(alloc: Global) -> Mixture {
@@ -175,7 +166,7 @@ impl Mixture {
         self.least.clear();
         self.least.resize(aircraft, i64::MAX)?;
         for i in 0..pool.count() {
-            let weight = weigh(pool.cost(i), pool.route(i), duals);
+            let weight = pool.weight(i, duals);
             if let Some(least) = self.least.get_mut(pool.aircraft(i) as usize) {
                 *least = weight.min(*least);
             }

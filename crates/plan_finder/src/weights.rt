@@ -6,16 +6,7 @@ ghost use Rattle.std.specs.Prelude.{◌≡◌, IfOk};
 
 use restricted_master::Pool;
 use std::alloc::Global;
-use tail_book::{COST_UNIT, Duals, Memory};
-
-// What a route costs less the duals of its activities, in thousandths of a cost unit.
-fn weigh(cost: u64, route: &[u32], duals: &[i64]) -> i64 {
-    let mut weight = (cost.min(1 << 52) * COST_UNIT) as i64;
-    for a in route {
-        weight = weight.saturating_sub(duals.get(*a as usize).copied().unwrap_or(0));
-    }
-    weight
-}
+use tail_book::{Duals, Memory};
 
 /// What the routes of a pool weigh under duals, in thousandths of a cost unit, and the least weight of each aircraft: the
 /// greatest number where it has no route.
@@ -36,7 +27,7 @@ impl Weights {
         let mut routes = Vec::with_capacity(alloc, pool.count())?;
         let mut least = vec![in alloc; i64::MAX; aircraft]?;
         for i in 0..pool.count() {
-            let weight = weigh(pool.cost(i), pool.route(i), duals);
+            let weight = pool.weight(i, duals);
             if let Some(low) = least.get_mut(pool.aircraft(i) as usize) {
                 *low = weight.min(*low);
             }

@@ -28,20 +28,11 @@ pub struct Candidates {
     pub room: i64,
 }
 
-// What a route costs less the duals of its activities, in thousandths of a cost unit.
-fn weigh(cost: u64, route: &[u32], duals: &[i64]) -> i64 {
-    let mut weight = (cost.min(1 << 52) * COST_UNIT) as i64;
-    for a in route {
-        weight = weight.saturating_sub(duals.get(*a as usize).copied().unwrap_or(0));
-    }
-    weight
-}
-
 // The weight of each route.
 fn weights_of(alloc: Global, pool: &Pool, duals: &[i64]) -> Result<Vec<i64>, Memory> {
     let mut weights = Vec::with_capacity(alloc, pool.count())?;
     for i in 0..pool.count() {
-        weights.push(weigh(pool.cost(i), pool.route(i), duals))?;
+        weights.push(pool.weight(i, duals))?;
     }
     Ok(weights)
 }

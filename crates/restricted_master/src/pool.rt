@@ -13,7 +13,7 @@ use crate::index::LISTS;
 use crate::route_lists::{Numbers, empty_lists};
 use std::alloc::Global;
 use std::marker::Model;
-use tail_book::Memory;
+use tail_book::{COST_UNIT, Memory};
 
 /// Routes, each of one aircraft and with its cost, in the order in which they came. No two are the same route of the
 /// same aircraft. Contracts see the record of its lists.
@@ -90,5 +90,17 @@ impl Pool {
         ensures { result ≡ cost_at self.now i }
     {
         self.entries[i].cost
+    }
+
+    /// What a route costs less the duals of its activities, in thousandths of a cost unit. A number that is too large stays
+    /// at the end of its range: this is for suggestions, and nothing that is told of a plan rests on it.
+    pub fn weight(&self, i: usize, duals: &[i64]) -> i64
+        requires { i < length self.now.entries }
+    {
+        let mut weight = (self.cost(i).min(1 << 52) * COST_UNIT) as i64;
+        for a in self.route(i) {
+            weight = weight.saturating_sub(duals.get(*a as usize).copied().unwrap_or(0));
+        }
+        weight
     }
 }
