@@ -8,6 +8,8 @@ ghost use Rattle.tail_book.specs.inside.Sums.{total};
 ghost use Rattle.branch_marks.specs.Bound.{rounded_up};
 ghost use Rattle.cert_checker.specs.Judging.{lower};
 
+use tail_book::COST_UNIT;
+
 /// A sum with one value more.
 pub fn added(sum: &i128, value: &i64) -> i128
     requires { IsWithin (pos 0 -ℤ pos (2 ^ 80)) (pos (2 ^ 80)) sum.now }
@@ -38,7 +40,7 @@ fn rounded_up(thousandths: i128) -> u128
     if thousandths < 0 {
         return 0;
     }
-    (thousandths as u128 + 999) / 1000
+    (thousandths as u128 + 999) / u128::from(COST_UNIT)
 }
 
 /// What duals and the sum of all values of covers bound, in cost units.

@@ -13,7 +13,7 @@ use plan_report::{ReportFail, read_plan, write_report};
 use std::alloc::Global;
 use tail_book::{Book, Outcome, RawPlan};
 use tail_outside::{Fault, FileSink, Files, ReadFail, read_all};
-use tail_text::{Refusal, Stopped};
+use tail_text::{Refusal, SIZE_LIMIT, Stopped};
 
 /// Why a file gave no plan.
 #[derive(Clone, Copy, PartialEq, Eq, Debug)]
@@ -27,7 +27,7 @@ pub enum NoPlan {
 }
 
 // The most bytes that are asked for: one more than a plan's file may have, so that one that is cut here is too big.
-const READ_LIMIT: usize = 16_777_217;
+const READ_LIMIT: usize = SIZE_LIMIT + 1;
 
 /// The plan in a named file.
 pub fn plan_of_file<F: Files>(alloc: Global, files: &mut F, name: &str) -> Result<RawPlan, NoPlan>
