@@ -26,7 +26,7 @@ use turn_rules::connection_cost;
 use turn_rules::laws::links_leave_time;
 
 /// One activity's costs, and a dual, are small in thousandths of a cost unit.
-fn costs_are_small(table: &CostTable)
+pub fn costs_are_small(table: &CostTable)
     requires { 1 ≤ table.now.n }
     ensures costs { 1000 * (table.now.fly_max + table.now.band_max) ≤ 2 ^ 61 }
     ensures duals { box_end table.now ≤ 2 ^ 61 }

@@ -1,4 +1,3 @@
-mod Steps
 mod Small
 mod Completions
 mod Successors
