@@ -28,7 +28,7 @@ module _ (book : BookSeen) (marks : List Fact) (k : ℕ) where
       omega (arith, h, e)
 
   -- a floor stays the same when further ones are added
-  below_same : (n b x : ℕ) → x < b → b ≤ n → get_or (floors_below book marks k n) x None ≡ get_or (floors_below book marks k b) x None
+  pub below_same : (n b x : ℕ) → x < b → b ≤ n → get_or (floors_below book marks k n) x None ≡ get_or (floors_below book marks k b) x None
   below_same zero b x lt le = absurd (omega (arith, lt, le))
   below_same (suc n) b x lt le = elim (cases_order b (suc n)) [
     | inl e ↦ (rw e refl)
@@ -40,7 +40,7 @@ module _ (book : BookSeen) (marks : List Fact) (k : ℕ) where
     ]
   ]
 
-  below_at : (n b : ℕ) → b < n → get_or (floors_below book marks k n) b None ≡ floor_by book marks k b (floors_below book marks k b)
+  pub below_at : (n b : ℕ) → b < n → get_or (floors_below book marks k n) b None ≡ floor_by book marks k b (floors_below book marks k b)
   below_at n b lt =
       below_same n (suc b) b (omega arith) (omega (arith, lt))
       ∙ floor_last (floors_below book marks k b) (floor_by book marks k b (floors_below book marks k b)) b (below_length b)

@@ -1,8 +1,10 @@
 -- The lesser of two floors takes at each counter the smaller value. So it is at or below both, and has as many values,
 -- by induction over them; that needs both to have as many, which all floors of a book have. Where only one is a floor
--- it is the lesser one itself.
+-- it is the lesser one itself. What is smaller does not depend on an order, so the lesser of several floors may be taken
+-- in any.
 use Rattle.std.specs.Prelude.{⊤}
-use Rattle.std.proofs.Common.{◌≡◌, ℕ, zero, suc, ℤ, ◌<◌, arith, List, [], ◌∷◌, ◌++◌, length, refl, get_or, subst, Option, Some, None}
+use Rattle.std.specs.Int.{int_min}
+use Rattle.std.proofs.Common.{◌≡◌, ◌∙◌, ℕ, zero, suc, ℤ, ◌<◌, arith, List, [], ◌∷◌, ◌++◌, length, refl, ap, get_or, subst, Option, Some, None}
 use Rattle.std.proofs.lemmas.Int.{ints, clamps}
 use Rattle.tail_book.specs.inside.Order.{EachAtMost, EachAtMostItself}
 use Rattle.branch_marks.specs.Floors.{lesser, lesser_floor}
@@ -22,6 +24,34 @@ lesser_length : (values others : List ℤ) → length values ≡ length others �
 lesser_length [] others e = refl
 lesser_length (v ∷ values) [] e = absurd (omega (arith, e))
 lesser_length (v ∷ values) (w ∷ others) e = let h = lesser_length values others (omega (arith, e)) in omega (arith, h)
+
+lesser_grouped : (us vs ws : List ℤ) → lesser (lesser us vs) ws ≡ lesser us (lesser vs ws)
+lesser_grouped [] vs ws = refl
+lesser_grouped (u ∷ us) [] ws = refl
+lesser_grouped (u ∷ us) (v ∷ vs) [] = refl
+lesser_grouped (u ∷ us) (v ∷ vs) (w ∷ ws) =
+    let here : int_min (int_min u v) w ≡ int_min u (int_min v w) = omega (arith, ints, clamps) in
+    ap (λ (z : ℤ). z ∷ lesser (lesser us vs) ws) here ∙ ap (λ (rest : List ℤ). int_min u (int_min v w) ∷ rest) (lesser_grouped us vs ws)
+
+lesser_turned : (us vs : List ℤ) → lesser us vs ≡ lesser vs us
+lesser_turned [] [] = refl
+lesser_turned [] (v ∷ vs) = refl
+lesser_turned (u ∷ us) [] = refl
+lesser_turned (u ∷ us) (v ∷ vs) =
+    let here : int_min u v ≡ int_min v u = omega (arith, ints, clamps) in
+    ap (λ (z : ℤ). z ∷ lesser us vs) here ∙ ap (λ (rest : List ℤ). int_min v u ∷ rest) (lesser_turned us vs)
+
+pub grouped : (one two three : Option (List ℤ)) → lesser_floor (lesser_floor one two) three ≡ lesser_floor one (lesser_floor two three)
+grouped None two three = refl
+grouped (Some us) None three = refl
+grouped (Some us) (Some vs) None = refl
+grouped (Some us) (Some vs) (Some ws) = ap (λ (values : List ℤ). Some values) (lesser_grouped us vs ws)
+
+pub turned : (one other : Option (List ℤ)) → lesser_floor one other ≡ lesser_floor other one
+turned None None = refl
+turned None (Some vs) = refl
+turned (Some us) None = refl
+turned (Some us) (Some vs) = ap (λ (values : List ℤ). Some values) (lesser_turned us vs)
 
 -- the floor, if there is one, has n values
 abbrev pub IsFull : ℕ → Option (List ℤ) → Type 0

@@ -16,6 +16,7 @@ pub mod LesserFloors
 pub mod Floors
 pub mod AlongFloors
 pub mod Following
+pub mod OnlyCarriers
 pub mod InTurn
 pub mod Weights
 pub mod Duality

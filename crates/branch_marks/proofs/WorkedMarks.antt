@@ -8,7 +8,6 @@ use Rattle.tail_book.specs.Link.{is_connected}
 use Rattle.tail_book.specs.Allowed.{is_permitted}
 use Rattle.branch_marks.specs.declared.fact.Fact.{Fact}
 use Rattle.branch_marks.specs.declared.fact.Fact.TheVariants.{Bar, Must, Cut, Tie}
-use Rattle.branch_marks.specs.declared.fact.Pair.{Pair}
 use Rattle.branch_marks.specs.declared.fact.Pair.TheVariants.{Fly, Link}
 use Rattle.branch_marks.specs.Branches.{first_branch, second_branch}
 use Rattle.branch_marks.specs.Facts.{flies, joins, Holds}

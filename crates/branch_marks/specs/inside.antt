@@ -2,6 +2,7 @@
 pub mod MarkTests
 pub mod Fitting
 pub mod Below
+pub mod FloorLaws
 pub mod FactTests
 pub mod FollowingTests
 pub mod FamilyTests

@@ -24,8 +24,9 @@ pub use deciding::{
 };
 pub use fitting::{fits_is_usable_to_its_end, marked_routes_fit, usable_with_one_more};
 pub use following::{
-    floors_are_low, floors_count, follow_in_turn_with_one_more, followed_marks_hold,
-    following_facts_are_new, following_facts_are_of_book, following_facts_hold,
+    floors_are_low, floors_come_in_turn, floors_count, follow_in_turn_with_one_more,
+    followed_marks_hold, following_facts_are_new, following_facts_are_of_book,
+    following_facts_hold, lesser_in_any_order,
 };
 pub use settling::{
     least_in_is_least, routes_of_least_weights_cost_least, routes_of_weights_are_plan,

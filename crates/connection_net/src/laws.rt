@@ -3,7 +3,7 @@
 //! link.
 
 ghost use Rattle.tail_book.specs.Seen.{BookSeen};
-ghost use Rattle.connection_net.specs.inside.Laws.{HasRowForEach, HeadsAreLinks, PredecessorsAreLinks, RowsRise, SuccessorsAreLinks, SuccessorsFacePredecessors, SuccessorsFollow};
+ghost use Rattle.connection_net.specs.inside.Laws.{HasRowForEach, HeadsAreLinks, PredecessorsAreLinks, RowsAreTheirPlaces, RowsRise, SuccessorsAreLinks, SuccessorsFacePredecessors, SuccessorsFollow};
 
 use tail_book::laws::{link_decides, links_rise};
 
@@ -51,4 +51,9 @@ pub fn successors_follow()
 /// There is a row for each activity and for each aircraft of the book.
 pub fn rows_for_each()
     ensures { (book : BookSeen) → HasRowForEach book }
+{}
+
+/// A row has what stands at its places and nothing else.
+pub fn rows_are_their_places()
+    ensures { RowsAreTheirPlaces }
 {}

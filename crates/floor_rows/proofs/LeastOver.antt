@@ -1,15 +1,14 @@
 -- The table of floors is built from the left, each entry from those before it. So an entry is the least of what the entries
 -- of smaller numbers bring, and any other table with that property has the same first entry, the same second one, and so on.
-use Rattle.std.proofs.Common.{◌≡◌, ◌∙◌, ℕ, zero, suc, ℤ, ◌+◌, ◌<◌, ◌≤◌, inl, inr, arith, List, [], ◌∷◌, ◌++◌, length, sym, refl, ap, get_or, Option, None}
-use Rattle.std.proofs.lemmas.Bool.{cases_order}
-use Rattle.std.proofs.lemmas.List.{length-append, get_or_append_left}
+use Rattle.std.proofs.Common.{◌≡◌, ◌∙◌, ℕ, zero, suc, ℤ, ◌+◌, ◌<◌, ◌≤◌, arith, List, [], ◌∷◌, length, sym, refl, ap, get_or, Option, None}
 use Rattle.std.specs.List.{range_with_len}
 use Rattle.tail_book.specs.Seen.{BookSeen}
 use Rattle.tail_book.specs.declared.place.Place.TheVariants.{After}
 use Rattle.tail_book.specs.Lookup.{activities}
 use Rattle.branch_marks.specs.declared.fact.Fact.{Fact}
-use Rattle.branch_marks.specs.Floors.{lesser_floor, stepped_floor, least_from, floor_by, floors_below, floors}
-use Rattle.floor_rows.specs.inside.LeastOver.{floor_of, least_over, brought_first, brought, least_at}
+use Rattle.branch_marks.specs.Floors.{lesser_floor, stepped_floor, least_from, floors_below, floors}
+use Rattle.branch_marks.specs.inside.FloorLaws.{FloorsComeInTurn}
+use Rattle.floor_rows.specs.inside.LeastOver.{floor_of, least_over, brought_first, brought, least_at, FloorsAreLeast}
 
 -- the least depends on what is brought alone
 pub least_same : (h g : ℕ → Option (List ℤ)) (x n : ℕ) → ((y : ℕ) → x ≤ y → y < x + n → h y ≡ g y)
@@ -27,38 +26,7 @@ least_none h x (suc n) none =
     ap (λ (one : Option (List ℤ)). lesser_floor one (least_over h (range_with_len (x + 1) n))) (none x (omega arith) (omega arith))
     ∙ least_none h (x + 1) n (λ y le lt. none y (omega (arith, le)) (omega (arith, lt)))
 
-floor_last : (listed : List (Option (List ℤ))) (floor : Option (List ℤ)) (n : ℕ) → length listed ≡ n → get_or (listed ++ floor ∷ []) n None ≡ floor
-floor_last [] floor zero e = refl
-floor_last [] floor (suc n) e = absurd (omega (arith, e))
-floor_last (other ∷ listed) floor zero e = absurd (omega (arith, e))
-floor_last (other ∷ listed) floor (suc n) e = floor_last listed floor n (omega (arith, e))
-
-module _ (book : BookSeen) (marks : List Fact) (k : ℕ) where
-  below_length : (n : ℕ) → length (floors_below book marks k n) ≡ n
-  below_length zero = refl
-  below_length (suc n) =
-      let h = below_length n in
-      let e = length-append (floors_below book marks k n) (floor_by book marks k n (floors_below book marks k n) ∷ []) in
-      omega (arith, h, e)
-
-  -- an entry stays the same when further ones are added
-  below_same : (n b x : ℕ) → x < b → b ≤ n → get_or (floors_below book marks k n) x None ≡ get_or (floors_below book marks k b) x None
-  below_same zero b x lt le = absurd (omega (arith, lt, le))
-  below_same (suc n) b x lt le = elim (cases_order b (suc n)) [
-    | inl e ↦ (rw e refl)
-    | inr o ↦ elim o [
-      | inl less ↦ (let h = below_length n in
-          get_or_append_left (floors_below book marks k n) (floor_by book marks k n (floors_below book marks k n) ∷ []) None x (omega (arith, h, lt, less))
-          ∙ below_same n b x lt (omega (arith, less)))
-      | inr more ↦ absurd (omega (arith, more, le))
-    ]
-  ]
-
-  below_at : (n b : ℕ) → b < n → get_or (floors_below book marks k n) b None ≡ floor_by book marks k b (floors_below book marks k b)
-  below_at n b lt =
-      below_same n (suc b) b (omega arith) (omega (arith, lt))
-      ∙ floor_last (floors_below book marks k b) (floor_by book marks k b (floors_below book marks k b)) b (below_length b)
-
+module _ (turn : (book : BookSeen) (marks : List Fact) (k : ℕ) → FloorsComeInTurn book marks k) (book : BookSeen) (marks : List Fact) (k : ℕ) where
   -- the least over a list of floors, by their numbers
   least_by_number : (h : ℕ → Option (List ℤ)) (b x : ℕ) (listed : List (Option (List ℤ)))
       → ((i y : ℕ) → y ≡ x + i → i < length listed → stepped_floor book marks k (After y) b (get_or listed i None) ≡ h y)
@@ -71,26 +39,27 @@ module _ (book : BookSeen) (marks : List Fact) (k : ℕ) where
 
   pub floors_least : (b : ℕ) → b < activities book → floor_of book marks k b ≡ least_at book marks k (floor_of book marks k) b
   floors_least b lt =
-      below_at (activities book) b lt
+      (turn book marks k).made (activities book) b lt
       ∙ ap (λ (rest : Option (List ℤ)). lesser_floor (brought_first book marks k b) rest)
       (least_by_number (brought book marks k b (floor_of book marks k)) b 0 (floors_below book marks k b) each
-      ∙ ap (λ (n : ℕ). least_over (brought book marks k b (floor_of book marks k)) (range_with_len 0 n)) (below_length b))
+      ∙ ap (λ (n : ℕ). least_over (brought book marks k b (floor_of book marks k)) (range_with_len 0 n)) ((turn book marks k).count b))
     where
       each : (i y : ℕ) → y ≡ 0 + i → i < length (floors_below book marks k b)
           → stepped_floor book marks k (After y) b (get_or (floors_below book marks k b) i None) ≡ brought book marks k b (floor_of book marks k) y
       each i y e within =
-          let h = below_length b in
+          let h = (turn book marks k).count b in
           let same : i ≡ y = omega (arith, e) in
           ap (λ (f : Option (List ℤ)). stepped_floor book marks k (After y) b f)
-          (sym (below_same (activities book) b i (omega (arith, h, within)) (omega (arith, lt)))
+          (sym ((turn book marks k).kept (activities book) b i (omega (arith, h, within)) (omega (arith, lt)))
           ∙ ap (λ (z : ℕ). get_or (floors book marks k) z None) same)
 
-  pub least_floors : (floor : ℕ → Option (List ℤ)) → ((b : ℕ) → b < activities book → floor b ≡ least_at book marks k floor b)
-      → (n b : ℕ) → b < n → b < activities book → floor b ≡ floor_of book marks k b
-  least_floors floor is zero b lt within = absurd (omega (arith, lt))
-  least_floors floor is (suc n) b lt within =
-      is b within
-      ∙ ap (λ (rest : Option (List ℤ)). lesser_floor (brought_first book marks k b) rest)
-      (least_same (brought book marks k b floor) (brought book marks k b (floor_of book marks k)) 0 b
-      (λ y le less. ap (λ (f : Option (List ℤ)). stepped_floor book marks k (After y) b f) (least_floors floor is n y (omega (arith, lt, less)) (omega (arith, within, less)))))
-      ∙ sym (floors_least b within)
+-- and nothing else is the least of what is brought: by induction over the numbers before
+pub least_floors : FloorsAreLeast → (book : BookSeen) (marks : List Fact) (k : ℕ) (floor : ℕ → Option (List ℤ)) → ((b : ℕ) → b < activities book → floor b ≡ least_at book marks k floor b)
+    → (n b : ℕ) → b < n → b < activities book → floor b ≡ floor_of book marks k b
+least_floors least book marks k floor is zero b lt within = absurd (omega (arith, lt))
+least_floors least book marks k floor is (suc n) b lt within =
+    is b within
+    ∙ ap (λ (rest : Option (List ℤ)). lesser_floor (brought_first book marks k b) rest)
+    (least_same (brought book marks k b floor) (brought book marks k b (floor_of book marks k)) 0 b
+    (λ y le less. ap (λ (f : Option (List ℤ)). stepped_floor book marks k (After y) b f) (least_floors least book marks k floor is n y (omega (arith, lt, less)) (omega (arith, within, less)))))
+    ∙ sym (least book marks k b within)

@@ -3,3 +3,5 @@ pub mod LeastOver
 pub mod Brought
 pub mod Neighbours
 pub mod ComeOn
+pub mod AskedLinks
+pub mod DeadByFloors

@@ -1,7 +1,7 @@
 -- A usable link is a link, so it is one of the network. The predecessors of b rise, and what is not among them brings nothing:
 -- so the least over them is the least over all numbers below b.
 use Rattle.std.specs.Prelude.{⊤, All, ◌||◌, nat_eq}
-use Rattle.std.proofs.Common.{◌≡◌, ◌∙◌, ℕ, zero, suc, ℤ, ◌+◌, ◌<◌, ◌≤◌, inl, inr, Bool, true, false, arith, List, [], ◌∷◌, length, get_or, refl, sym, ap, subst, Option, None}
+use Rattle.std.proofs.Common.{◌≡◌, ◌∙◌, ℕ, zero, suc, ℤ, ◌+◌, ◌<◌, ◌≤◌, inl, inr, Bool, true, false, arith, List, [], ◌∷◌, get_or, refl, sym, ap, subst, Option, None}
 use Rattle.std.specs.List.{list_any, range_with_len}
 use Rattle.std.proofs.lemmas.Bool.{cases_order, both_ways, eq-eqb, eqb-true, ne_eqb, and_parts, and_from, or_left, or_right, or_cases, false_from_ne_true}
 use Rattle.tail_book.specs.Seen.{BookSeen}
@@ -13,7 +13,7 @@ use Rattle.tail_book.specs.inside.Rising.{IsRisingFrom, LinksRise}
 use Rattle.tail_book.specs.Counters.{step}
 use Rattle.tail_book.specs.inside.Sound.{IsBook}
 use Rattle.tail_book.specs.inside.Tests.{within_limits, LimitsDecide}
-use Rattle.connection_net.specs.inside.Laws.{PredecessorsAreLinks, SuccessorsAreLinks, RowsRise}
+use Rattle.connection_net.specs.inside.Laws.{PredecessorsAreLinks, SuccessorsAreLinks, RowsAreTheirPlaces, RowsRise}
 use Rattle.connection_net.specs.Net.{net_of, predecessors_in, successors_in}
 use Rattle.branch_marks.specs.declared.fact.Fact.{Fact}
 use Rattle.branch_marks.specs.inside.MarkTests.{is_usable, UsableDecides}
@@ -74,27 +74,14 @@ module _ (h : ℕ → Option (List ℤ)) where
     ]
   ]
 
--- what stands in a list is contained
-contained : (xs : List ℕ) (i d : ℕ) → i < length xs → contains xs (get_or xs i d) ≡ true
-contained [] i d lt = absurd (omega (arith, lt))
-contained (x ∷ xs) zero d lt = or_left (nat_eq x x) (contains xs x) (eq-eqb x x refl)
-contained (x ∷ xs) (suc i) d lt = or_right (nat_eq (get_or xs i d) x) (contains xs (get_or xs i d)) (contained xs i d (omega (arith, lt)))
-
-rising_below : (n : ℕ) (p : Place) (xs : List ℕ) (y : ℕ) → IsRisingFrom n p xs → contains xs y ≡ true → y < n
-rising_below n p [] y r h = absurd (both_ways false refl h)
-rising_below n p (z ∷ zs) y r h = elim (or_cases (nat_eq y z) (contains zs y) h) [
-  | inl t ↦ (let e = eqb-true y z t in let lt = r.1 in omega (arith, e, lt))
-  | inr t ↦ rising_below n (After z) zs y r.2 t
-]
-
-module _ (links : PredecessorsAreLinks) (rise : LinksRise) (rows : (book : BookSeen) → RowsRise book) (book : BookSeen) (sound : IsBook book) (b : ℕ) (lt : b < activities book) where
+module _ (places : RowsAreTheirPlaces) (links : PredecessorsAreLinks) (rise : LinksRise) (rows : (book : BookSeen) → RowsRise book) (book : BookSeen) (sound : IsBook book) (b : ℕ) (lt : b < activities book) where
   comes_before : (x : ℕ) → contains (predecessors_in (net_of book) b) x ≡ true → x < b
   comes_before x at =
       let (k, here, link) = (links book x b).0 at in
-      rise book sound k x b (rising_below (activities book) Carry (predecessors_in (net_of book) b) x ((rows book).predecessors b) at) lt link
+      rise book sound k x b (places.below (activities book) Carry (predecessors_in (net_of book) b) x ((rows book).predecessors b) at) lt link
 
   pub come_before : All (λ x. x < b) (predecessors_in (net_of book) b)
-  come_before = λ i d within. comes_before (get_or (predecessors_in (net_of book) b) i d) (contained (predecessors_in (net_of book) b) i d within)
+  come_before = λ i d within. comes_before (get_or (predecessors_in (net_of book) b) i d) (places.has (predecessors_in (net_of book) b) i d within)
 
   pub bring_all : UsableDecides → (marks : List Fact) (k : ℕ) (floor : ℕ → Option (List ℤ))
       → least_over (brought book marks k b floor) (predecessors_in (net_of book) b) ≡ least_over (brought book marks k b floor) (range_with_len 0 b)
@@ -107,15 +94,15 @@ module _ (links : PredecessorsAreLinks) (rise : LinksRise) (rows : (book : BookS
       let link = (usable book marks k (After y) b).0 t in
       both_ways (contains (predecessors_in (net_of book) b) y) out ((links book y b).1 (k, link.after.allowed.aircraft, link.link)))))
 
-pub of_book : ((book : BookSeen) → RowsRise book) → (book : BookSeen) (a : ℕ) → All (λ b. b < activities book) (successors_in (net_of book) a)
-of_book rows book a = λ i d within.
-    rising_below (activities book) Carry (successors_in (net_of book) a) (get_or (successors_in (net_of book) a) i d) ((rows book).successors a)
-    (contained (successors_in (net_of book) a) i d within)
+pub of_book : RowsAreTheirPlaces → ((book : BookSeen) → RowsRise book) → (book : BookSeen) (a : ℕ) → All (λ b. b < activities book) (successors_in (net_of book) a)
+of_book places rows book a = λ i d within.
+    places.below (activities book) Carry (successors_in (net_of book) a) (get_or (successors_in (net_of book) a) i d) ((rows book).successors a)
+    (places.has (successors_in (net_of book) a) i d within)
 
-pub before_of_book : ((book : BookSeen) → RowsRise book) → (book : BookSeen) (b : ℕ) → All (λ a. a < activities book) (predecessors_in (net_of book) b)
-before_of_book rows book b = λ i d within.
-    rising_below (activities book) Carry (predecessors_in (net_of book) b) (get_or (predecessors_in (net_of book) b) i d) ((rows book).predecessors b)
-    (contained (predecessors_in (net_of book) b) i d within)
+pub before_of_book : RowsAreTheirPlaces → ((book : BookSeen) → RowsRise book) → (book : BookSeen) (b : ℕ) → All (λ a. a < activities book) (predecessors_in (net_of book) b)
+before_of_book places rows book b = λ i d within.
+    places.below (activities book) Carry (predecessors_in (net_of book) b) (get_or (predecessors_in (net_of book) b) i d) ((rows book).predecessors b)
+    (places.has (predecessors_in (net_of book) b) i d within)
 
 -- a test that holds of what is contained holds of some, and one that holds of none holds of nothing contained
 some_holds : (p : ℕ → Bool) (xs : List ℕ) (y : ℕ) → contains xs y ≡ true → p y ≡ true → list_any p xs ≡ true
@@ -132,13 +119,13 @@ holds_some p (x ∷ xs) h = elim (or_cases (p x) (list_any p xs) h) [
   | inr t ↦ (let (y, at, holds) = holds_some p xs t in (y, or_right (nat_eq y x) (contains xs y) at, holds))
 ]
 
-module _ (links : SuccessorsAreLinks) (rows : (book : BookSeen) → RowsRise book) (usable : UsableDecides) (limits : LimitsDecide)
+module _ (places : RowsAreTheirPlaces) (links : SuccessorsAreLinks) (rows : (book : BookSeen) → RowsRise book) (usable : UsableDecides) (limits : LimitsDecide)
     (book : BookSeen) (marks : List Fact) (k a : ℕ) (values : List ℤ) where
   pub tell : SuccessorsTell book marks k a values
   tell = record {
     goes = λ t none. let (b, at, on) = holds_some (goes_on_to book marks k a values) (successors_in (net_of book) a) t in
         let (link, within) = and_parts (is_usable book marks k (After a) b) (within_limits book.rules.counters (step book k (After a) b values)) on in
-        none b (rising_below (activities book) Carry (successors_in (net_of book) a) b ((rows book).successors a) at)
+        none b (places.below (activities book) Carry (successors_in (net_of book) a) b ((rows book).successors a) at)
         ((usable book marks k (After a) b).0 link) ((limits book.rules.counters (step book k (After a) b values)).0 within);
     none = λ t b lt link within.
         both_ways (goes_on_from book marks k a values) t

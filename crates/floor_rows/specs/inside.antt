@@ -2,3 +2,4 @@
 pub mod FloorRow
 pub mod LeastOver
 pub mod Neighbours
+pub mod AskedLinks

@@ -19,6 +19,7 @@ use crate::laws::{
     floors_are_least, no_floor_without, predecessors_bring_all, predecessors_come_before,
 };
 use branch_marks::Marks;
+use branch_marks::laws::lesser_in_any_order;
 use connection_net::Net;
 use connection_net::laws::rows_for_each;
 use maint_counters::{StepTable, start};
@@ -101,6 +102,7 @@ fn come_on(
     predecessors_come_before();
     predecessors_bring_all();
     rows_for_each();
+    lesser_in_any_order();
     for x in net.predecessors(b) {
         come_from(book, steps, marks, k, *x, b, row, values);
     }

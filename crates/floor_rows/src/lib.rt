@@ -1,11 +1,13 @@
 //! The floors of one aircraft under marks: the least counter values with which it can come to each activity.
 #![tactic(auto)]
 
+mod dead;
 mod floor_row;
 mod floors;
 mod going;
 pub mod laws;
 
+pub use dead::{is_dead, may_go_over};
 pub use floor_row::FloorRow;
 pub use floors::{put_floor, put_floors};
 pub use going::{goes_on, goes_on_over, goes_on_to, goes_to};

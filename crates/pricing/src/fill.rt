@@ -28,7 +28,9 @@ use crate::laws;
 use crate::step::{arc_weight, links_leave_free, stepped};
 use branch_marks::Marks;
 use connection_net::Net;
-use connection_net::laws::{predecessors_are_links, rows_for_each, rows_rise};
+use connection_net::laws::{
+    predecessors_are_links, rows_are_their_places, rows_for_each, rows_rise,
+};
 use label_store::Store;
 use label_store::laws::{
     every_store_is_sound, offered_rows_are_covered, offers_keep_covered, offers_keep_rows,
@@ -231,6 +233,7 @@ fn try_links(
     predecessors_are_links();
     rows_rise();
     rows_for_each();
+    rows_are_their_places();
     links_rise();
     rising_routes_are_below();
     every_book_is_sound(book);

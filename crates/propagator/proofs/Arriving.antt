@@ -2,16 +2,12 @@
 -- several, one after the other. Where the aircraft is alive at an activity and has no floor there, the activity is dead
 -- for it, so its Bar follows.
 use Rattle.std.specs.Prelude.{Result, Ok, Err, OnOk, OnErr, is_some}
-use Rattle.std.proofs.Common.{◌≡◌, ◌∙◌, ℕ, ℤ, ◌<◌, true, false, List, [], ◌∷◌, ◌++◌, refl, sym, subst, Option, None, Some}
+use Rattle.std.proofs.Common.{◌≡◌, ◌∙◌, ℕ, ℤ, true, false, List, [], ◌∷◌, ◌++◌, refl, sym, subst, Option, None, Some}
 use Rattle.std.proofs.lemmas.Bool.{and_parts, both_ways}
 use Rattle.tail_book.specs.Seen.{BookSeen}
-use Rattle.tail_book.specs.Lookup.{activities, aircraft}
 use Rattle.branch_marks.specs.declared.fact.Fact.{Fact}
 use Rattle.branch_marks.specs.declared.fact.Fact.TheVariants.{Bar}
-use Rattle.branch_marks.specs.Marks.{IsAlive}
 use Rattle.branch_marks.specs.inside.MarkTests.{is_alive, lets_fly}
-use Rattle.branch_marks.specs.Following.{IsDeadBy, IsDead}
-use Rattle.floor_rows.specs.inside.LeastOver.{floor_of}
 use Rattle.propagator.specs.inside.SameFor.{SameFor, BarsLeaveOthers}
 use Rattle.propagator.specs.inside.Settling.{ActsOn}
 use Rattle.propagator.proofs.MoreMarks.{alive_more}
@@ -50,12 +46,3 @@ at_either P (Err e) old new next ok err p q = subst P (sym err) q
 pub none_of : (floor : Option (List ℤ)) → is_some floor ≡ false → floor ≡ None
 none_of None e = refl
 none_of (Some values) e = absurd (both_ways true e refl)
-
--- what is alive and has no floor is dead
-pub dead_arrival : (book : BookSeen) (marks : List Fact) (k a : ℕ) → k < aircraft book → a < activities book → IsAlive book marks k a
-    → is_some (floor_of book marks k a) ≡ false → IsDead book marks k a
-dead_arrival book marks k a hk ha alive none = record {
-  of_book = (hk, ha);
-  alive = alive;
-  dead = subst (λ (floor : Option (List ℤ)). IsDeadBy book marks k a floor) (sym (none_of (floor_of book marks k a) none)) tt;
-}

@@ -1,30 +1,26 @@
 -- Going over the dead ends of one aircraft from the last activity to the first. What is kept: all that is dead lies
--- below where the pass stands and is flagged to be asked, and the row has the floors of the marks. With a floor and no
--- end allowed, an activity is dead exactly where no successor can be gone on to. Where it is, its Bar takes its floor
+-- below where the pass stands and is flagged to be asked, and the row has the floors of the marks. Where an activity is dead, its Bar takes its floor
 -- and no other, and may make only its predecessors dead: these are flagged, and lie below. Where it is not, it is
 -- passed.
-use Rattle.std.specs.Prelude.{◌≢◌, IsTrue, not, is_some, nat_eq}
-use Rattle.std.proofs.Common.{◌≡◌, ◌∙◌, ℕ, ℤ, ◌<◌, ◌+◌, Bool, true, false, inl, inr, List, [], ◌∷◌, ◌++◌, refl, sym, ap, subst, arith, get_or, length, Option, None, Some}
-use Rattle.std.proofs.lemmas.Bool.{both_ways, cond-true, cond-false, false_from_ne_true, true_from_ne_false, cases_order}
+use Rattle.std.specs.Prelude.{◌≢◌, not, nat_eq}
+use Rattle.std.proofs.Common.{◌≡◌, ◌∙◌, ℕ, ℤ, ◌<◌, ◌+◌, Bool, false, inl, inr, List, [], ◌∷◌, ◌++◌, sym, ap, subst, arith, get_or, length, Option, None}
+use Rattle.std.proofs.lemmas.Bool.{both_ways, cond-true, cond-false, true_from_ne_false, cases_order}
 use Rattle.std.proofs.Math.ListN.{set}
 use Rattle.std.proofs.lemmas.List.{length-set, get_or-set_other, ext_get_or}
 use Rattle.std.proofs.lemmas.Grind.{get_or-set_at}
 use Rattle.std.proofs.lemmas.Bool.Decides.{eqb_tells}
 use Rattle.tail_book.specs.Seen.{BookSeen}
-use Rattle.tail_book.specs.declared.place.Place.TheVariants.{After}
-use Rattle.tail_book.specs.Lookup.{activities, aircraft}
+use Rattle.tail_book.specs.Lookup.{activities}
 use Rattle.branch_marks.specs.declared.fact.Fact.{Fact}
 use Rattle.branch_marks.specs.declared.fact.Fact.TheVariants.{Bar}
-use Rattle.branch_marks.specs.Marks.{IsAlive, MayEnd}
 use Rattle.branch_marks.specs.inside.MarkTests.{is_alive, AliveDecides}
 use Rattle.branch_marks.specs.MarksSeen.{MarksSeen}
 use Rattle.branch_marks.specs.inside.MarkTables.{AreMarksOf}
 use Rattle.branch_marks.specs.Floors.{floors, FloorsCount}
-use Rattle.branch_marks.specs.Following.{IsDeadBy, IsDead}
+use Rattle.branch_marks.specs.Following.{IsDead}
 use Rattle.floor_rows.specs.inside.FloorRow.{FloorRowSeen}
 use Rattle.propagator.specs.InTurn.{GrowInTurn}
 use Rattle.floor_rows.specs.inside.LeastOver.{floor_of}
-use Rattle.floor_rows.specs.inside.Neighbours.{goes_on_from, SuccessorsTell}
 use Rattle.propagator.specs.inside.OneMore.{BarsTakeOneFloor, BarsKillNothingLater, BarsKillPredecessors}
 use Rattle.propagator.specs.inside.Settling.{ActsOn}
 use Rattle.propagator.specs.inside.Touching.{is_set, AreSetToo, IsAskedBelow}
@@ -33,29 +29,6 @@ use Rattle.connection_net.specs.Net.{net_of, predecessors_in}
 use Rattle.propagator.proofs.InTurn.{grow_both}
 use Rattle.propagator.proofs.MoreMarks.{barred}
 use Rattle.propagator.proofs.Arriving.{acts_on}
-
-not_true : (g : Bool) → IsTrue (not g) → g ≡ false
-not_true true h = sym h
-not_true false h = refl
-
-true_not : (g : Bool) → g ≡ false → IsTrue (not g)
-true_not g e = ap not e
-
--- what is alive, has a floor and may not end is dead exactly where nothing goes on
-pub end_tells : (book : BookSeen) (marks : List Fact) (k a : ℕ) → k < aircraft book → a < activities book → IsAlive book marks k a → ¬ MayEnd marks k (After a)
-    → (floor : Option (List ℤ)) → floor_of book marks k a ≡ floor → is_some floor ≡ true → ((low : List ℤ) → SuccessorsTell book marks k a low)
-    → (g : Bool) → ((low : List ℤ) → floor_of book marks k a ≡ Some low → g ≡ goes_on_from book marks k a low)
-    → (IsTrue (not g) → IsDead book marks k a) × (IsDead book marks k a → IsTrue (not g))
-end_tells book marks k a hk ha alive stays None e some tell g goes = absurd (both_ways false refl some)
-end_tells book marks k a hk ha alive stays (Some low) e some tell g goes = (
-  (λ h. record {
-    of_book = (hk, ha);
-    alive = alive;
-    dead = subst (λ (floor : Option (List ℤ)). IsDeadBy book marks k a floor) (sym e) (stays, (tell low).none (sym (goes low e) ∙ not_true g h));
-  }),
-  (λ d. true_not g (goes low e ∙ false_from_ne_true (goes_on_from book marks k a low)
-      (λ t. (tell low).goes t (subst (λ (floor : Option (List ℤ)). IsDeadBy book marks k a floor) e d.dead).1))),
-)
 
 -- once the floor is taken away, the row has the floors that are left
 pub end_floors : BarsTakeOneFloor → FloorsCount → (book : BookSeen) (marks : List Fact) (k c : ℕ) → c < activities book → IsDead book marks k c

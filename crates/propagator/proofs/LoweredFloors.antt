@@ -15,6 +15,7 @@ use Rattle.tail_book.specs.Lookup.{activities}
 use Rattle.tail_book.specs.inside.Order.{EachAtMost}
 use Rattle.branch_marks.specs.declared.fact.Fact.{Fact}
 use Rattle.branch_marks.specs.Floors.{lesser, lesser_floor, stepped_floor}
+use Rattle.branch_marks.specs.inside.FloorLaws.{LesserInAnyOrder}
 use Rattle.floor_rows.specs.inside.FloorRow.{FloorRowSeen, floor_in, IsSetAt}
 use Rattle.floor_rows.specs.inside.LeastOver.{floor_of, least_over, brought, brought_first, FloorsAreLeast}
 
@@ -25,47 +26,18 @@ pub record IsLowering (book : BookSeen) (marks : List Fact) (k b : ℕ) (first r
   pub whole : lesser_floor (floor_in row b) (least_over (brought book marks k b (floor_of book marks k)) left) ≡ floor_of book marks k b
   pub others : (a : ℕ) → a ≢ b → floor_in row a ≡ floor_in first a
 
--- the lesser of three does not depend on their order
-lesser_in_turn : (us vs ws : List ℤ) → lesser (lesser us vs) ws ≡ lesser us (lesser vs ws)
-lesser_in_turn [] vs ws = refl
-lesser_in_turn (u ∷ us) [] ws = refl
-lesser_in_turn (u ∷ us) (v ∷ vs) [] = refl
-lesser_in_turn (u ∷ us) (v ∷ vs) (w ∷ ws) =
-    let here : int_min (int_min u v) w ≡ int_min u (int_min v w) = omega (arith, ints, clamps) in
-    ap (λ (z : ℤ). z ∷ lesser (lesser us vs) ws) here ∙ ap (λ (rest : List ℤ). int_min u (int_min v w) ∷ rest) (lesser_in_turn us vs ws)
-
-lesser_either : (us vs : List ℤ) → lesser us vs ≡ lesser vs us
-lesser_either [] [] = refl
-lesser_either [] (v ∷ vs) = refl
-lesser_either (u ∷ us) [] = refl
-lesser_either (u ∷ us) (v ∷ vs) =
-    let here : int_min u v ≡ int_min v u = omega (arith, ints, clamps) in
-    ap (λ (z : ℤ). z ∷ lesser us vs) here ∙ ap (λ (rest : List ℤ). int_min v u ∷ rest) (lesser_either us vs)
-
-floor_in_turn : (f g h : Option (List ℤ)) → lesser_floor (lesser_floor f g) h ≡ lesser_floor f (lesser_floor g h)
-floor_in_turn None g h = refl
-floor_in_turn (Some us) None h = refl
-floor_in_turn (Some us) (Some vs) None = refl
-floor_in_turn (Some us) (Some vs) (Some ws) = ap (λ (l : List ℤ). Some l) (lesser_in_turn us vs ws)
-
-floor_either : (f g : Option (List ℤ)) → lesser_floor f g ≡ lesser_floor g f
-floor_either None None = refl
-floor_either None (Some vs) = refl
-floor_either (Some us) None = refl
-floor_either (Some us) (Some vs) = ap (λ (l : List ℤ). Some l) (lesser_either us vs)
-
 -- nothing more is the same
 pub lesser_none : (f : Option (List ℤ)) → lesser_floor f None ≡ f
 lesser_none None = refl
 lesser_none (Some us) = refl
 
-least_last : (h : ℕ → Option (List ℤ)) (xs : List ℕ) (x : ℕ) → least_over h (xs ++ x ∷ []) ≡ lesser_floor (least_over h xs) (h x)
-least_last h [] x = lesser_none (h x)
-least_last h (y ∷ ys) x = ap (λ (rest : Option (List ℤ)). lesser_floor (h y) rest) (least_last h ys x) ∙ sym (floor_in_turn (h y) (least_over h ys) (h x))
+least_last : LesserInAnyOrder → (h : ℕ → Option (List ℤ)) (xs : List ℕ) (x : ℕ) → least_over h (xs ++ x ∷ []) ≡ lesser_floor (least_over h xs) (h x)
+least_last order h [] x = lesser_none (h x)
+least_last order h (y ∷ ys) x = ap (λ (rest : Option (List ℤ)). lesser_floor (h y) rest) (least_last order h ys x) ∙ sym (order.grouped (h y) (least_over h ys) (h x))
 
 -- one more of those that are left is taken in
-one_taken : (f g rest : Option (List ℤ)) → lesser_floor (lesser_floor f g) rest ≡ lesser_floor f (lesser_floor rest g)
-one_taken f g rest = floor_in_turn f g rest ∙ ap (λ (h : Option (List ℤ)). lesser_floor f h) (floor_either g rest)
+one_taken : LesserInAnyOrder → (f g rest : Option (List ℤ)) → lesser_floor (lesser_floor f g) rest ≡ lesser_floor f (lesser_floor rest g)
+one_taken order f g rest = order.grouped f g rest ∙ ap (λ (h : Option (List ℤ)). lesser_floor f h) (order.turned g rest)
 
 -- what is lowered to others and is no lower than they are is what it was
 lesser_back : (us vs : List ℤ) → EachAtMost us (lesser us vs) → lesser us vs ≡ us
@@ -81,16 +53,16 @@ floor_back us None floor e low = e
 floor_back us (Some vs) floor e low = ap (λ (l : List ℤ). Some l) (sym (lesser_back us vs (low (lesser us vs) (sym e)))) ∙ e
 
 module _ (book : BookSeen) (marks : List Fact) (k b : ℕ) (first : FloorRowSeen) (below : (a : ℕ) → a < b → floor_in first a ≡ floor_of book marks k a) where
-  next_lowered : (row new : FloorRowSeen) (left : List ℕ) (x : ℕ) → x < b → IsLowering book marks k b first row (left ++ x ∷ [])
+  next_lowered : LesserInAnyOrder → (row new : FloorRowSeen) (left : List ℕ) (x : ℕ) → x < b → IsLowering book marks k b first row (left ++ x ∷ [])
       → IsSetAt b (lesser_floor (floor_in row b) (brought book marks k b (floor_in row) x)) row new → IsLowering book marks k b first new left
-  next_lowered row new left x lt way set = record {
+  next_lowered order row new left x lt way set = record {
     width = set.width ∙ way.width;
     count = set.count ∙ way.count;
     whole =
         ap (λ (f : Option (List ℤ)). lesser_floor f (least_over brings left)) set.here
         ∙ ap (λ (f : Option (List ℤ)). lesser_floor (lesser_floor (floor_in row b) (stepped_floor book marks k (After x) b f)) (least_over brings left)) known
-        ∙ one_taken (floor_in row b) (brings x) (least_over brings left)
-        ∙ ap (λ (rest : Option (List ℤ)). lesser_floor (floor_in row b) rest) (sym (least_last brings left x))
+        ∙ one_taken order (floor_in row b) (brings x) (least_over brings left)
+        ∙ ap (λ (rest : Option (List ℤ)). lesser_floor (floor_in row b) rest) (sym (least_last order brings left x))
         ∙ way.whole;
     others = λ a ne. set.others a ne ∙ way.others a ne;
   }
@@ -101,14 +73,14 @@ module _ (book : BookSeen) (marks : List Fact) (k b : ℕ) (first : FloorRowSeen
       known : floor_in row x ≡ floor_of book marks k x
       known = let apart : x ≢ b = omega (arith, lt) in way.others x apart ∙ below x lt
 
-  pub next_of : (row new : FloorRowSeen) (items places : List ℕ) (n : ℕ) → items ≡ places → All (λ x. x < b) places → 0 < n → n ≤ length items
+  pub next_of : LesserInAnyOrder → (row new : FloorRowSeen) (items places : List ℕ) (n : ℕ) → items ≡ places → All (λ x. x < b) places → 0 < n → n ≤ length items
       → IsLowering book marks k b first row (take n items)
       → IsSetAt b (lesser_floor (floor_in row b) (brought book marks k b (floor_in row) (get_or items (n - 1) 0))) row new
       → IsLowering book marks k b first new (take (n - 1) items)
-  next_of row new items places n are all some most way set =
+  next_of order row new items places n are all some most way set =
       let within : n - 1 < length items = omega (arith, some, most) in
       let more : n ≡ n - 1 + 1 = omega (arith, some) in
-      next_lowered row new (take (n - 1) items) (get_or items (n - 1) 0) (subst (λ (xs : List ℕ). All (λ x. x < b) xs) (sym are) all (n - 1) 0 within)
+      next_lowered order row new (take (n - 1) items) (get_or items (n - 1) 0) (subst (λ (xs : List ℕ). All (λ x. x < b) xs) (sym are) all (n - 1) 0 within)
       (subst (λ (left : List ℕ). IsLowering book marks k b first row left) (ap (λ (m : ℕ). take m items) more ∙ take_more items (n - 1) 0 within) way) set
 
   -- at the end the floor is there

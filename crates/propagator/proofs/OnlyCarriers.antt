@@ -1,9 +1,8 @@
 -- An activity has an only carrier where the first aircraft that is alive there is the last one too, and no Must names it. A
 -- Must gives the activity to that aircraft, so that one activity less is unnamed from then on.
-use Rattle.std.specs.Prelude.{Result, Ok, Err, OnOk, ◌≢◌, Contains, nat_eq, if◌then◌else◌}
+use Rattle.std.specs.Prelude.{Result, Ok, Err, OnOk, ◌≢◌, nat_eq, if◌then◌else◌}
 use Rattle.std.proofs.Common.{◌≡◌, ◌∙◌, ℕ, zero, suc, ◌<◌, ◌≤◌, ◌+◌, Bool, true, false, inl, inr, List, [], ◌∷◌, ◌++◌, refl, sym, ap, subst, arith, below_more}
 use Rattle.std.proofs.lemmas.Bool.{both_ways, cases_order, or_left, or_right, or_cases, and_from, eq-eqb, false_from_ne_true}
-use Rattle.std.proofs.lemmas.List.Elements.{All-contains}
 use Rattle.std.proofs.lemmas.List.Folds.{list_any-append}
 use Rattle.tail_book.specs.Seen.{BookSeen}
 use Rattle.tail_book.specs.Lookup.{activities, aircraft}
@@ -11,7 +10,6 @@ use Rattle.branch_marks.specs.declared.fact.Fact.{Fact}
 use Rattle.branch_marks.specs.declared.fact.Fact.TheVariants.{Must}
 use Rattle.branch_marks.specs.inside.Below.{some_below, count_below}
 use Rattle.branch_marks.specs.inside.FactTests.{same_fact, has_fact, HasFactDecides}
-use Rattle.branch_marks.specs.Marks.{LetsFly}
 use Rattle.branch_marks.specs.inside.MarkTests.{is_alive, AliveDecides}
 use Rattle.branch_marks.specs.Following.{IsOnlyCarrier}
 use Rattle.std.proofs.lemmas.Bool.Decides.{eqb_tells}
@@ -28,31 +26,6 @@ use Rattle.propagator.proofs.Settled.{AreSettling, stands_on}
 use Rattle.propagator.specs.inside.Unnamed.{is_named, unnamed}
 
 module _ (alive : AliveDecides) (book : BookSeen) (marks : List Fact) (a : ℕ) where
-  -- where nobody is alive, there is no carrier
-  pub no_carrier : (first : ℕ) → ((j : ℕ) → 0 ≤ j → j < first → is_alive book marks j a ≡ false) → aircraft book ≤ first → (k : ℕ) → ¬ IsOnlyCarrier book marks k a
-  no_carrier first none all k carrier =
-      let lt = carrier.of_book.0 in
-      both_ways (is_alive book marks k a) (none k (omega arith) (omega (arith, lt, all))) ((alive book marks k a).1 carrier.alive)
-
-  -- where one is alive and nobody else, and the marks do not give it the activity, it is the carrier
-  pub is_carrier : (k next : ℕ) → k < aircraft book → a < activities book → is_alive book marks k a ≡ true
-      → ((j : ℕ) → 0 ≤ j → j < k → is_alive book marks j a ≡ false) → ((j : ℕ) → k + 1 ≤ j → j < next → is_alive book marks j a ≡ false)
-      → aircraft book ≤ next → ¬ Contains marks (Must k a) → IsOnlyCarrier book marks k a
-  is_carrier k next hk ha here before after all free =
-      let on = (alive book marks k a).0 here in
-      record {
-        of_book = (hk, ha);
-        alive = on;
-        alone = λ j lt other. elim (cases_order j k) [
-          | inl e ↦ e
-          | inr o ↦ elim o [
-            | inl less ↦ absurd (both_ways (is_alive book marks j a) (before j (omega arith) less) ((alive book marks j a).1 other))
-            | inr more ↦ absurd (both_ways (is_alive book marks j a) (after j (omega (arith, more)) (omega (arith, lt, all))) ((alive book marks j a).1 other))
-          ]
-        ];
-        unnamed = λ j lt has. free (subst (λ (z : ℕ). Contains marks (Must z a)) (All-contains (LetsFly k a) marks (Must j a) on.facts has refl) has);
-      }
-
   -- who is not the only carrier is not alive
   pub others_dead : (k j : ℕ) → IsOnlyCarrier book marks k a → j < aircraft book → j ≢ k → is_alive book marks j a ≡ false
   others_dead k j carrier lt ne = false_from_ne_true (is_alive book marks j a) (λ t. ne (carrier.alone j lt ((alive book marks j a).0 t)))

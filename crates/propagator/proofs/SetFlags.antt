@@ -10,9 +10,9 @@ use Rattle.std.proofs.lemmas.Bool.Decides.{eqb_tells}
 use Rattle.std.proofs.lemmas.List.{get_or-set_other, length-set}
 use Rattle.std.proofs.lemmas.Grind.{get_or-set_at}
 use Rattle.tail_book.specs.Numbers.{contains}
+use Rattle.connection_net.specs.inside.Laws.{RowsAreTheirPlaces}
 use Rattle.floor_rows.specs.inside.FloorRow.{FloorRowSeen, floor_in, IsSetAt}
 use Rattle.propagator.specs.inside.Touching.{is_set, AreSetToo}
-use Rattle.propagator.proofs.DeadLinks.{stands_at}
 
 -- what is not set after one flag is set
 pub set_one : (flags : List Bool) (j i : ℕ) → j < length flags → is_set (set flags j true) i ≡ false → (is_set flags i ≡ false) × (j ≢ i)
@@ -37,10 +37,10 @@ set_next numbers n old flags lt below i e =
     let (first, rest) = below i was in
     (first, below_more (λ (j : ℕ). get_or numbers j 0 ≢ i) n rest apart)
 
-pub all_set : (numbers : List ℕ) (n : ℕ) (old new : List Bool) → length numbers ≤ n → AreSetBelow numbers n old new → AreSetToo numbers old new
-all_set numbers n old new le below i e =
+pub all_set : RowsAreTheirPlaces → (numbers : List ℕ) (n : ℕ) (old new : List Bool) → length numbers ≤ n → AreSetBelow numbers n old new → AreSetToo numbers old new
+all_set places numbers n old new le below i e =
     let (was, none) = below i e in
-    (was, false_from_ne_true (contains numbers i) (λ t. let (j, lt, at) = stands_at numbers i t in none j (omega (arith, le, lt)) at))
+    (was, false_from_ne_true (contains numbers i) (λ t. let (j, lt, at) = places.stands numbers i t in none j (omega (arith, le, lt)) at))
 
 pub set_by : (numbers others : List ℕ) (old new : List Bool) → numbers ≡ others → AreSetToo numbers old new → AreSetToo others old new
 set_by numbers others old new e are = subst (λ (xs : List ℕ). AreSetToo xs old new) e are

@@ -29,29 +29,6 @@ use floor_rows::FloorRow;
 use maint_counters::StepTable;
 use tail_book::{Book, Memory};
 
-// The only carrier of an activity, if there is one that no Must names yet.
-fn carrier_at(book: &Book, marks: &Marks, a: u32) -> Option<u32>
-    requires marks { AreMarksOf book.now marks.now }
-    requires activity { a < activities book.now }
-    ensures some { IfSome result (λ k. IsOnlyCarrier book.now marks.now.facts k a) }
-    ensures none { IfNone result ((k : ℕ) → ¬ IsOnlyCarrier book.now marks.now.facts k a) }
-{
-    alive_decides();
-    marks.facts_are_of_book(book);
-    let m = book.tails.len() as u32;
-    let k = marks.next_alive(book, a, 0);
-    if k == m {
-        return None;
-    }
-    if marks.next_alive(book, a, k + 1) < m {
-        return None;
-    }
-    if marks.has(Fact::Must(k, a)) {
-        return None;
-    }
-    Some(k)
-}
-
 // Gives an activity to its only carrier, and settles that aircraft.
 fn carry(
     book: &Book,
@@ -116,7 +93,7 @@ fn carry_each(
 {
     let mut some = false;
     for a in 0..book.activities.len() as u32 {
-        if let Some(k) = carrier_at(book, marks, a) {
+        if let Some(k) = marks.only_carrier(book, a) {
             carry(book, net, steps, marks, facts, k, a, rows, work)?;
             some = true;
         }

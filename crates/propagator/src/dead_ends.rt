@@ -11,7 +11,6 @@ ghost use Rattle.maint_counters.specs.inside.StepTable.{IsStepTableOf};
 ghost use Rattle.connection_net.specs.Net.{net_of};
 ghost use Rattle.branch_marks.specs.inside.MarkTables.{AreMarksOf};
 ghost use Rattle.branch_marks.specs.Floors.{floors};
-ghost use Rattle.branch_marks.specs.Following.{IsDead};
 ghost use Rattle.floor_rows.specs.inside.FloorRow.{IsRowOf};
 ghost use Rattle.propagator.specs.InTurn.{GrowInTurn};
 ghost use Rattle.propagator.specs.inside.Settling.{ActsOn, IsSettledFor};
@@ -25,46 +24,11 @@ use branch_marks::laws::{alive_decides, floors_count};
 use branch_marks::{Fact, Marks};
 use connection_net::Net;
 use connection_net::laws::rows_for_each;
-use floor_rows::laws::{predecessors_are_of_book, successors_tell};
-use floor_rows::{FloorRow, goes_on};
+use floor_rows::laws::predecessors_are_of_book;
+use floor_rows::{FloorRow, is_dead};
 use maint_counters::StepTable;
 use tail_book::laws::every_book_is_sound;
-use tail_book::{Book, Memory, Place};
-
-// Whether an activity is dead for an aircraft.
-// Where the aircraft may end is asked before where it may go on, since it takes no step.
-fn is_dead(
-    book: &Book,
-    net: &Net,
-    steps: &StepTable,
-    marks: &Marks,
-    k: u32,
-    a: u32,
-    row: &FloorRow,
-    values: &mut [i64],
-) -> bool
-    requires net { net.now ≡ net_of book.now }
-    requires steps { IsStepTableOf book.now steps.now }
-    requires marks { AreMarksOf book.now marks.now }
-    requires aircraft { k < aircraft book.now }
-    requires activity { a < activities book.now }
-    requires row { IsRowOf book.now row.now }
-    requires floors { row.now.floors ≡ floors book.now marks.now.facts k }
-    requires width { length values.old ≡ length book.now.rules.counters }
-    ensures { IsTrue result ↔ IsDead book.now marks.now.facts k a }
-{
-    successors_tell();
-    if !marks.alive(book, k, a) {
-        return false;
-    }
-    if !row.has(a as usize) {
-        return true;
-    }
-    if marks.may_end(book, k, Place::After(a)) {
-        return false;
-    }
-    !goes_on(book, net, steps, marks, k, a, row, values)
-}
+use tail_book::{Book, Memory};
 
 // Bars an aircraft from an activity that is dead, and takes its floor.
 fn bar_if_dead(

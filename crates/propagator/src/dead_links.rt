@@ -28,15 +28,13 @@ use crate::suspects::is_suspect;
 use branch_marks::laws::{alive_decides, floors_count, usable_decides};
 use branch_marks::{Fact, Marks};
 use connection_net::Net;
-use connection_net::laws::{rows_for_each, successors_are_links};
-use floor_rows::laws::successors_are_of_book;
-use floor_rows::{FloorRow, goes_on_over};
+use connection_net::laws::{rows_are_their_places, rows_for_each, successors_are_links};
+use floor_rows::laws::{asking_passes_over, successors_are_of_book};
+use floor_rows::{FloorRow, may_go_over};
 use maint_counters::StepTable;
-use tail_book::laws::limits_decide;
 use tail_book::{Book, Memory, Place};
 
 // Whether an aircraft may use a link and goes on over it.
-// The step comes before the other marks: it is a few reads, and decides more often.
 fn goes_over(
     book: &Book,
     steps: &StepTable,
@@ -58,16 +56,7 @@ fn goes_over(
     ensures goes { result ≡ true → ¬ IsDeadConnection book.now marks.now.facts a b }
     ensures cannot { result ≡ false → IsUsable book.now marks.now.facts k (PlaceAfter a) b → CannotGoBy book.now k a b (floor_of book.now marks.now.facts k a) }
 {
-    alive_decides();
-    usable_decides();
-    limits_decide();
-    if !marks.alive(book, k, b) {
-        return false;
-    }
-    if !goes_on_over(book, steps, k, a, b, &rows[k as usize], values) {
-        return false;
-    }
-    marks.usable(book, k, Place::After(a), b)
+    marks.alive(book, k, b) && may_go_over(book, steps, marks, k, a, b, &rows[k as usize], values)
 }
 
 // Whether the aircraft that went on last, if there is one, goes on over a link too.
@@ -135,7 +124,7 @@ fn is_dead_link(
     requires width { length values.old ≡ length book.now.rules.counters }
     ensures { IsTrue result ↔ IsDeadConnection book.now marks.now.facts a b }
 {
-    alive_decides();
+    asking_passes_over();
     usable_decides();
     marks.facts_are_of_book(book);
     if last_goes_over(book, steps, marks, *last, a, b, rows, values) {
@@ -278,6 +267,7 @@ fn cut_links_of(
     rows_for_each();
     successors_are_of_book();
     successors_are_links();
+    rows_are_their_places();
     let mut last = u32::MAX;
     for b in net.successors(a) {
         cut_suspect(

@@ -5,11 +5,14 @@
 ghost use Rattle.std.specs.Prelude.{◌≡◌, ◌<◌, ◌≤◌, ℕ, List, All, [], ◌∷◌, true, false, length};
 ghost use Rattle.propagator.specs.inside.Touching.{is_set, AreSetToo, AreSetFrom};
 
+use connection_net::laws::rows_are_their_places;
+
 /// Sets the flags of these numbers.
 pub fn set_all(numbers: &[u32], flags: &mut [bool])
     requires { All (λ i. i < length flags.old) numbers.now }
     ensures { AreSetToo numbers.now flags.old flags.new }
 {
+    rows_are_their_places();
     for i in numbers {
         flags[*i as usize] = true;
     }

@@ -24,7 +24,7 @@ ghost use Rattle.propagator.specs.inside.CutOff.{IsCutOff};
 ghost use Rattle.propagator.specs.inside.Rising.{IsCopied};
 
 use branch_marks::Marks;
-use branch_marks::laws::usable_decides;
+use branch_marks::laws::{lesser_in_any_order, usable_decides};
 use connection_net::Net;
 use connection_net::laws::rows_for_each;
 use floor_rows::laws::{
@@ -197,6 +197,7 @@ fn lower_from_all(
     predecessors_come_before();
     predecessors_bring_all();
     rows_for_each();
+    lesser_in_any_order();
     if had && row.is(b as usize, before) {
         return;
     }

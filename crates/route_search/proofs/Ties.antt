@@ -15,6 +15,7 @@ use Rattle.tail_book.specs.declared.place.Place.TheVariants.{After}
 use Rattle.tail_book.specs.Lookup.{activities}
 use Rattle.tail_book.specs.Numbers.{contains, is_none_or}
 use Rattle.tail_book.specs.inside.Rising.{IsRisingFrom}
+use Rattle.connection_net.specs.inside.Laws.{RowsAreTheirPlaces}
 use Rattle.branch_marks.specs.declared.fact.Fact.{Fact}
 use Rattle.branch_marks.specs.declared.fact.Fact.TheVariants.{Bar, Must, Cut, Tie}
 use Rattle.branch_marks.specs.declared.named.Named.{Named}
@@ -23,7 +24,6 @@ use Rattle.branch_marks.specs.Marks.{IsUsable, LetsGo}
 use Rattle.branch_marks.specs.inside.Named.{named_by, named_from, with_named, lets_number}
 use Rattle.branch_marks.specs.inside.MarkTables.{tied_after}
 use Rattle.route_search.specs.inside.Followers.{AreFollowers, only}
-use Rattle.route_search.proofs.Successors.{contained, place_in}
 
 -- a fact that lets k go from x to b ties nothing else behind x
 tied_there : (same : Bool) (d b : ℕ) → (same ≡ true → d ≡ b) → is_none_or (cond same (Some d) None) b ≡ true
@@ -91,19 +91,19 @@ missed row b i before behind q lt is = elim (cases_lt q i) [
   | inr le ↦ let high = behind q le lt in omega (arith, high, is)
 ]
 
-pub nothing_left : (row : List ℕ) (b i : ℕ) → IsNonDecreasing row → IsBinarySearchResult (λ y. nat_cmp y b) row (Err i) → [] ≡ only row b
-nothing_left row b i rises found =
+pub nothing_left : RowsAreTheirPlaces → (row : List ℕ) (b i : ℕ) → IsNonDecreasing row → IsBinarySearchResult (λ y. nat_cmp y b) row (Err i) → [] ≡ only row b
+nothing_left places row b i rises found =
     let (within, before, behind) = searched row b (Err i) found (λ p q le lt. rises p q 0 le lt) in
     let lacks : contains row b ≡ false = false_from_ne_true (contains row b)
-    (λ has. let (q, lt, is) = place_in row b has in missed row b i before behind q lt is) in
+    (λ has. let (q, lt, is) = places.stands row b has in missed row b i before behind q lt is) in
     ap (λ (has : Bool). cond has (b ∷ []) []) (sym lacks)
 
 -- of those who may come next the others may be left out, where what is usable can be one alone, and all where nothing can
-module _ (book : BookSeen) (marks : List Fact) (k x : ℕ) where
+module _ (places : RowsAreTheirPlaces) (book : BookSeen) (marks : List Fact) (k x : ℕ) where
   alone : (row : List ℕ) (n : ℕ) (has : Bool) → contains row n ≡ has → AreFollowers book marks k x row
       → ((b : ℕ) → IsUsable book marks k (After x) b → n ≡ b) → AreFollowers book marks k x (cond has (n ∷ []) [])
   alone row n true is whole named = record {
-    each = λ i lt. let (q, below, here) = place_in row n is in
+    each = λ i lt. let (q, below, here) = places.stands row n is in
         let first : 0 ≡ i = omega (arith, lt) in
         subst (λ (j : ℕ). (get_or (n ∷ []) j 0 < activities book) × (x < get_or (n ∷ []) j 0)) first
         (subst (λ (a : ℕ). (a < activities book) × (x < a)) here (whole.each q below));
@@ -112,7 +112,7 @@ module _ (book : BookSeen) (marks : List Fact) (k x : ℕ) where
   alone row n false is whole named = record {
     each = λ i lt. absurd (omega (arith, lt));
     all = λ b usable. let (q, lt, here) = whole.all b usable in
-        let has : contains row n ≡ true = subst (λ (a : ℕ). contains row a ≡ true) (here ∙ sym (named b usable)) (contained row q lt) in
+        let has : contains row n ≡ true = subst (λ (a : ℕ). contains row a ≡ true) (here ∙ sym (named b usable)) (places.has row q 0 lt) in
         absurd (false≢true (sym is ∙ has));
   }
 
@@ -120,5 +120,5 @@ module _ (book : BookSeen) (marks : List Fact) (k x : ℕ) where
       → ((b : ℕ) → IsUsable book marks k (After x) b → n ≡ b) → AreFollowers book marks k x next
   one_alone row n next is whole named = subst (AreFollowers book marks k x) (sym is) (alone row n (contains row n) refl whole named)
 
-  pub none_usable : ((b : ℕ) → IsUsable book marks k (After x) b → ⊥) → AreFollowers book marks k x []
-  none_usable unusable = record { each = λ i lt. absurd (omega (arith, lt)); all = λ b usable. absurd (unusable b usable) }
+pub none_usable : (book : BookSeen) (marks : List Fact) (k x : ℕ) → ((b : ℕ) → IsUsable book marks k (After x) b → ⊥) → AreFollowers book marks k x []
+none_usable book marks k x unusable = record { each = λ i lt. absurd (omega (arith, lt)); all = λ b usable. absurd (unusable b usable) }

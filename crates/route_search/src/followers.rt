@@ -11,7 +11,9 @@ ghost use Rattle.route_search.specs.inside.Task.{IsTask};
 
 use crate::task::{Task, every_task_is_sound};
 use branch_marks::Named;
-use connection_net::laws::{rows_for_each, rows_rise, successors_are_links, successors_follow};
+use connection_net::laws::{
+    rows_are_their_places, rows_for_each, rows_rise, successors_are_links, successors_follow,
+};
 use tail_book::laws::rising_routes_are_below;
 
 // One number alone, if the list has it.
@@ -19,6 +21,7 @@ fn only(next: &[u32], b: u32) -> &[u32]
     requires rises { IsNonDecreasing next.now }
     ensures { result.now ≡ only next.now b }
 {
+    rows_are_their_places();
     match next.binary_search(&b) {
         Ok(i) => &next[i..i + 1],
         Err(_) => &[],
@@ -36,6 +39,7 @@ pub fn followers<'a>(task: &'a Task, x: u32) -> &'a [u32]
     successors_follow();
     rows_rise();
     rows_for_each();
+    rows_are_their_places();
     rising_routes_are_below();
     let next = task.net.successors(x);
     match task.marks.tied_after(x) {

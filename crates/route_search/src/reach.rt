@@ -23,9 +23,9 @@ ghost use Rattle.route_search.specs.inside.Task.{IsTask};
 
 use crate::completion::{Way, way_through};
 use crate::followers::followers;
-use crate::step::{links_leave_free, stepped};
+use crate::step::links_leave_free;
 use crate::task::{Task, every_task_is_sound};
-use connection_net::laws::{heads_are_links, rows_for_each, rows_rise};
+use connection_net::laws::{heads_are_links, rows_are_their_places, rows_for_each, rows_rise};
 use label_store::Store;
 use label_store::laws::{
     every_store_is_sound, offered_rows_are_covered, offers_keep_covered, offers_keep_rows,
@@ -33,7 +33,7 @@ use label_store::laws::{
 };
 use maint_counters::start;
 use pricing::laws::{offers_keep_truth, true_rows_are_small};
-use pricing::weight_of;
+use pricing::{stepped, weight_of};
 use tail_book::laws::rising_routes_are_below;
 use tail_book::{Memory, Place};
 
@@ -350,6 +350,7 @@ pub fn begin(
     heads_are_links();
     rows_rise();
     rows_for_each();
+    rows_are_their_places();
     rising_routes_are_below();
     let first = task.net.heads(task.k);
     for i in 0..first.len() {

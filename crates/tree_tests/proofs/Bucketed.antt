@@ -1,9 +1,9 @@
 -- Only labels of the same activity can cover a label. Where labels come in order of activity, those before the start of
 -- an activity are of earlier ones, and those behind its end of later ones: so a look over all may begin and end there.
 -- By the number of labels that are passed over.
-use Rattle.std.specs.Prelude.{◌&&◌, ◌||◌, nat_eq, slice_index_or}
+use Rattle.std.specs.Prelude.{◌&&◌, ◌||◌, slice_index_or}
 use Rattle.std.specs.List.{list_any}
-use Rattle.std.proofs.Common.{◌≡◌, ◌∙◌, ℕ, ℤ, zero, suc, ◌+◌, ◌<◌, ◌≤◌, Bool, true, false, List, [], ◌∷◌, length, drop, refl, sym, ap, arith, inl, inr}
+use Rattle.std.proofs.Common.{◌≡◌, ◌∙◌, ℕ, ℤ, zero, suc, ◌+◌, ◌<◌, ◌≤◌, Bool, false, List, [], ◌∷◌, length, drop, refl, sym, ap, arith}
 use Rattle.std.proofs.lemmas.Bool.{ne_eqb, eq-eqb}
 use Rattle.tail_book.specs.Numbers.{int_le}
 use Rattle.tail_book.specs.inside.Order.{each_at_most}

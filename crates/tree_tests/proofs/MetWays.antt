@@ -2,20 +2,17 @@
 -- covers what the link comes to. The code asks only the ways of the network. That is enough, since every usable link is
 -- among them; and as each way is an activity of the book, one that is not met is a link over which the family does not
 -- go on.
-use Rattle.std.specs.Prelude.{not, nat_eq, ◌&&◌, ◌||◌}
-use Rattle.std.proofs.Common.{◌≡◌, ◌∙◌, ℕ, ℤ, zero, suc, ◌<◌, Bool, true, false, List, [], ◌∷◌, length, get_or, refl, sym, ap, subst, arith, inl, inr}
-use Rattle.std.proofs.lemmas.Bool.{both_ways, eqb-true, or_cases, or_left, or_right, eq-eqb}
+use Rattle.std.specs.Prelude.{not, ◌&&◌, ◌||◌}
+use Rattle.std.proofs.Common.{◌≡◌, ◌∙◌, ℕ, ℤ, ◌<◌, Bool, true, false, List, length, get_or, refl, sym, ap, subst}
 use Rattle.tail_book.specs.Seen.{BookSeen}
 use Rattle.tail_book.specs.Lookup.{activities, aircraft}
-use Rattle.tail_book.specs.Numbers.{contains}
 use Rattle.tail_book.specs.Counters.{step}
 use Rattle.tail_book.specs.declared.place.Place.{Place}
 use Rattle.tail_book.specs.declared.place.Place.TheVariants.{Carry, After}
 use Rattle.tail_book.specs.inside.CostTable.{costs_of}
-use Rattle.tail_book.specs.inside.Rising.{IsRisingFrom}
 use Rattle.tail_book.specs.inside.Tests.{within_limits}
 use Rattle.connection_net.specs.Net.{net_of, heads_in, successors_in}
-use Rattle.connection_net.specs.inside.Laws.{HeadsAreLinks, RowsRise, SuccessorsAreLinks}
+use Rattle.connection_net.specs.inside.Laws.{HeadsAreLinks, RowsAreTheirPlaces, RowsRise, SuccessorsAreLinks}
 use Rattle.branch_marks.specs.declared.fact.Fact.{Fact}
 use Rattle.branch_marks.specs.Labels.{Label, label_after}
 use Rattle.branch_marks.specs.inside.FamilyTests.{goes_on, is_covered_by}
@@ -29,36 +26,19 @@ met book marks k duals family x weight values b =
     not (is_usable book marks k x b && within_limits book.rules.counters (step book k x b values))
     || is_covered_by family (label_after (costs_of book) book k duals x weight values b)
 
--- what a list contains stands at some number, and what stands in it is contained
-pub stands_at : (xs : List ℕ) (y : ℕ) → contains xs y ≡ true → (i : ℕ) × (i < length xs) × (get_or xs i 0 ≡ y)
-stands_at [] y h = absurd (both_ways false refl h)
-stands_at (x ∷ xs) y h = elim (or_cases (nat_eq y x) (contains xs y) h) [
-  | inl t ↦ (0, omega arith, sym (eqb-true y x t))
-  | inr t ↦ (let (i, lt, e) = stands_at xs y t in (suc i, omega (arith, lt), e))
-]
+pub of_book : RowsAreTheirPlaces → ((book : BookSeen) → RowsRise book) → (book : BookSeen) (k : ℕ) (x : Place) (i d : ℕ) → i < length (ways_of book k x)
+    → get_or (ways_of book k x) i d < activities book
+of_book places rows book k Carry i d lt =
+    places.below (activities book) Carry (heads_in (net_of book) k) (get_or (heads_in (net_of book) k) i d) ((rows book).heads k) (places.has (heads_in (net_of book) k) i d lt)
+of_book places rows book k (After a) i d lt =
+    places.below (activities book) Carry (successors_in (net_of book) a) (get_or (successors_in (net_of book) a) i d) ((rows book).successors a)
+    (places.has (successors_in (net_of book) a) i d lt)
 
-contained : (xs : List ℕ) (i d : ℕ) → i < length xs → contains xs (get_or xs i d) ≡ true
-contained [] i d lt = absurd (omega (arith, lt))
-contained (x ∷ xs) zero d lt = or_left (nat_eq x x) (contains xs x) (eq-eqb x x refl)
-contained (x ∷ xs) (suc i) d lt = or_right (nat_eq (get_or xs i d) x) (contains xs (get_or xs i d)) (contained xs i d (omega (arith, lt)))
-
-rising_below : (n : ℕ) (p : Place) (xs : List ℕ) (y : ℕ) → IsRisingFrom n p xs → contains xs y ≡ true → y < n
-rising_below n p [] y r h = absurd (both_ways false refl h)
-rising_below n p (z ∷ zs) y r h = elim (or_cases (nat_eq y z) (contains zs y) h) [
-  | inl t ↦ (let e = eqb-true y z t in let lt = r.1 in omega (arith, e, lt))
-  | inr t ↦ rising_below n (After z) zs y r.2 t
-]
-
-pub of_book : ((book : BookSeen) → RowsRise book) → (book : BookSeen) (k : ℕ) (x : Place) (i d : ℕ) → i < length (ways_of book k x) → get_or (ways_of book k x) i d < activities book
-of_book rows book k Carry i d lt =
-    rising_below (activities book) Carry (heads_in (net_of book) k) (get_or (heads_in (net_of book) k) i d) ((rows book).heads k) (contained (heads_in (net_of book) k) i d lt)
-of_book rows book k (After a) i d lt =
-    rising_below (activities book) Carry (successors_in (net_of book) a) (get_or (successors_in (net_of book) a) i d) ((rows book).successors a) (contained (successors_in (net_of book) a) i d lt)
-
-pub are_all : UsableDecides → HeadsAreLinks → SuccessorsAreLinks → (book : BookSeen) (marks : List Fact) (k : ℕ) (x : Place) (b : ℕ) → k < aircraft book
-    → is_usable book marks k x b ≡ true → contains (ways_of book k x) b ≡ true
-are_all usable heads links book marks k Carry b lt on = (heads book k b).1 ((usable book marks k Carry b).0 on).link
-are_all usable heads links book marks k (After a) b lt on = (links book a b).1 (k, lt, ((usable book marks k (After a) b).0 on).link)
+pub are_all : RowsAreTheirPlaces → UsableDecides → HeadsAreLinks → SuccessorsAreLinks → WaysAreAll
+are_all places usable heads links book marks k Carry b lt on =
+    places.stands (heads_in (net_of book) k) b ((heads book k b).1 ((usable book marks k Carry b).0 on).link)
+are_all places usable heads links book marks k (After a) b lt on =
+    places.stands (successors_in (net_of book) a) b ((links book a b).1 (k, lt, ((usable book marks k (After a) b).0 on).link))
 
 module _ (book : BookSeen) (marks : List Fact) (k : ℕ) (duals : List ℤ) (family : List Label) (x : Place) (weight : ℤ) (values : List ℤ) where
   -- where all ways are met, every link is
@@ -69,7 +49,7 @@ module _ (book : BookSeen) (marks : List Fact) (k : ℕ) (duals : List ℤ) (fam
     where
       by_use : (b : ℕ) (can : Bool) → is_usable book marks k x b ≡ can → met book marks k duals family x weight values b ≡ true
       by_use b true e =
-          let (i, within, is) = stands_at items b (ap (λ (xs : List ℕ). contains xs b) are ∙ all book marks k x b lt e) in
+          let (i, within, is) = subst (λ (xs : List ℕ). (i : ℕ) × (i < length xs) × (get_or xs i 0 ≡ b)) (sym are) (all book marks k x b lt e) in
           subst (λ (z : ℕ). met book marks k duals family x weight values z ≡ true) is (each i within)
       by_use b false e =
           ap (λ (t : Bool). not (t && within_limits book.rules.counters (step book k x b values)) || is_covered_by family (label_after (costs_of book) book k duals x weight values b)) e

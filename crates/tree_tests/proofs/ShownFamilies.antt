@@ -2,21 +2,21 @@
 -- lines, so what is left to ask is whether the family goes on from the carry-in and from each label.
 use Rattle.std.specs.Prelude.{All, ◌==◌, ◌&&◌, nat_le}
 use Rattle.std.specs.List.{list_all}
-use Rattle.std.proofs.Common.{◌≡◌, ◌∙◌, ℕ, ℤ, pos, zero, suc, ◌<◌, ◌≤◌, Bool, true, false, List, [], ◌∷◌, length, get_or, refl, sym, ap, subst, arith}
+use Rattle.std.proofs.Common.{◌≡◌, ℕ, ℤ, pos, suc, ◌≤◌, Bool, true, false, List, [], ◌∷◌, length, get_or, refl, subst, arith}
 use Rattle.std.proofs.lemmas.Bool.{and_from}
 use Rattle.std.proofs.lemmas.Bool.Decides.{nat_tests}
 use Rattle.std.proofs.lemmas.List.{get_or_default}
 use Rattle.tail_book.specs.Seen.{BookSeen}
-use Rattle.tail_book.specs.Lookup.{activities, carry_of}
+use Rattle.tail_book.specs.Lookup.{carry_of}
 use Rattle.tail_book.specs.declared.place.Place.TheVariants.{Carry, After}
 use Rattle.tail_book.specs.inside.CostTable.{costs_of}
 use Rattle.tail_book.specs.inside.SoundTests.{each_pair}
 use Rattle.branch_marks.specs.declared.fact.Fact.{Fact}
 use Rattle.branch_marks.specs.Labels.{Label}
-use Rattle.branch_marks.specs.inside.FamilyTests.{goes_on, is_closed_family}
+use Rattle.branch_marks.specs.inside.FamilyTests.{goes_on}
 use Rattle.branch_marks.specs.inside.MarkTests.{is_alive}
 use Rattle.branch_marks.specs.inside.TreeTests.{is_shown_family}
-use Rattle.tree_tests.specs.inside.Buckets.{IsFamilyOf, IsInOrder, IsLabelOf, at_in, no_label}
+use Rattle.tree_tests.specs.inside.Buckets.{IsFamilyOf, IsInOrder, no_label}
 
 -- what holds of each element is what a test of all answers
 all_hold : (test : Label → Bool) (xs : List Label) → All (λ x. test x ≡ true) xs → list_all test xs ≡ true

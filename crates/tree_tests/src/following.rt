@@ -8,7 +8,8 @@ ghost use Rattle.tail_book.specs.Lookup.{activities, aircraft};
 ghost use Rattle.tail_book.specs.declared.place.Place.TheVariants.{After as PlaceAfter};
 ghost use Rattle.branch_marks.specs.Branches.{IsPairOf};
 ghost use Rattle.branch_marks.specs.Facts.{IsFactOf};
-ghost use Rattle.branch_marks.specs.Following.{IsDead, IsDeadConnection, IsOnlyCarrier};
+ghost use Rattle.branch_marks.specs.Following.{CannotGoBy, IsDead, IsDeadConnection, IsOnlyCarrier};
+ghost use Rattle.branch_marks.specs.Marks.{IsUsable};
 ghost use Rattle.branch_marks.specs.declared.fact.Fact.TheVariants.{Bar as FactBar, Cut as FactCut, Must as FactMust};
 ghost use Rattle.branch_marks.specs.inside.Below.{some_below};
 ghost use Rattle.branch_marks.specs.inside.BranchTests.{is_undecided};
@@ -22,15 +23,14 @@ ghost use Rattle.floor_rows.specs.inside.Neighbours.{goes_on_to};
 ghost use Rattle.tree_tests.specs.inside.Means.{AreMeansOf};
 
 use crate::means::Means;
-use branch_marks::laws::{alive_decides, follows_decides, usable_decides};
+use branch_marks::laws::follows_decides;
 use branch_marks::{Fact, Marks, Pair};
-use floor_rows::laws::successors_tell;
-use floor_rows::{FloorRow, goes_on, goes_on_over, put_floors};
-use tail_book::laws::{every_book_is_sound, limits_decide};
+use floor_rows::laws::asking_passes_over;
+use floor_rows::{FloorRow, may_go_over, put_floors};
+use tail_book::laws::every_book_is_sound;
 use tail_book::{Book, Place};
 
-// Whether an activity is dead for an aircraft.
-// Where the aircraft may end is asked before where it may go on, since it takes no step.
+// Whether an activity is dead for an aircraft. The floors are made for one that is alive alone.
 fn is_dead(
     book: &Book,
     means: &Means,
@@ -50,41 +50,11 @@ fn is_dead(
     ensures row { IsRowOf book.now row.new }
 {
     every_book_is_sound(book);
-    successors_tell();
     if !marks.alive(book, k, a) {
         return false;
     }
     put_floors(book, &means.net, &means.steps, marks, k, a + 1, row, values);
-    if !row.has(a as usize) {
-        return true;
-    }
-    if marks.may_end(book, k, Place::After(a)) {
-        return false;
-    }
-    !goes_on(book, &means.net, &means.steps, marks, k, a, row, values)
-}
-
-// The only carrier of an activity, if there is one that no Must names yet.
-fn carrier_at(book: &Book, marks: &Marks, a: u32) -> Option<u32>
-    requires marks { AreMarksOf book.now marks.now }
-    requires activity { a < activities book.now }
-    ensures some { IfSome result (λ k. IsOnlyCarrier book.now marks.now.facts k a) }
-    ensures none { IfNone result ((k : ℕ) → ¬ IsOnlyCarrier book.now marks.now.facts k a) }
-{
-    alive_decides();
-    marks.facts_are_of_book(book);
-    let m = book.tails.len() as u32;
-    let k = marks.next_alive(book, a, 0);
-    if k == m {
-        return None;
-    }
-    if marks.next_alive(book, a, k + 1) < m {
-        return None;
-    }
-    if marks.has(Fact::Must(k, a)) {
-        return None;
-    }
-    Some(k)
+    floor_rows::is_dead(book, &means.net, &means.steps, marks, k, a, row, values)
 }
 
 // Whether an aircraft is the only carrier of an activity.
@@ -93,13 +63,13 @@ fn is_only_carrier(book: &Book, marks: &Marks, k: u32, a: u32) -> bool
     requires activity { a < activities book.now }
     ensures { IsTrue result ↔ IsOnlyCarrier book.now marks.now.facts k a }
 {
-    match carrier_at(book, marks, a) {
+    match marks.only_carrier(book, a) {
         Some(carrier) => carrier == k,
         None => false,
     }
 }
 
-// Whether an aircraft that may use a link can go on over it, by its floors.
+// Whether an aircraft may use a link and goes on over it, by its floors.
 fn goes_over(
     book: &Book,
     means: &Means,
@@ -117,14 +87,13 @@ fn goes_over(
     requires to { b < activities book.now }
     requires row { IsRowOf book.now row.old }
     requires width { length values.old ≡ length book.now.rules.counters }
-    requires usable { is_usable book.now marks.now.facts k (PlaceAfter a) b ≡ true }
-    ensures some { (low : List ℤ) → floor_of book.now marks.now.facts k a ≡ Some low → result ≡ goes_on_to book.now marks.now.facts k a low b }
-    ensures none { floor_of book.now marks.now.facts k a ≡ None → result ≡ false }
+    ensures goes { result ≡ true → ¬ IsDeadConnection book.now marks.now.facts a b }
+    ensures cannot { result ≡ false → IsUsable book.now marks.now.facts k (PlaceAfter a) b → CannotGoBy book.now k a b (floor_of book.now marks.now.facts k a) }
     ensures row { IsRowOf book.now row.new }
 {
     every_book_is_sound(book);
     put_floors(book, &means.net, &means.steps, marks, k, a + 1, row, values);
-    goes_on_over(book, &means.steps, k, a, b, row, values)
+    may_go_over(book, &means.steps, marks, k, a, b, row, values)
 }
 
 // Whether a link is a dead connection.
@@ -146,9 +115,7 @@ fn is_dead_connection(
     ensures means { IsTrue result ↔ IsDeadConnection book.now marks.now.facts a b }
     ensures row { IsRowOf book.now row.new }
 {
-    alive_decides();
-    usable_decides();
-    limits_decide();
+    asking_passes_over();
     marks.facts_are_of_book(book);
     if marks.has(Fact::Cut(a, b)) {
         return false;

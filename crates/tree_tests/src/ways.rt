@@ -9,7 +9,9 @@ ghost use Rattle.tree_tests.specs.inside.Ways.{WaysAreAll, WaysAreOfBook, ways_o
 
 use crate::means::Means;
 use branch_marks::laws::usable_decides;
-use connection_net::laws::{heads_are_links, rows_for_each, rows_rise, successors_are_links};
+use connection_net::laws::{
+    heads_are_links, rows_are_their_places, rows_for_each, rows_rise, successors_are_links,
+};
 use tail_book::{Book, Place};
 
 /// The activities that an aircraft may come to from a place, by the network.
@@ -31,13 +33,15 @@ pub fn ways_are_of_book()
     ensures { WaysAreOfBook }
 {
     rows_rise();
+    rows_are_their_places();
 }
 
-/// Where a link is usable for an aircraft, it is one of its ways.
+/// Where a link is usable for an aircraft, what it leads to stands among the aircraft's ways.
 pub fn ways_are_all()
     ensures { WaysAreAll }
 {
     usable_decides();
     heads_are_links();
     successors_are_links();
+    rows_are_their_places();
 }

@@ -1,7 +1,11 @@
 //! Laws of floors, and of the facts that follow from marks. No floor is above what a way brings, and whatever legal
 //! plan the marks hold of, what follows from them holds of it too: so to add such facts loses no plan.
 
+ghost use Rattle.std.specs.Prelude.{ℕ, List};
+ghost use Rattle.tail_book.specs.Seen.{BookSeen};
+ghost use Rattle.branch_marks.specs.declared.fact.Fact.{Fact};
 ghost use Rattle.branch_marks.specs.Floors.{FloorsCount, FloorsAreLow};
+ghost use Rattle.branch_marks.specs.inside.FloorLaws.{FloorsComeInTurn, LesserInAnyOrder};
 ghost use Rattle.branch_marks.specs.Following.{FollowingFactsAreOfBook, FollowingFactsAreNew, FollowingFactsHold, FollowInTurnWithOneMore, FollowedMarksHold};
 
 use crate::laws::{marked_routes_fit, usable_decides};
@@ -13,6 +17,16 @@ use tail_book::laws::{
 /// There is a floor, or none, for each activity of the book.
 pub fn floors_count()
     ensures { FloorsCount }
+{}
+
+/// Each floor is made of those before it, and stays as it is while further ones are made.
+pub fn floors_come_in_turn()
+    ensures { (book : BookSeen) (marks : List Fact) (k : ℕ) → FloorsComeInTurn book marks k }
+{}
+
+/// The lesser of floors may be taken in any order.
+pub fn lesser_in_any_order()
+    ensures { LesserInAnyOrder }
 {}
 
 /// Where a way leads to an activity there is a floor, at most what the way brings.

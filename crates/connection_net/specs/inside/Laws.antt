@@ -1,6 +1,7 @@
 -- What the rows of a network are, in plain words.
-use Rattle.std.specs.Prelude.{ℕ, ◌<◌, ◌≡◌, ◌↔◌, true, length, IsTrue}
+use Rattle.std.specs.Prelude.{ℕ, ◌<◌, ◌≡◌, ◌↔◌, true, List, length, slice_index_or, IsTrue}
 use Rattle.tail_book.specs.Seen.{BookSeen}
+use Rattle.tail_book.specs.declared.place.Place.{Place}
 use Rattle.tail_book.specs.declared.place.Place.TheVariants.{Carry, After}
 use Rattle.tail_book.specs.Lookup.{activities, aircraft}
 use Rattle.tail_book.specs.Numbers.{contains}
@@ -48,3 +49,9 @@ pub record HasRowForEach (book : BookSeen) : Type 0 where
   pub successors : length (net_of book).successors ≡ activities book
   pub predecessors : length (net_of book).predecessors ≡ activities book
   pub heads : length (net_of book).heads ≡ aircraft book
+
+-- the law of places: a row has what stands at its places and nothing else, and if it rises below n, all that it has is below n
+pub record RowsAreTheirPlaces : Type 0 where
+  pub has : (row : List ℕ) (i d : ℕ) → i < length row → contains row (slice_index_or row i d) ≡ true
+  pub stands : (row : List ℕ) (b : ℕ) → contains row b ≡ true → (i : ℕ) × (i < length row) × (slice_index_or row i 0 ≡ b)
+  pub below : (n : ℕ) (x : Place) (row : List ℕ) (b : ℕ) → IsRisingFrom n x row → contains row b ≡ true → b < n

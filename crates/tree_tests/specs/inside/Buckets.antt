@@ -1,5 +1,5 @@
 -- The labels of one activity, which stand side by side where labels come in order of activity.
-use Rattle.std.specs.Prelude.{ℕ, ℤ, pos, ◌≡◌, ◌<◌, ◌≤◌, true, List, [], All, length, slice_index_or}
+use Rattle.std.specs.Prelude.{ℕ, pos, ◌≡◌, ◌<◌, ◌≤◌, true, List, [], All, length, slice_index_or}
 use Rattle.tail_book.specs.Seen.{BookSeen}
 use Rattle.branch_marks.specs.declared.fact.Fact.{Fact}
 use Rattle.branch_marks.specs.inside.MarkTests.{is_alive}

@@ -15,5 +15,5 @@ loop-x-preserved c =
     let before : All (λ x. x < c.args.b) items
     = subst (λ (xs : List ℕ). All (λ x. x < c.args.b) xs) (sym are) (c.predecessors_come_before.ensures book c.every_book_is_sound.ensures c.args.b c.requires.activity) in
     let within : c.loop-x.x-index < length items = omega arith in
-    next_of book c.args.marks.now.facts c.args.k c.args.b c.loop-x.x-index c.args.row.now c.loop-x.row c.come_from.new.row items
+    next_of c.lesser_in_any_order.ensures book c.args.marks.now.facts c.args.k c.args.b c.loop-x.x-index c.args.row.now c.loop-x.row c.come_from.new.row items
     within before c.requires.before c.loop-x.invariant c.come_from.ensures

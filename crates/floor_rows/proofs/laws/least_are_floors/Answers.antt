@@ -3,4 +3,4 @@ use Rattle.floor_rows.proofs.LeastOver.{least_floors}
 use Rattle.floor_rows.proofs.laws.least_are_floors.Goals as goal
 
 pub returns : goal.returns
-returns c book marks k floor is b lt = least_floors book marks k floor is (activities book) b lt lt
+returns c book marks k floor is b lt = least_floors c.floors_are_least.ensures book marks k floor is (activities book) b lt lt

@@ -8,13 +8,13 @@ use Rattle.pricing.proofs.fill.try_links.Goals as goal
 -- what stands at a place of the row is of the book
 pub try_link-requires-clause-place : goal.try_link-requires-clause-place
 try_link-requires-clause-place c =
-    (predecessor c.predecessors_are_links.ensures c.args.book.now c.args.net.now c.requires.net c.args.b c.predecessors-before.result.now c.predecessors-before.ensures
+    (predecessor c.rows_are_their_places.ensures c.predecessors_are_links.ensures c.args.book.now c.args.net.now c.requires.net c.args.b c.predecessors-before.result.now c.predecessors-before.ensures
     c.rising_routes_are_below.ensures (c.rows_rise.ensures c.args.book.now) c.links_rise.ensures c.every_book_is_sound.ensures c.requires.activity c.loop-i.i (omega arith)).0
 
 -- and before the activity
 pub try_link-requires-clause-later : goal.try_link-requires-clause-later
 try_link-requires-clause-later c =
-    (predecessor c.predecessors_are_links.ensures c.args.book.now c.args.net.now c.requires.net c.args.b c.predecessors-before.result.now c.predecessors-before.ensures
+    (predecessor c.rows_are_their_places.ensures c.predecessors_are_links.ensures c.args.book.now c.args.net.now c.requires.net c.args.b c.predecessors-before.result.now c.predecessors-before.ensures
     c.rising_routes_are_below.ensures (c.rows_rise.ensures c.args.book.now) c.links_rise.ensures c.every_book_is_sound.ensures c.requires.activity c.loop-i.i (omega arith)).1
 
 -- one more was tried, and its rows were those of the beginning
@@ -27,7 +27,7 @@ loop-i-preserved c =
     let there = c.predecessors-before.result.now in
     let i = c.loop-i.i in
     let x = get_or there i 0 in
-    let bounds = predecessor c.predecessors_are_links.ensures c.args.book.now c.args.net.now c.requires.net c.args.b there c.predecessors-before.ensures
+    let bounds = predecessor c.rows_are_their_places.ensures c.predecessors_are_links.ensures c.args.book.now c.args.net.now c.requires.net c.args.b there c.predecessors-before.ensures
     c.rising_routes_are_below.ensures (c.rows_rise.ensures c.args.book.now) c.links_rise.ensures c.every_book_is_sound.ensures c.requires.activity i (omega arith) in
     let later : x < c.args.b = bounds.1 in
     let place : x < length first.buckets = omega (arith, later, c.requires.activity, c.requires.state.nodes) in
@@ -46,7 +46,7 @@ loop-i-preserved c =
 -- each activity from which the link is usable stands at a place
 pub returns-clause-reached : goal.returns-clause-reached
 returns-clause-reached c = λ x before usable.
-    let (q, lt, here) = place_of_predecessor c.predecessors_are_links.ensures c.args.book.now c.args.net.now c.requires.net c.args.b
+    let (q, lt, here) = place_of_predecessor c.rows_are_their_places.ensures c.predecessors_are_links.ensures c.args.book.now c.args.net.now c.requires.net c.args.b
     c.predecessors-before.result.now c.predecessors-before.ensures c.args.k x c.requires.asked.aircraft usable.link in
     let below : q < c.loop-i.i = omega (arith, lt) in
     subst (λ (y : ℕ). IsReached c.args.table.now c.args.book.now c.args.marks.now.facts c.args.k c.args.duals.now.values c.args.store.now y c.args.b c.loop-i.store) here

@@ -31,11 +31,11 @@ loop-a-init c = (
 )
 
 pub loop-a-preserved : goal.loop-a-preserved
-loop-a-preserved c = elim c.match-carrier_at.branch [
+loop-a-preserved c = elim c.match-only_carrier.branch [
   | in-Some+in_ok-carry w ↦
       rw w.marks-is (rw w.facts-is (rw w.rows-is (rw w.work-is (
         carry_found c.args.book.now c.args.marks.now c.loop-a.marks w.carry.new.marks c.args.facts.now.items c.loop-a.facts.items w.carry.new.facts.items
-            c.loop-a.rows w.carry.new.rows c.loop-a.some c.match-carrier_at.some c.loop-a.a c.loop-a.invariant.0
+            c.loop-a.rows w.carry.new.rows c.loop-a.some c.match-only_carrier.some c.loop-a.a c.loop-a.invariant.0
             w.carry.ensures.marks w.carry.ensures.grows w.carry.ensures.rows w.in_ok-carry.ensures.stand w.in_ok-carry.ensures.fewer w.some-is,
         w.carry.ensures.work,
         all_both c.args.work.now.leave.items c.loop-a.work.leave.items w.carry.new.work.leave.items c.args.rows.now c.loop-a.rows w.carry.new.rows

@@ -28,7 +28,7 @@ loop-b-preserved c =
 pub returns-clause-cut : goal.returns-clause-cut
 returns-clause-cut c =
     let items = c.successors-b-items.result.now in
-    none_dead c.successors_are_links.ensures c.args.book.now c.loop-b.marks.facts c.args.a items
+    none_dead c.rows_are_their_places.ensures c.successors_are_links.ensures c.args.book.now c.loop-b.marks.facts c.args.a items
     (c.successors-b-items.ensures ∙ ap (λ (net : NetSeen). successors_in net c.args.a) c.requires.net)
     (λ i lt. c.loop-b.invariant.1 i (omega (arith, lt)))
 

@@ -1,6 +1,6 @@
 use Rattle.std.proofs.Common.{◌-◌}
 use Rattle.tail_book.specs.Lookup.{aircraft}
-use Rattle.propagator.proofs.DeadLinks.{AreAsked}
+use Rattle.floor_rows.specs.inside.AskedLinks.{AreAsked}
 use Rattle.propagator.proofs.dead_links.is_dead_link.Given as goal
 
 -- the aircraft below k are asked

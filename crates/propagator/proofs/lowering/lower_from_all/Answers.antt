@@ -18,7 +18,7 @@ before come book sound net b lt is = subst (λ (n : NetSeen). All (λ x. x < b) 
 -- one predecessor more is taken in
 pub loop-i-preserved : goal.loop-i-preserved
 loop-i-preserved c = (
-  next_of c.args.book.now c.args.marks.now.facts c.args.k c.args.b c.args.row.now c.requires.below c.loop-i.row c.lower_from-lowered.new.row
+  next_of c.args.book.now c.args.marks.now.facts c.args.k c.args.b c.args.row.now c.requires.below c.lesser_in_any_order.ensures c.loop-i.row c.lower_from-lowered.new.row
       c.predecessors-places.result.now (predecessors_in c.args.net.now c.args.b) c.loop-i.i c.predecessors-places.ensures
       (before c.predecessors_come_before.ensures c.args.book.now c.every_book_is_sound.ensures c.args.net.now c.args.b c.requires.activity c.requires.net)
       (search rules) (search rules) c.loop-i.invariant.0 c.lower_from-lowered.ensures.set,
@@ -41,7 +41,7 @@ returns-then-is-2 c =
     let items = c.predecessors-places.result.now in
     back_lowered c.args.book.now c.args.marks.now.facts c.args.k c.args.b c.args.row.now c.requires.below c.lower_from-lowered.new.row c.args.before.now
     (take (c.loop-i.i - 1) items)
-    (next_of c.args.book.now c.args.marks.now.facts c.args.k c.args.b c.args.row.now c.requires.below c.loop-i.row c.lower_from-lowered.new.row
+    (next_of c.args.book.now c.args.marks.now.facts c.args.k c.args.b c.args.row.now c.requires.below c.lesser_in_any_order.ensures c.loop-i.row c.lower_from-lowered.new.row
     items (predecessors_in c.args.net.now c.args.b) c.loop-i.i c.predecessors-places.ensures
     (before c.predecessors_come_before.ensures c.args.book.now c.every_book_is_sound.ensures c.args.net.now c.args.b c.requires.activity c.requires.net)
     (search rules) (search rules) c.loop-i.invariant.0 c.lower_from-lowered.ensures.set)

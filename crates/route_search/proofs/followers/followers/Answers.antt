@@ -8,14 +8,14 @@ use Rattle.route_search.proofs.followers.followers.Goals as goal
 pub only-requires : goal.only-requires
 only-requires c = record {
   rises = does_not_fall (activities c.args.task.now.book.now) Carry c.successors-next.result.now
-      (successors_rise c.args.task.now.book.now c.args.task.now.net.now c.requires.task.net c.successors-next.result.now c.args.x c.successors-next.ensures
+      (successors_rise c.rows_are_their_places.ensures c.args.task.now.book.now c.args.task.now.net.now c.requires.task.net c.successors-next.result.now c.args.x c.successors-next.ensures
       (c.rows_rise.ensures c.args.task.now.book.now));
 }
 
 -- whatever is usable is a successor
 pub returns-in-Nothing : goal.returns-in-Nothing
 returns-in-Nothing c =
-    all_successors c.args.task.now.book.now c.args.task.now.net.now c.requires.task.net c.successors-next.result.now c.args.x c.successors-next.ensures
+    all_successors c.rows_are_their_places.ensures c.args.task.now.book.now c.args.task.now.net.now c.requires.task.net c.successors-next.result.now c.args.x c.successors-next.ensures
     c.rising_routes_are_below.ensures (c.rows_rise.ensures c.args.task.now.book.now) c.successors_follow.ensures c.every_task_is_sound.ensures.book
     c.successors_are_links.ensures c.args.task.now.marks.now.facts c.args.task.now.k c.requires.task.aircraft
 
@@ -25,8 +25,8 @@ returns-in-One c =
     let book = c.args.task.now.book.now in
     let facts = c.args.task.now.marks.now.facts in
     let k = c.args.task.now.k in
-    one_alone book facts k c.args.x c.successors-next.result.now c.in-One.b c.only.result.now c.only.ensures
-    (all_successors book c.args.task.now.net.now c.requires.task.net c.successors-next.result.now c.args.x c.successors-next.ensures
+    one_alone c.rows_are_their_places.ensures book facts k c.args.x c.successors-next.result.now c.in-One.b c.only.result.now c.only.ensures
+    (all_successors c.rows_are_their_places.ensures book c.args.task.now.net.now c.requires.task.net c.successors-next.result.now c.args.x c.successors-next.ensures
     c.rising_routes_are_below.ensures (c.rows_rise.ensures book) c.successors_follow.ensures c.every_task_is_sound.ensures.book
     c.successors_are_links.ensures facts k c.requires.task.aircraft)
     (named_alone book facts k c.args.x c.in-One.b c.in-One.ensures)

@@ -3,4 +3,4 @@ use Rattle.route_search.proofs.followers.only.Goals as goal
 
 -- the list does not have what is not found
 pub returns-in-Err : goal.returns-in-Err
-returns-in-Err c = nothing_left c.args.next.now c.args.b c.in-Err.field-0 c.requires.rises c.in-Err.ensures.position
+returns-in-Err c = nothing_left c.rows_are_their_places.ensures c.args.next.now c.args.b c.in-Err.field-0 c.requires.rises c.in-Err.ensures.position

@@ -11,7 +11,7 @@ use Rattle.route_search.proofs.reach.begin.Goals as goal
 -- what stands at a place of the row is of the book
 pub try_first-requires-clause-activity : goal.try_first-requires-clause-activity
 try_first-requires-clause-activity c =
-    head c.args.task.now.book.now c.args.task.now.net.now c.requires.task.net c.heads-first.result.now c.args.task.now.k c.heads-first.ensures
+    head c.rows_are_their_places.ensures c.args.task.now.book.now c.args.task.now.net.now c.requires.task.net c.heads-first.result.now c.args.task.now.k c.heads-first.ensures
     c.rising_routes_are_below.ensures (c.rows_rise.ensures c.args.task.now.book.now) c.loop-i.i (omega arith)
 
 pub loop-i-preserved : goal.loop-i-preserved
@@ -31,7 +31,7 @@ loop-i-preserved c =
 -- each activity that may come first stands at a place
 pub returns-clause-begun : goal.returns-clause-begun
 returns-clause-begun c = λ b usable.
-    let (q, lt, here) = place_of_head c.args.task.now.book.now c.args.task.now.net.now c.requires.task.net c.heads-first.result.now c.args.task.now.k
+    let (q, lt, here) = place_of_head c.rows_are_their_places.ensures c.args.task.now.book.now c.args.task.now.net.now c.requires.task.net c.heads-first.result.now c.args.task.now.k
     c.heads-first.ensures c.heads_are_links.ensures b usable.link in
     let below : q < c.loop-i.i = omega (arith, lt) in
     subst (λ (limit : ℤ). IsTried c.args.task.now.table.now c.args.task.now.book.now c.args.task.now.marks.now.facts c.args.task.now.k c.args.task.now.duals.now.values limit c.loop-i.store Carry (first_row c.args.task.now.book.now c.args.task.now.k) b) (to_z-of_z w64 c.args.limit c.ranges.limit)

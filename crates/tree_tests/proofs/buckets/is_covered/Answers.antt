@@ -1,4 +1,4 @@
-use Rattle.std.proofs.Common.{◌≡◌, ◌∙◌, ℤ, ◌<◌, ◌≤◌, ◌+◌, ap, arith, length, refl, sym, subst, false, Bool}
+use Rattle.std.proofs.Common.{◌≡◌, ◌∙◌, ℤ, ◌<◌, ◌+◌, ap, arith, length, sym, subst, false}
 use Rattle.std.specs.Prelude.{slice_index_or}
 use Rattle.std.proofs.lemmas.Int.{to_z-of_z}
 use Rattle.std.proofs.lemmas.List.{get_or_default}

@@ -1,4 +1,3 @@
-use Rattle.std.specs.Prelude.{not, ◌&&◌, ◌||◌}
 use Rattle.std.proofs.Common.{◌<◌, ◌≡◌, ℕ, true, get_or}
 use Rattle.tree_tests.proofs.MetWays.{met}
 use Rattle.tree_tests.proofs.covering.goes_on.Given as goal

@@ -1,10 +1,9 @@
-use Rattle.std.specs.Prelude.{◌&&◌, ◌||◌, ◌+ℤ◌, not}
-use Rattle.std.proofs.Common.{◌≡◌, ◌∙◌, ℤ, Bool, true, List, ap, sym, subst}
+use Rattle.std.specs.Prelude.{◌+ℤ◌}
+use Rattle.std.proofs.Common.{◌≡◌, ◌∙◌, ℤ, true, List, ap, sym, subst}
 use Rattle.std.proofs.lemmas.Int.{to_z-of_z}
 use Rattle.tail_book.specs.Counters.{step}
 use Rattle.tail_book.specs.inside.CostTable.{costs_of}
 use Rattle.tail_book.specs.inside.Tests.{within_limits}
-use Rattle.branch_marks.specs.Labels.{label_after}
 use Rattle.branch_marks.specs.Weights.{arc_weight}
 use Rattle.branch_marks.specs.inside.FamilyTests.{is_covered_by}
 use Rattle.branch_marks.specs.inside.MarkTests.{is_usable}

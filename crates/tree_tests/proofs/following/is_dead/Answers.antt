@@ -1,31 +1,8 @@
-use Rattle.std.proofs.Common.{◌<◌, ◌+◌, ◌∙◌, ℤ, List, Option, arith, false, ap, refl, sym}
-use Rattle.std.specs.Prelude.{is_some}
-use Rattle.std.proofs.lemmas.Bool.{both_ways}
-use Rattle.floor_rows.specs.inside.LeastOver.{floor_of}
-use Rattle.tree_tests.proofs.FollowingTold.{dead_arrival, end_tells}
+use Rattle.std.proofs.Common.{◌<◌, ◌+◌, arith}
 use Rattle.tree_tests.proofs.following.is_dead.Goals as goal
 
--- it is alive, and never comes there
-pub returns-then-not-has-clause-means : goal.returns-then-not-has-clause-means
-returns-then-not-has-clause-means c =
-    let here : c.args.a < c.args.a + 1 = omega arith in (
-      (λ _. dead_arrival c.args.book.now c.args.marks.now.facts c.args.k c.args.a c.requires.aircraft c.requires.activity (c.if-not-alive.ensures.means.0 refl)
-          (ap (λ (floor : Option (List ℤ)). is_some floor) (sym (c.put_floors.ensures.floors c.args.a here)) ∙ sym c.if-not-has.ensures)),
-      (λ _. refl),
-    )
-
--- it is alive, has a floor and may not end: so what goes on decides
-pub returns-clause-means : goal.returns-clause-means
-returns-clause-means c =
-    let book = c.args.book.now in
-    let marks = c.args.marks.now.facts in
-    let k = c.args.k in
-    let a = c.args.a in
+-- the floors up to the activity have been put, its own with them
+pub is_dead-requires-clause-floor : goal.is_dead-requires-clause-floor
+is_dead-requires-clause-floor c =
     let here : c.args.a < c.args.a + 1 = omega arith in
-    let is = c.put_floors.ensures.floors c.args.a here in
-    end_tells book marks k a c.requires.aircraft c.requires.activity
-    (c.if-not-alive.ensures.means.0 refl) (λ may. both_ways false refl (c.if-may_end.ensures.means.1 may))
-    (floor_of book marks k a) refl
-    (ap (λ (floor : Option (List ℤ)). is_some floor) (sym is) ∙ sym c.if-not-has.ensures)
-    (c.successors_tell.ensures book marks k a) c.goes_on.result
-    (λ low e. c.goes_on.ensures low (is ∙ e))
+    c.put_floors.ensures.floors c.args.a here

@@ -1,7 +1,7 @@
 use Rattle.std.proofs.Common.{◌-◌}
 use Rattle.tail_book.specs.Lookup.{aircraft}
 use Rattle.floor_rows.specs.inside.FloorRow.{IsRowOf}
-use Rattle.tree_tests.proofs.FollowingTold.{AreAsked}
+use Rattle.floor_rows.specs.inside.AskedLinks.{AreAsked}
 use Rattle.tree_tests.proofs.following.is_dead_connection.Given as goal
 
 -- the aircraft below k are asked, and the row is of the book

@@ -1,5 +1,5 @@
-use Rattle.std.proofs.Common.{◌≡◌, ◌∙◌, ◌∷◌, List, [], sym, subst, ap, take}
-use Rattle.std.specs.Prelude.{◌++◌, reverse}
+use Rattle.std.proofs.Common.{◌∙◌, List, [], sym, subst, ap}
+use Rattle.std.specs.Prelude.{reverse}
 use Rattle.branch_marks.specs.declared.fact.Fact.{Fact}
 use Rattle.tree_tests.specs.inside.OpenBranches.{AreBehind, AreOnce, owed_behind}
 use Rattle.tree_tests.proofs.BranchLists.{behind_more, once_more, owed_more}

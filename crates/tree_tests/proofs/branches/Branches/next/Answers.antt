@@ -1,7 +1,7 @@
 use Rattle.std.proofs.Common.{◌≡◌, ◌∙◌, ◌∷◌, List, [], sym, subst, ap, take}
 use Rattle.std.specs.Prelude.{◌++◌, reverse}
 use Rattle.branch_marks.specs.declared.fact.Fact.{Fact}
-use Rattle.std.proofs.Common.{rules, refl, true, false, Bool}
+use Rattle.std.proofs.Common.{rules, Bool}
 use Rattle.std.specs.Prelude.{if◌then◌else◌}
 use Rattle.tree_tests.specs.inside.OpenBranches.{AreBehind, AreOnce, behind_of, owed_behind}
 use Rattle.tree_tests.proofs.BranchLists.{next_is, once_front, once_more}

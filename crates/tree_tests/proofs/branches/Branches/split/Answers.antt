@@ -1,4 +1,4 @@
-use Rattle.std.proofs.Common.{◌≡◌, ◌∙◌, ◌∷◌, List, [], sym, subst, ap, take}
+use Rattle.std.proofs.Common.{◌≡◌, ◌∷◌, List, [], sym, subst}
 use Rattle.std.specs.Prelude.{◌++◌, reverse}
 use Rattle.branch_marks.specs.declared.fact.Fact.{Fact}
 use Rattle.std.proofs.Common.{length, rules, refl}
