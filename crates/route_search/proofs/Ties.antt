@@ -2,12 +2,13 @@
 -- induction over the facts b is what is named behind x, if anything is. Where one activity is named, nothing else is
 -- usable, and the rest of the row may be left out; where several are that differ, nothing is. The row rises, so a
 -- search by halves finds the one that is named, or shows that it is not there.
-use Rattle.std.proofs.Common.{◌≡◌, ℕ, zero, suc, ◌<◌, ◌≤◌, inl, inr, ◌∙◌, Bool, true, false, cond, arith, refl, List, [], ◌∷◌, length, subst, sym, ap, get_or}
-use Rattle.std.specs.Prelude.{All, Option, None, Some, Err, nat_eq}
+use Rattle.std.proofs.Common.{◌≡◌, ℕ, zero, suc, ◌<◌, ◌≤◌, inl, inr, ◌∙◌, Bool, true, false, cond, arith, refl, List, [], ◌∷◌, length, take, drop, ◌+◌, ◌-◌, subst, sym, ap, get_or}
+use Rattle.std.specs.Prelude.{All, Option, None, Some, Ok, Err, nat_eq}
 use Rattle.std.specs.List.Sorted.{IsNonDecreasing, IsBinarySearchResult}
 use Rattle.std.specs.Ordering.{nat_cmp}
 use Rattle.std.proofs.lemmas.Bool.{cases_lt, eqb-true, eq-eqb, false_from_ne_true, false≢true}
 use Rattle.std.proofs.lemmas.List.Elements.{All-head, All-tail}
+use Rattle.std.proofs.lemmas.List.{drop_more}
 use Rattle.std.proofs.lemmas.List.Sorted.{searched}
 use Rattle.tail_book.specs.Seen.{BookSeen}
 use Rattle.tail_book.specs.declared.place.Place.{Place}
@@ -90,6 +91,18 @@ missed row b i before behind q lt is = elim (cases_lt q i) [
   | inl less ↦ let low = before q less in omega (arith, low, is)
   | inr le ↦ let high = behind q le lt in omega (arith, high, is)
 ]
+
+-- and what it has found stands alone
+pub found_alone : RowsAreTheirPlaces → (row : List ℕ) (b i : ℕ) → IsNonDecreasing row → IsBinarySearchResult (λ y. nat_cmp y b) row (Ok i)
+    → take (i + 1 - i) (drop i row) ≡ only row b
+found_alone places row b i rises found =
+    let (within, here) = searched row b (Ok i) found (λ p q le lt. rises p q 0 le lt) in
+    let one : i + 1 - i ≡ 1 = omega arith in
+    let has : contains row b ≡ true = subst (λ (a : ℕ). contains row a ≡ true) here (places.has row i 0 within) in
+    ap (λ (n : ℕ). take n (drop i row)) one
+    ∙ ap (λ (xs : List ℕ). take 1 xs) (drop_more row i 0 within)
+    ∙ ap (λ (a : ℕ). a ∷ []) here
+    ∙ ap (λ (t : Bool). cond t (b ∷ []) []) (sym has)
 
 pub nothing_left : RowsAreTheirPlaces → (row : List ℕ) (b i : ℕ) → IsNonDecreasing row → IsBinarySearchResult (λ y. nat_cmp y b) row (Err i) → [] ≡ only row b
 nothing_left places row b i rises found =
