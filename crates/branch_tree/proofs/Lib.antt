@@ -17,7 +17,7 @@ pub mod NodeStops
 pub mod Visits
 pub mod PairChoices
 pub mod LineFacts
-pub mod Carriers
+pub mod Holes
 pub mod Stopping
 pub mod OpenPlaces
 pub mod Room

@@ -5,38 +5,24 @@
 
 ghost use Rattle.std.specs.Prelude.{◌≡◌, ◌<◌, All, length, IfSome, IfNone};
 ghost use Rattle.tail_book.specs.Lookup.{activities, aircraft};
-ghost use Rattle.tail_book.specs.Numbers.{contains};
 ghost use Rattle.tail_book.specs.Plan.{route_of};
 ghost use Rattle.tail_book.specs.declared.place.Place.TheVariants.{Carry};
 ghost use Rattle.tail_book.specs.inside.Rising.{IsRisingFrom};
 ghost use Rattle.branch_marks.specs.Branches.{IsUndecided};
 ghost use Rattle.branch_marks.specs.inside.MarkTables.{AreMarksOf};
-ghost use Rattle.dive_heuristic.specs.Choice.{IsCarrierOf, IsChoice};
 ghost use Rattle.dive_heuristic.specs.Dive.{HasNoHole};
 ghost use Rattle.dive_heuristic.specs.LeastRoutes.{AreLeastRoutes, IsEachInOne};
 ghost use Rattle.branch_tree.specs.Choice.{IsChosenPair, IsPairAt};
 ghost use Rattle.branch_tree.specs.inside.Choosing.{IsHolderFrom, HasNoHolderFrom, InOne, IsLeastNotInOne};
 
-use branch_marks::laws::alive_decides;
 use branch_marks::{Fact, Marks, Pair};
 use dive_heuristic::laws::choices_are_undecided;
+use dive_heuristic::{carrier, route_has};
 use tail_book::laws::{
     every_book_is_sound, flown_is_count, flown_once_is_in_one_route, legal_routes_rise,
     rising_routes_are_below,
 };
 use tail_book::{Book, CostTable, Duals, Route};
-
-// Whether a route has an activity.
-fn has(route: &[u32], a: u32) -> bool
-    ensures { result ≡ contains route.now a }
-{
-    for b in route {
-        if a == *b {
-            return true;
-        }
-    }
-    false
-}
 
 // The least aircraft from a number on whose route has an activity.
 fn holder(book: &Book, routes: &[Route], a: u32, from: u32) -> Option<u32>
@@ -47,7 +33,7 @@ fn holder(book: &Book, routes: &[Route], a: u32, from: u32) -> Option<u32>
     every_book_is_sound(book);
     for k in from..book.tails.len() as u32 {
         let route = &routes[k as usize];
-        if has(&route.0, a) {
+        if route_has(&route.0, a) {
             return Some(k);
         }
     }
@@ -82,21 +68,6 @@ fn least_not_in_one(book: &Book, routes: &[Route]) -> Option<u32>
         }
     }
     None
-}
-
-// The least aircraft whose route has an activity or, where none has it, the least that it is alive for.
-fn carrier(book: &Book, marks: &Marks, routes: &[Route], a: u32) -> u32
-    requires marks { AreMarksOf book.now marks.now }
-    requires one_each { length routes.now ≡ aircraft book.now }
-    requires activity { a < activities book.now }
-    requires somebody { HasNoHole book.now marks.now.facts }
-    ensures { IsCarrierOf book.now marks.now.facts routes.now a result }
-{
-    alive_decides();
-    if let Some(k) = holder(book, routes, a, 0) {
-        return k;
-    }
-    marks.next_alive(book, a, 0)
 }
 
 // The link into an activity of a route, unless it is tied or there is none, and then that the aircraft flies the activity.

@@ -14,8 +14,8 @@ use branch_marks::Marks;
 use branch_marks::laws::alive_decides;
 use tail_book::{Book, Route};
 
-// Whether a route has an activity.
-fn has(route: &[u32], a: u32) -> bool
+/// Whether a route has an activity.
+pub fn route_has(route: &[u32], a: u32) -> bool
     ensures { result ≡ contains route.now a }
 {
     for b in route {
@@ -34,7 +34,7 @@ fn holder(book: &Book, routes: &[Route], a: u32) -> Option<u32>
 {
     for k in 0..book.tails.len() as u32 {
         let route = &routes[k as usize];
-        if has(&route.0, a) {
+        if route_has(&route.0, a) {
             return Some(k);
         }
     }

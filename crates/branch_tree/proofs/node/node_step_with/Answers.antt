@@ -5,7 +5,7 @@ use Rattle.branch_tree.specs.Node.{Hole}
 use Rattle.branch_tree.specs.Place.{Open}
 use Rattle.branch_tree.specs.declared.step.Step.TheVariants as step
 use Rattle.branch_tree.specs.inside.Leaf.{Whole}
-use Rattle.branch_tree.proofs.Carriers.{hole_is, no_hole_unless}
+use Rattle.branch_tree.proofs.Holes.{hole_is, no_hole_unless}
 use Rattle.branch_tree.proofs.NodeStops.{end_stops, shut_stops, steps_stop}
 use Rattle.branch_tree.proofs.Visits.{visited}
 use Rattle.branch_tree.proofs.node.node_step_with.Goals as goal

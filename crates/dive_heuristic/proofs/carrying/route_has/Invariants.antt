@@ -1,6 +1,6 @@
 use Rattle.std.proofs.Common.{◌≡◌, drop}
 use Rattle.tail_book.specs.Numbers.{contains}
-use Rattle.dive_heuristic.proofs.carrying.has.Given as goal
+use Rattle.dive_heuristic.proofs.carrying.route_has.Given as goal
 
 -- what is left of the route decides
 abbrev pub invariant-loop-b : goal.invariant-loop-b
