@@ -3,18 +3,16 @@
 use Rattle.std.proofs.Common.{◌≡◌, ℕ, zero, suc, ℤ, ◌≤ℤ◌, ◌<◌, arith, refl, List, [], ◌∷◌, length, Option, None, Some, sym, ◌∙◌, ap, subst}
 use Rattle.std.specs.Prelude.{All, slice_index_or}
 use Rattle.std.specs.List.{Contains, concat}
-use Rattle.std.proofs.lemmas.Int.{ints}
 use Rattle.std.proofs.lemmas.List.{get_or-map, length-map}
 use Rattle.std.proofs.lemmas.List.Elements.{All-nil, All-append, All-map, All-contains, All-contains_itself, Contains-append_left, Contains-append_right}
 use Rattle.tail_book.specs.Seen.{BookSeen}
 use Rattle.tail_book.specs.inside.Seen.{CostTableSeen}
 use Rattle.tail_book.specs.declared.place.Place.{Place}
 use Rattle.tail_book.specs.declared.place.Place.TheVariants.{Carry, After}
-use Rattle.tail_book.specs.Lookup.{activities, aircraft, carry_of, no_tail}
+use Rattle.tail_book.specs.Lookup.{activities, aircraft}
 use Rattle.tail_book.specs.inside.Order.{EachAtMost}
 use Rattle.tail_book.specs.inside.Rising.{LinksRise}
 use Rattle.tail_book.specs.inside.Sound.{IsBook}
-use Rattle.maint_counters.specs.inside.Counts.{AreCounts}
 use Rattle.branch_marks.specs.declared.fact.Fact.{Fact}
 use Rattle.branch_marks.specs.inside.Fitting.{FitsIsUsableToItsEnd}
 use Rattle.branch_marks.specs.DeadEnds.{IsStuck}
@@ -28,9 +26,10 @@ use Rattle.label_store.specs.Store.{bucket_of, IsStore, IsRowOf}
 use Rattle.label_store.specs.inside.Laws.{IsCoveredAt}
 use Rattle.pricing.specs.declared.end.End.{End}
 use Rattle.pricing.specs.Rows.{weight_of, counters_of, label_of, labels_of, route_to}
-use Rattle.pricing.specs.inside.Truth.{IsTrueAt, AreTrue, IsKept}
+use Rattle.pricing.specs.inside.Truth.{AreTrue}
 use Rattle.pricing.specs.inside.Filled.{AreFilled}
 use Rattle.pricing.specs.inside.Ends.{IsLeastEnd}
+use Rattle.pricing.proofs.Truths.{kept_true}
 
 -- what one of the lists has they have together, and what holds of each element of each list holds of each of all
 concat_has : (lists : List (List ℕ)) (b j : ℕ) → b < length lists → Contains (slice_index_or lists b []) j → Contains (concat lists) j
@@ -96,29 +95,11 @@ module _ (store : StoreSeen) (sound : IsStore store) where
           none.next b (below_node b lt) (subst (λ (a : ℕ). MayEnd marks k (After a)) (row_of_bucket b j lt has).place may) j has);
     })
 
-    -- the carry-in is true, with the empty route
-    carry_counts : IsBook book → k < aircraft book → AreCounts (carry_of book k)
-    carry_counts sound_book hk i d lt =
-        let range = (sound_book.tails k no_tail hk).carry i d lt in
-        record { least = range.least; most = omega (arith, ints, range.most) }
-
-    true_at : IsBook book → k < aircraft book → AreTrue table book marks k duals store → (row : Option ℕ) → IsKept store row
-        → IsTrueAt table book marks k duals store row
-    true_at sound_book hk truths None kept = record {
-      legal = tt;
-      usable = tt;
-      values = refl;
-      place = refl;
-      alive = tt;
-      counts = carry_counts sound_book hk;
-    }
-    true_at sound_book hk truths (Some j) kept = truths j kept
-
     pub least : ClosedFamiliesBound → FitsIsUsableToItsEnd → (end : End) → IsBook book → k < aircraft book → AreTrue table book marks k duals store
         → IsClosedFamily table book marks k duals (labels_of store) → IsLeastEnd book marks k store (activities book) (Some end)
         → IsLeastWeight table book marks k duals end.value × IsRouteOfWeight table book marks k duals end.value (route_to store end.row)
     least bound fits end sound_book hk truths family best =
-        let truth = true_at sound_book hk truths end.row best.one.kept in
+        let truth = kept_true table book marks k duals store sound_book hk truths end.row best.one.kept in
         let route = route_to store end.row in
         let attains : IsRouteOfWeight table book marks k duals end.value route = record {
           legal = truth.legal;

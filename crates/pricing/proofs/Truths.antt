@@ -1,15 +1,19 @@
 -- Each row is true: it stays so while rows come, and a row that is offered over a usable link and within the limits is true
--- as it enters, since the route to it is that to its parent with one activity more.
-use Rattle.std.proofs.Common.{◌≡◌, ℕ, ℤ, ◌<◌, ◌+◌, inl, inr, arith, List, [], ◌∷◌, ◌++◌, length, Option, None, Some, sym, ◌∙◌, ap, subst}
+-- as it enters, since the route to it is that to its parent with one activity more. The carry-in is true by itself: its
+-- counters are those that the book says.
+use Rattle.std.proofs.Common.{◌≡◌, ℕ, ℤ, ◌<◌, ◌+◌, inl, inr, arith, List, [], ◌∷◌, ◌++◌, length, Option, None, Some, refl, sym, ◌∙◌, ap, subst}
 use Rattle.std.proofs.lemmas.Bool.{cases_lt}
+use Rattle.std.proofs.lemmas.Int.{ints}
 use Rattle.std.proofs.lemmas.List.{length-append}
 use Rattle.tail_book.specs.Seen.{BookSeen}
 use Rattle.tail_book.specs.inside.Seen.{CostTableSeen}
 use Rattle.tail_book.specs.declared.place.Place.{Place}
 use Rattle.tail_book.specs.declared.place.Place.TheVariants.{Carry, After}
+use Rattle.tail_book.specs.Lookup.{aircraft, carry_of, no_tail}
 use Rattle.tail_book.specs.Counters.{step}
 use Rattle.tail_book.specs.inside.OneMore.{end_place, LegalWithOneMore, CountersWithOneMore, PlaceWithOneMore}
 use Rattle.tail_book.specs.inside.Route.{counters_after}
+use Rattle.tail_book.specs.inside.Sound.{IsBook}
 use Rattle.maint_counters.specs.inside.Counts.{AreCounts}
 use Rattle.branch_marks.specs.declared.fact.Fact.{Fact}
 use Rattle.branch_marks.specs.inside.Fitting.{UsableWithOneMore}
@@ -20,7 +24,7 @@ use Rattle.label_store.specs.Store.{node_of, IsStore}
 use Rattle.label_store.specs.inside.Laws.{KeepsRows, IsEntered, OffersKeepRows, KeptRowsAreOffered}
 use Rattle.pricing.specs.Rows.{counters_of, route_to}
 use Rattle.pricing.specs.inside.Truth.{place_of, row_of, IsTrueRoute, IsTrueAt, AreTrue, IsKept, IsNext}
-use Rattle.pricing.specs.inside.Laws.{OffersKeepTruth}
+use Rattle.pricing.specs.inside.Laws.{KeptRowsAreTrue, OffersKeepTruth}
 use Rattle.pricing.proofs.Routes.{route_of_row, same_route}
 
 module _ (legal_more : LegalWithOneMore) (counters_more : CountersWithOneMore) (place_more : PlaceWithOneMore) (weight_more : WeightWithOneMore) (usable_more : UsableWithOneMore)
@@ -86,3 +90,20 @@ offers_keep_truth legal_more counters_more place_more weight_more usable_more ro
     with_one_more legal_more counters_more place_more weight_more usable_more table book marks k duals old new parent b i row
     (rows_stay old new b parent row (Kept i) sound offers) sound sound_new truths kept (enter old new b parent row i sound offers) offers.1
     (ap (λ (s : StoreSeen). length s.rows) offers.2 ∙ length-append old.rows (row ∷ [])) truth goes
+
+-- the carry-in is true, with the empty route
+carry_counts : (book : BookSeen) (k : ℕ) → IsBook book → k < aircraft book → AreCounts (carry_of book k)
+carry_counts book k sound hk i d lt =
+    let range = (sound.tails k no_tail hk).carry i d lt in
+    record { least = range.least; most = omega (arith, ints, range.most) }
+
+pub kept_true : KeptRowsAreTrue
+kept_true table book marks k duals store sound hk truths None kept = record {
+  legal = tt;
+  usable = tt;
+  values = refl;
+  place = refl;
+  alive = tt;
+  counts = carry_counts book k sound hk;
+}
+kept_true table book marks k duals store sound hk truths (Some j) kept = truths j kept

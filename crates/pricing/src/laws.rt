@@ -2,7 +2,7 @@
 //! done the labels are a closed family: so the least end is the least weight, and without an end the aircraft is stuck.
 //! They hold of any store that is filled so, whoever fills it.
 
-ghost use Rattle.pricing.specs.inside.Laws.{OffersKeepTruth, TrueRowsAreSmall, FilledStoresAreClosed, LeastEndsAreLeast, EndlessStoresStick};
+ghost use Rattle.pricing.specs.inside.Laws.{KeptRowsAreTrue, OffersKeepTruth, TrueRowsAreSmall, FilledStoresAreClosed, LeastEndsAreLeast, EndlessStoresStick};
 
 use branch_marks::laws::{
     closed_families_bound, endless_families_stick, fits_is_usable_to_its_end, usable_with_one_more,
@@ -26,6 +26,11 @@ pub fn offers_keep_truth()
     weight_with_one_more();
     usable_with_one_more();
 }
+
+/// The carry-in is true, with the empty route, and so is each row that is kept.
+pub fn kept_rows_are_true()
+    ensures { KeptRowsAreTrue }
+{}
 
 /// A true row weighs no more than 2^61 on either side of 0.
 pub fn true_rows_are_small()

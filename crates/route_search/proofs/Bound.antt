@@ -6,12 +6,11 @@ use Rattle.tail_book.specs.Seen.{BookSeen}
 use Rattle.tail_book.specs.inside.Seen.{CostTableSeen}
 use Rattle.tail_book.specs.declared.place.Place.{Place}
 use Rattle.tail_book.specs.declared.place.Place.TheVariants.{Carry, After}
-use Rattle.tail_book.specs.Lookup.{activities, aircraft, carry_of, no_tail}
+use Rattle.tail_book.specs.Lookup.{activities, aircraft, carry_of}
 use Rattle.tail_book.specs.Counters.{step}
 use Rattle.tail_book.specs.Route.{IsLegalFrom, IsLegalRoute}
 use Rattle.tail_book.specs.inside.Order.{EachAtMost, EachAtMostItself, EachAtMostChains, StepsKeepOrder, LowerStaysWithin}
 use Rattle.tail_book.specs.inside.Sound.{IsBook}
-use Rattle.maint_counters.specs.inside.Counts.{AreCounts}
 use Rattle.branch_marks.specs.declared.fact.Fact.{Fact}
 use Rattle.branch_marks.specs.inside.Fitting.{FitsIsUsableToItsEnd}
 use Rattle.branch_marks.specs.Marks.{Fits, FitsFrom, MayEnd}
@@ -19,7 +18,8 @@ use Rattle.branch_marks.specs.Weights.{arc_weight, weight, weight_from, WeightIs
 use Rattle.label_store.specs.Seen.{StoreSeen}
 use Rattle.label_store.specs.Buckets.{row_at}
 use Rattle.pricing.specs.Rows.{weight_of, counters_of, route_to}
-use Rattle.pricing.specs.inside.Truth.{first_row, IsTrueAt, AreTrue, IsKept}
+use Rattle.pricing.specs.inside.Laws.{KeptRowsAreTrue}
+use Rattle.pricing.specs.inside.Truth.{first_row, AreTrue}
 use Rattle.route_search.specs.declared.end.End.{End}
 use Rattle.route_search.specs.declared.end.Ends.{Ends}
 use Rattle.route_search.specs.declared.found.Found.TheVariants.{Best, NoneWithin}
@@ -134,42 +134,24 @@ module _ (itself : EachAtMostItself) (chains : EachAtMostChains) (order : StepsK
         | inr lt ↦ lower_yet end.value ends.limit w limit lt
       ]
 
-  -- the carry-in is true, with the empty route
-  carry_counts : IsBook book → k < aircraft book → AreCounts (carry_of book k)
-  carry_counts sound_book hk i d lt =
-      let range = (sound_book.tails k no_tail hk).carry i d lt in
-      record { least = range.least; most = omega (arith, ints, range.most) }
-
-  true_at : IsBook book → k < aircraft book → AreTrue table book marks k duals store → (row : Option ℕ) → IsKept store row
-      → IsTrueAt table book marks k duals store row
-  true_at sound_book hk truths None kept = record {
-    legal = tt;
-    usable = tt;
-    values = refl;
-    place = refl;
-    alive = tt;
-    counts = carry_counts sound_book hk;
-  }
-  true_at sound_book hk truths (Some j) kept = truths j kept
-
-  attains : FitsIsUsableToItsEnd → IsBook book → k < aircraft book → AreTrue table book marks k duals store → (end : End) → ends.best ≡ Some end
+  attains : KeptRowsAreTrue → FitsIsUsableToItsEnd → IsBook book → k < aircraft book → AreTrue table book marks k duals store → (end : End) → ends.best ≡ Some end
       → IsRouteOfWeight table book marks k duals end.value (route_to store end.row)
-  attains fits sound_book hk truths end is =
+  attains kept fits sound_book hk truths end is =
       let one = subst (λ (best : Option End). AreEnds book marks k store cut (activities book) (record { best = best; limit = ends.limit })) is all in
-      let truth = true_at sound_book hk truths end.row one.one.kept in
+      let truth = kept table book marks k duals store sound_book hk truths end.row one.one.kept in
       record {
         legal = truth.legal;
         fits = (fits book marks k Carry (route_to store end.row)).1 (truth.usable, subst (λ (x : Place). MayEnd marks k x) (sym truth.place) one.one.may);
         weighs = sym (ap weight_of truth.values) ∙ one.one.weighs;
       }
 
-  exact_for : FitsIsUsableToItsEnd → IsBook book → k < aircraft book → AreTrue table book marks k duals store → (best : Option End) → ends.best ≡ best
+  exact_for : KeptRowsAreTrue → FitsIsUsableToItsEnd → IsBook book → k < aircraft book → AreTrue table book marks k duals store → (best : Option End) → ends.best ≡ best
       → BestOrNoneWithin table book marks k duals store cut best
-  exact_for fits sound_book hk truths None is = none_within (subst (λ (best : Option End). IsLimit cut best ends.limit) is all.limit)
+  exact_for kept fits sound_book hk truths None is = none_within (subst (λ (best : Option End). IsLimit cut best ends.limit) is all.limit)
       (λ w at_most. subst (λ (best : Option End). IsAtMost best w) is at_most)
-  exact_for fits sound_book hk truths (Some end) is =
+  exact_for kept fits sound_book hk truths (Some end) is =
       let limit = subst (λ (best : Option End). IsLimit cut best ends.limit) is all.limit in
-      let one = attains fits sound_book hk truths end is in (
+      let one = attains kept fits sound_book hk truths end is in (
         record {
           least = least_within end (λ w at_most. subst (λ (best : Option End). IsAtMost best w) is at_most) limit.0;
           attained = (route_to store end.row, one);
@@ -178,9 +160,9 @@ module _ (itself : EachAtMostItself) (chains : EachAtMostChains) (order : StepsK
         chain end.value ends.limit cut limit.0 limit.1,
       )
 
-  pub exact : FitsIsUsableToItsEnd → IsBook book → k < aircraft book → AreTrue table book marks k duals store
+  pub exact : KeptRowsAreTrue → FitsIsUsableToItsEnd → IsBook book → k < aircraft book → AreTrue table book marks k duals store
       → BestOrNoneWithin table book marks k duals store cut ends.best
-  exact fits sound_book hk truths = exact_for fits sound_book hk truths ends.best refl
+  exact kept fits sound_book hk truths = exact_for kept fits sound_book hk truths ends.best refl
 
 -- a weight that lies within 2^61 of 0 is within a clamped cut exactly where it is within the cut
 clamped_value : (value cut clamped : ℤ) → IsClamped cut clamped → IsSmall value → value ≤ℤ clamped → value ≤ℤ cut

@@ -5,6 +5,7 @@
 ghost use Rattle.route_search.specs.inside.Laws.{ClampedCutsFindTheSame, DoneBucketsAreExact, FittingRestsAreSmall};
 
 use branch_marks::laws::{fits_is_usable_to_its_end, weight_is_along, weights_along};
+use pricing::laws::kept_rows_are_true;
 use tail_book::laws::{
     each_at_most_chains, each_at_most_itself, links_rise, lower_stays_within,
     reduced_costs_are_small, steps_keep_order,
@@ -29,6 +30,7 @@ pub fn done_buckets_are_exact()
     lower_stays_within();
     weight_is_along();
     fits_is_usable_to_its_end();
+    kept_rows_are_true();
 }
 
 /// No weight is so large that a clamped cut would find another answer.

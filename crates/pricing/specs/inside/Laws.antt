@@ -27,6 +27,11 @@ OffersKeepTruth = (table : CostTableSeen) (book : BookSeen) (marks : List Fact) 
     → IsTrueAt table book marks k duals old parent → IsNext table book marks k duals (place_of old parent) (row_of book k old parent) b row
     → Offers old new b parent row offered → AreTrue table book marks k duals new
 
+-- the carry-in is true, with the empty route, and so is each row that is kept
+abbrev pub KeptRowsAreTrue : Type 0
+KeptRowsAreTrue = (table : CostTableSeen) (book : BookSeen) (marks : List Fact) (k : ℕ) (duals : List ℤ) (store : StoreSeen) → IsBook book → k < aircraft book
+    → AreTrue table book marks k duals store → (row : Option ℕ) → IsKept store row → IsTrueAt table book marks k duals store row
+
 -- a true row weighs no more than 2^61 on either side of 0
 abbrev pub TrueRowsAreSmall : Type 0
 TrueRowsAreSmall = (table : CostTableSeen) (book : BookSeen) (marks : List Fact) (k : ℕ) (duals : List ℤ) (store : StoreSeen) (row : Option ℕ)
