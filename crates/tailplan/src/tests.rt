@@ -9,7 +9,6 @@ mod faults;
 mod limits;
 mod links;
 mod memory;
-mod name_faults;
 mod permissions;
 mod plans;
 mod refusals;

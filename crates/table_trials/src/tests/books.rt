@@ -224,6 +224,92 @@ fn the_first_fault_is_refused(rt: HostRuntime) -> Result<(), Fail> {
     Ok(())
 }
 
+// Faults of names, each in its table, in the order in which they are looked at.
+const IN_ORDER: [Change<'static>; 17] = [
+    (
+        Table::Rules,
+        "name = \"B738\"",
+        "name = \"A320\"",
+        Some((11, 2)),
+    ),
+    (
+        Table::Rules,
+        "name = \"OSL\"",
+        "name = \"ARN\"",
+        Some((11, 5)),
+    ),
+    (
+        Table::Rules,
+        "airport = \"OSL\"",
+        "airport = \"BGO\"",
+        Some((12, 6)),
+    ),
+    (
+        Table::Rules,
+        "[\"B738\"]",
+        "[\"B738\", \"B77W\"]",
+        Some((12, 6)),
+    ),
+    (
+        Table::Rules,
+        "\"OSL\", \"ARN\"]",
+        "\"OSL\", \"BGO\"]",
+        Some((12, 7)),
+    ),
+    (
+        Table::Rules,
+        "name = \"acheck\"",
+        "name = \"fh\"",
+        Some((11, 8)),
+    ),
+    (Table::Fleet, "B738,CPH", "B738,BGO", Some((12, 2))),
+    (Table::Fleet, "ARN OSL", "ARN BGO", Some((12, 2))),
+    (Table::Fleet, "acheck=1000", "ldg=1000", Some((12, 2))),
+    (Table::Fleet, "LN-ABC", "SE-ROB", Some((11, 3))),
+    (Table::Fleet, "SE-ROA,B738", "SE-ROA,B77W", Some((12, 4))),
+    (Table::Timetable, "OSL,ARN", "BGO,ARN", Some((12, 2))),
+    (Table::Timetable, "B738 A320", "B738 B77W", Some((12, 2))),
+    (Table::Timetable, "SE-ROA", "LN-ABD", Some((12, 2))),
+    (Table::Timetable, "ARN,CPH", "ARN,BGO", Some((12, 3))),
+    (Table::Timetable, "acheck fh", "acheck ldg", Some((12, 4))),
+    (Table::Timetable, "G9", "FB", Some((11, 5))),
+];
+
+// Whether the tables with both faults are refused for the first.
+fn hides(alloc: Global, first: &Change<'_>, second: &Change<'_>) -> Result<bool, Fail> {
+    let texts = (TIMETABLE, FLEET, RULES);
+    let (table, old, new, _) = *second;
+    let text = text_of(texts, table).replacen(alloc, old, new, 1)?;
+    is_told(alloc, with_text(texts, table, &text), first)
+}
+
+// Of each fault and the next one the first is refused, and the last by itself.
+#[test]
+fn each_fault_hides_the_next(rt: HostRuntime) -> Result<(), Fail> {
+    for (first, second) in IN_ORDER.iter().zip(&IN_ORDER[1..]) {
+        assert!(rt; hides(rt.alloc(), first, second)?, "{}", first.2);
+    }
+    let last = &IN_ORDER[16];
+    assert!(rt; hides(rt.alloc(), last, last)?);
+    Ok(())
+}
+
+// A counter that is called as something of another kind, in all three tables.
+#[test]
+fn kinds_may_share_names(rt: HostRuntime) -> Result<(), Fail> {
+    for name in ["acheck", "OSL", "A320", "LN-ABC", "FA"] {
+        let alloc = rt.alloc();
+        let timetable = TIMETABLE.replacen(alloc, "acheck", name, 1)?;
+        let fleet = FLEET.replacen(alloc, "acheck", name, 1)?;
+        let rules = RULES.replacen(alloc, "acheck", name, 1)?;
+        assert!(rt;
+            refusal_of(alloc, (&timetable, &fleet, &rules)) == None,
+            "{name}"
+        );
+    }
+    Ok(())
+}
+
 #[test]
 fn the_first_fault_of_an_entry_is_refused(rt: HostRuntime) -> Result<(), Fail> {
     let changes: &[Change<'_>] = &[
