@@ -16,4 +16,5 @@ pub mod MarkCalls
 pub mod Events
 pub mod LogShown
 pub mod TreeLog
+pub mod TreeEvents
 pub mod inside

@@ -1,6 +1,6 @@
 -- The counters along a legal route are never negative, and within what a line spells. A stop clears one, or it keeps its value;
 -- then b adds its minutes, a landing, or the minutes of the calendar since the aircraft was free, which is before b starts.
-use Rattle.std.proofs.Common.{◌≡◌, ℕ, ℤ, pos, ◌+◌, ◌^◌, ◌<◌, ◌+ℤ◌, ◌-ℤ◌, ◌≤ℤ◌, arith, refl, true, false, Bool, List, [], ◌∷◌, length, subst}
+use Rattle.std.proofs.Common.{ℕ, ℤ, pos, ◌+◌, ◌^◌, ◌<◌, ◌+ℤ◌, ◌-ℤ◌, ◌≤ℤ◌, arith, true, false, Bool, List, [], ◌∷◌}
 use Rattle.std.proofs.lemmas.Int.{ints}
 use Rattle.std.proofs.lemmas.List.Elements.{All-nil, All-cons, All-head, All-tail}
 use Rattle.std.specs.Prelude.{All, if◌then◌else◌}
@@ -10,12 +10,12 @@ use Rattle.tail_book.specs.declared.place.Place.TheVariants.{Carry, After}
 use Rattle.tail_book.specs.declared.rules.CounterKind.{CounterKind}
 use Rattle.tail_book.specs.declared.rules.CounterKind.TheVariants.{Minutes, Landings, Days}
 use Rattle.tail_book.specs.Lookup.{activities, aircraft, carry_of, is_flight, start_of, end_of, resets_of, no_activity, no_tail}
-use Rattle.tail_book.specs.Link.{IsLink, free_from}
+use Rattle.tail_book.specs.Link.{free_from}
 use Rattle.tail_book.specs.Numbers.{contains}
 use Rattle.tail_book.specs.Counters.{is_cleared, amount, step_one, step_from, step, WithinLimits}
 use Rattle.tail_book.specs.Route.{IsLegalFrom, IsLegalRoute}
 use Rattle.tail_book.specs.inside.Route.{counters_from, counters_after}
-use Rattle.tail_book.specs.inside.Sound.{IsBook, IsWithin, IsLimit, IsCounter}
+use Rattle.tail_book.specs.inside.Sound.{IsBook, IsLimit, IsCounter}
 use Rattle.turn_rules.specs.inside.FreeBefore.{LinksLeaveTime}
 use Rattle.branch_marks.specs.Events.{IsLineCounter}
 

@@ -2,7 +2,7 @@
 -- after the other are told together; the log had not ceased in between, since one that has ceased stays so. A front of
 -- a later part, behind parts that were told whole, is a front of all; so is a front of the first part, since only what
 -- is left grows. An event at which the log is torn stays the one that comes next.
-use Rattle.std.proofs.Common.{◌≡◌, ◌≤◌, ◌∙◌, ◌⊎◌, inl, inr, false, List, [], ◌∷◌, ◌++◌, refl, sym, ap, subst, append_assoc, append-nil, arith}
+use Rattle.std.proofs.Common.{◌∙◌, inl, inr, List, [], ◌∷◌, ◌++◌, refl, sym, ap, subst, append_assoc, append-nil, arith}
 use Rattle.branch_marks.specs.declared.event.Event.{Event}
 use Rattle.branch_marks.specs.LogShown.{LogShown}
 use Rattle.branch_marks.specs.TreeLog.{Notes, NotesNothing, NotesFront, IsCut, IsLater}

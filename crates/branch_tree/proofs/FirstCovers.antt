@@ -2,7 +2,7 @@
 -- one more that is shown for k are those before k + 1; when k is the number of aircraft they show a bound. A stop
 -- within the cover of k leaves those before it with that cover, if it is shown, or without it, if nothing of it was
 -- told: both are first covers.
-use Rattle.std.proofs.Common.{◌≡◌, ◌∙◌, ℕ, ℤ, pos, ◌+◌, ◌<◌, ◌≤◌, arith, List, [], ◌∷◌, ◌++◌, length, length-append, map, take, get_or, refl, sym, ap, subst, append-nil}
+use Rattle.std.proofs.Common.{◌≡◌, ◌∙◌, ℕ, ℤ, pos, ◌+◌, ◌<◌, ◌≤◌, arith, List, [], ◌∷◌, ◌++◌, length, length-append, take, get_or, refl, sym, ap, subst, append-nil}
 use Rattle.std.proofs.lemmas.List.{take_more, map-append}
 use Rattle.std.proofs.lemmas.List.Elements.{All-head}
 use Rattle.std.specs.Prelude.{All}
@@ -12,11 +12,11 @@ use Rattle.tail_book.specs.Lookup.{aircraft}
 use Rattle.branch_marks.specs.declared.event.Event.{Event}
 use Rattle.branch_marks.specs.declared.fact.Fact.{Fact}
 use Rattle.branch_marks.specs.LogShown.{LogShown}
-use Rattle.branch_marks.specs.ProofTree.{Cover, cover_of, IsShownCover, IsShownBound}
+use Rattle.branch_marks.specs.ProofTree.{Cover, IsShownCover}
 use Rattle.branch_marks.specs.Settled.{AreDuals}
 use Rattle.branch_marks.specs.TreeLog.{Notes, NotesFront, IsLater}
 use Rattle.branch_tree.specs.Node.{AreFirstCovers}
-use Rattle.branch_tree.specs.NodeEvents.{cover_event, cover_events}
+use Rattle.branch_marks.specs.TreeEvents.{cover_event, cover_events}
 use Rattle.branch_tree.specs.inside.Leaf.{AreCoversBefore, AreCoversOf, IsCutAtCover, IsCutAtCovers}
 use Rattle.branch_tree.proofs.Cuts.{notes_none, notes_then, front_then}
 use Rattle.branch_tree.proofs.Lists.{cover_one, no_covers, covers_at}

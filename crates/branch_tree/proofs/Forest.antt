@@ -13,7 +13,8 @@ use Rattle.branch_marks.specs.ProofTree as tree
 use Rattle.branch_tree.specs.Place.{Open}
 use Rattle.branch_tree.specs.Node.{Ending, Hole, Stuck, Bounded, Split, Node, branches, closed_marks, IsShownEnding, IsBoundedBy, Bounds}
 use Rattle.branch_tree.specs.Growth.{Grows}
-use Rattle.branch_tree.specs.NodeEvents.{step_events, ending_events, node_events, events_of, tree_events}
+use Rattle.branch_marks.specs.TreeEvents.{tree_events}
+use Rattle.branch_tree.specs.NodeEvents.{step_events, ending_events, node_events, events_of}
 
 module _ (table : CostTableSeen) (book : BookSeen) (low : ℕ) (new : FollowingFactsAreNew) where
   abbrev AreShown : List Open → List Tree → Type 0
@@ -33,7 +34,6 @@ module _ (table : CostTableSeen) (book : BookSeen) (low : ℕ) (new : FollowingF
 
   at_end : (marks : List Fact) (ending : Ending) (owed : List Open) (trees : List Tree) → IsShownEnding table book marks ending → IsBoundedBy low ending
       → AreShown (branches marks ending ++ owed) trees → AreTrees marks owed (ending_events ending ++ forest_events trees)
-  unfolding tree_events
   at_end marks (Hole a) owed trees shown bounded rest = (tree.Hole a, trees, shown, tt, rest, refl)
   at_end marks (Stuck k family) owed trees shown bounded rest = (tree.Stuck k family, trees, shown, tt, rest, refl)
   at_end marks (Bounded duals covers) owed trees shown bounded rest = (tree.Bounded duals covers, trees, shown, bounded, rest, refl)
@@ -50,7 +50,6 @@ module _ (table : CostTableSeen) (book : BookSeen) (low : ℕ) (new : FollowingF
 
   with_steps : (marks steps : List Fact) (owed : List Open) (due : List Event) → FollowInTurn book marks steps
       → AreTrees (marks ++ steps) owed due → AreTrees marks owed (step_events steps ++ due)
-  unfolding tree_events
   with_steps marks [] owed due follow trees = subst (λ (m : List Fact). AreTrees m owed due) (append-nil marks) trees
   with_steps marks (fact ∷ facts) owed due follow trees =
       let there = subst (λ (m : List Fact). AreTrees m owed due) (sym (append_assoc marks (fact ∷ []) facts)) trees in

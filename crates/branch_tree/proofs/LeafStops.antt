@@ -1,12 +1,11 @@
 -- A stop at a leaf of a node without steps: what was told is a front of a begun tree, with the leaf as a whole, or begun, at its
 -- first place.
-use Rattle.std.proofs.Common.{◌≡◌, ◌∙◌, ℤ, List, [], ◌∷◌, ◌++◌, Some, None, refl, sym, ap, subst, append-nil}
+use Rattle.std.proofs.Common.{◌≡◌, ◌∙◌, List, [], ◌∷◌, ◌++◌, Some, None, refl, sym, subst, append-nil}
 use Rattle.tail_book.specs.Seen.{BookSeen}
 use Rattle.tail_book.specs.inside.Seen.{CostTableSeen}
 use Rattle.branch_marks.specs.declared.event.Event.{Event}
 use Rattle.branch_marks.specs.declared.fact.Fact.{Fact}
 use Rattle.branch_marks.specs.LogShown.{LogShown}
-use Rattle.branch_marks.specs.ProofTree.{Cover}
 use Rattle.branch_marks.specs.TreeLog.{NotesFront}
 use Rattle.branch_tree.specs.Place.{Open}
 use Rattle.branch_tree.specs.Node.{Ending, Node, branches, closed_marks, IsShownNode, IsShownEnding, AreFirstCovers}

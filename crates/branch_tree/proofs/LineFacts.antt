@@ -1,7 +1,7 @@
 -- A line spells each fact that follows. Such a fact is of the book, and a book has at most 4,096 activities and as many
 -- aircraft, far less than the numbers that a line spells. A Tie, which no line spells, never follows. By the list of
 -- facts, each of which joins the marks of the next.
-use Rattle.std.proofs.Common.{ℕ, ◌≤◌, ◌<◌, arith, List, [], ◌∷◌, ◌++◌}
+use Rattle.std.proofs.Common.{◌≤◌, arith, List, [], ◌∷◌, ◌++◌}
 use Rattle.std.proofs.lemmas.List.Elements.{All-nil, All-cons}
 use Rattle.std.specs.Prelude.{All}
 use Rattle.tail_book.specs.Seen.{BookSeen}

@@ -2,10 +2,10 @@
 -- greatest cost in thousandths come to at most 2 ^ 61 together; so where there is a dual, and with it an activity, a
 -- dual in the box is spelled. A least weight is the reduced cost of some legal route, and these are small under duals
 -- in the box.
-use Rattle.std.proofs.Common.{◌≡◌, ℕ, zero, suc, ℤ, pos, ◌+◌, ◌*◌, ◌^◌, ◌<◌, ◌≤◌, ◌≤ℤ◌, arith, List, [], ◌∷◌, length, get_or, subst, sym}
+use Rattle.std.proofs.Common.{◌≡◌, ℕ, zero, suc, ℤ, pos, ◌+◌, ◌*◌, ◌^◌, ◌<◌, ◌≤◌, ◌≤ℤ◌, arith, List, get_or, subst}
 use Rattle.std.proofs.lemmas.Int.{ints}
 use Rattle.std.proofs.lemmas.List.{length-replicate, get_or-replicate}
-use Rattle.std.specs.Prelude.{All, ◌-ℤ◌, ◌+ℤ◌, replicate}
+use Rattle.std.specs.Prelude.{All, ◌+ℤ◌}
 use Rattle.tail_book.specs.Seen.{BookSeen}
 use Rattle.tail_book.specs.inside.Seen.{CostTableSeen}
 use Rattle.tail_book.specs.declared.place.Place.TheVariants.{Carry}

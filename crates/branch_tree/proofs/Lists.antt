@@ -12,7 +12,8 @@ use Rattle.branch_marks.specs.declared.fact.Fact.{Fact}
 use Rattle.branch_marks.specs.Events.{IsNotable}
 use Rattle.branch_marks.specs.Labels.{Label}
 use Rattle.branch_marks.specs.ProofTree.{Cover}
-use Rattle.branch_tree.specs.NodeEvents.{step_events, label_events, dual_event, dual_events, cover_event, cover_events}
+use Rattle.branch_marks.specs.TreeEvents.{label_events, dual_event, dual_events, cover_event, cover_events}
+use Rattle.branch_tree.specs.NodeEvents.{step_events}
 use Rattle.branch_tree.specs.inside.Listing.{Lists}
 
 -- a list is what stands before place i, there, and behind it
@@ -31,7 +32,6 @@ lists_then old between new one two due is first second = record {
 }
 
 pub duals_then : (a : ℕ) (one two : List ℤ) → dual_events a (one ++ two) ≡ dual_events a one ++ dual_events (a + length one) two
-unfolding dual_events
 duals_then a [] two = let same : a ≡ a + 0 = omega arith in ap (λ (b : ℕ). dual_events b two) same
 duals_then a (d ∷ one) two =
     let same : a + 1 + length one ≡ a + suc (length one) = omega arith in
@@ -39,11 +39,9 @@ duals_then a (d ∷ one) two =
     ∙ sym (append_assoc (dual_event a d) (dual_events (a + 1) one) (dual_events (a + suc (length one)) two))
 
 dual_last : (a : ℕ) (dual : ℤ) → dual_events a (dual ∷ []) ≡ dual_event a dual
-unfolding dual_events
 dual_last a dual = append-nil (dual_event a dual)
 
 pub no_duals : (a : ℕ) → dual_events a [] ≡ []
-unfolding dual_events
 no_duals a = refl
 
 pub duals_more : (duals : List ℤ) (i : ℕ) (d : ℤ) → i < length duals
@@ -81,15 +79,12 @@ module _ (label_at : ℕ → Label) where
       ∙ ap (λ (js : List ℕ). concat (take a buckets) ++ js) (append-nil (get_or buckets a d))))
 
 pub cover_one : (k : ℕ) (cover : Cover) → cover_events k (cover ∷ []) ≡ cover_event k cover
-unfolding cover_events
 cover_one k cover = append-nil (cover_event k cover)
 
 pub no_covers : (k : ℕ) → cover_events k [] ≡ []
-unfolding cover_events
 no_covers k = refl
 
 pub covers_then : (k : ℕ) (one two : List Cover) → cover_events k (one ++ two) ≡ cover_events k one ++ cover_events (k + length one) two
-unfolding cover_events
 covers_then k [] two = let same : k ≡ k + 0 = omega arith in ap (λ (b : ℕ). cover_events b two) same
 covers_then k (c ∷ one) two =
     let same : k + 1 + length one ≡ k + suc (length one) = omega arith in

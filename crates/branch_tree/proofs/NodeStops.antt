@@ -2,7 +2,7 @@
 -- its open part. At the leaf the steps were told before, and three things may follow. Nothing: the part is the steps. A
 -- bound that was begun: the part has its duals and first covers too. An end that is shown whole: the tree has one node,
 -- whose target no event tells, so that any will do.
-use Rattle.std.proofs.Common.{◌≡◌, ◌∙◌, ℤ, List, [], ◌∷◌, ◌++◌, Some, None, refl, sym, ap, subst, append-nil}
+use Rattle.std.proofs.Common.{◌≡◌, ◌∙◌, List, [], ◌∷◌, ◌++◌, Some, None, refl, sym, subst, append-nil}
 use Rattle.tail_book.specs.Seen.{BookSeen}
 use Rattle.tail_book.specs.inside.Seen.{CostTableSeen}
 use Rattle.branch_marks.specs.declared.event.Event.{Event}
@@ -12,8 +12,8 @@ use Rattle.branch_marks.specs.LogShown.{LogShown}
 use Rattle.branch_marks.specs.TreeLog.{Notes, NotesFront, IsLater}
 use Rattle.branch_tree.specs.Place.{Open}
 use Rattle.branch_tree.specs.Node.{Ending, Node, branches, closed_marks, IsShownNode, IsShownEnding}
-use Rattle.branch_tree.specs.Begun.{BegunTree, IsBegunFrom, Opened, Begun}
-use Rattle.branch_tree.specs.NodeEvents.{events_of, node_events, step_events, ending_events, begun_events}
+use Rattle.branch_tree.specs.Begun.{Opened, Begun}
+use Rattle.branch_tree.specs.NodeEvents.{events_of, node_events, step_events, ending_events}
 use Rattle.branch_tree.specs.Stops.{StopsIn}
 use Rattle.branch_tree.specs.inside.Leaf.{Leaf, IsShownLeaf, leaf_events, IsCutAtLeaf}
 use Rattle.branch_tree.specs.inside.Leaf as part

@@ -1,14 +1,13 @@
 -- The outcome of a search tree is true. What it claims is at most the final target, and the bounds of the closing nodes reach
 -- it; so the nodes are a proof tree whose bounds reach it, and that bounds every legal plan.
-use Rattle.std.proofs.Common.{◌≤◌, ◌+◌, ℕ, List, [], ◌∷◌, length, subst, arith}
+use Rattle.std.proofs.Common.{◌≤◌, ℕ, List, [], ◌∷◌, length, subst, arith}
 use Rattle.std.specs.Prelude.{All}
 use Rattle.tail_book.specs.Seen.{BookSeen}
 use Rattle.tail_book.specs.inside.Seen.{CostTableSeen}
-use Rattle.tail_book.specs.inside.CostTable.{IsCostTable, IsTableFor, plan_cost_in, greatest_cost_in}
+use Rattle.tail_book.specs.inside.CostTable.{IsCostTable, IsTableFor}
 use Rattle.tail_book.specs.inside.Sound.{IsBook}
 use Rattle.tail_book.specs.inside.TableLaws.{LegalPlansCostAtMostIn}
 use Rattle.tail_book.specs.inside.Truth.{CostsAtLeastIn, IsTrueOutcomeIn}
-use Rattle.tail_book.specs.Plan.{IsLegalPlan}
 use Rattle.tail_book.specs.declared.outcome.Outcome.{Outcome}
 use Rattle.tail_book.specs.declared.outcome.Outcome.TheVariants.{Optimal, Infeasible, Between, Above}
 use Rattle.branch_marks.specs.ProofTree.{ShownRootsBound}
@@ -16,7 +15,7 @@ use Rattle.branch_tree.specs.declared.limit.Limit.{Limit}
 use Rattle.branch_tree.specs.Place.{root}
 use Rattle.branch_tree.specs.Node.{Node, IsBoundedBy, Bounds}
 use Rattle.branch_tree.specs.Growth.{Grows}
-use Rattle.branch_tree.specs.Laws.{claimed, SearchTreesAreBounded, ShownNodesAreTrees}
+use Rattle.branch_tree.specs.Laws.{claimed, ShownNodesAreTrees}
 use Rattle.branch_tree.specs.Target.{no_target}
 use Rattle.branch_tree.specs.SearchTree.{SearchTree, nodes_of, IsSearchTree, IsOutcomeOf}
 use Rattle.branch_tree.proofs.Runs.{grows_then}

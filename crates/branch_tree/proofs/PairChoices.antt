@@ -1,32 +1,32 @@
 -- The pair that least routes choose. What comes directly after what in a route is read off its places. A link of a route that
 -- fits is usable, so it is not cut; and where it isn't tied, it is undecided.
-use Rattle.std.proofs.Common.{◌≡◌, ◌∙◌, ℕ, ℤ, zero, suc, ◌+◌, ◌<◌, ◌≤◌, inl, inr, Bool, true, false, arith, List, [], ◌∷◌, length, refl, sym, subst}
+use Rattle.std.proofs.Common.{◌≡◌, ℕ, ℤ, zero, suc, ◌+◌, ◌<◌, ◌≤◌, inl, inr, true, false, arith, List, [], ◌∷◌, length, refl, sym, subst}
 use Rattle.std.proofs.lemmas.Bool.{eqb-true, eq-eqb, or_cases, or_left, or_right, and_parts, both_ways, cases_order}
 use Rattle.std.specs.Cmp.Derive.{both_true}
 use Rattle.std.specs.Option.{is_none}
 use Rattle.std.proofs.lemmas.List.Elements.{All-contains}
-use Rattle.std.specs.Prelude.{nat_eq, ◌&&◌, ◌↔◌, IfSome, IfNone, IsTrue, All, Contains, Option, Some, None, slice_index_or}
+use Rattle.std.specs.Prelude.{nat_eq, ◌&&◌, IfSome, IfNone, All, Contains, Option, Some, None, slice_index_or}
 use Rattle.tail_book.specs.Seen.{BookSeen}
 use Rattle.tail_book.specs.inside.Seen.{CostTableSeen}
 use Rattle.tail_book.specs.declared.place.Place.{Place}
 use Rattle.tail_book.specs.declared.place.Place.TheVariants.{Carry, After}
 use Rattle.tail_book.specs.Lookup.{activities, aircraft}
 use Rattle.tail_book.specs.Numbers.{contains}
-use Rattle.tail_book.specs.Plan.{times_flown, route_of, IsLegalPlan}
+use Rattle.tail_book.specs.Plan.{times_flown, route_of}
 use Rattle.tail_book.specs.declared.flown.Flown.TheVariants.{Once}
-use Rattle.tail_book.specs.inside.CostTable.{cost_unit, plan_cost_in}
+use Rattle.tail_book.specs.inside.CostTable.{plan_cost_in}
 use Rattle.tail_book.specs.inside.Flown.{FlownIsCount, FlownOnceIsInOneRoute, IsInOneRoute}
 use Rattle.tail_book.specs.inside.Rising.{IsRisingFrom}
 use Rattle.branch_marks.specs.declared.fact.Fact.{Fact}
 use Rattle.branch_marks.specs.declared.fact.Fact.TheVariants.{Cut}
 use Rattle.branch_marks.specs.declared.fact.Pair.{Pair}
 use Rattle.branch_marks.specs.declared.fact.Pair.TheVariants.{Fly, Link}
-use Rattle.branch_marks.specs.Bound.{AreLeastWeights, value_of, lagrangian, bound_of}
+use Rattle.branch_marks.specs.Bound.{AreLeastWeights, lagrangian, bound_of}
 use Rattle.branch_marks.specs.Branches.{IsUndecided}
-use Rattle.branch_marks.specs.Facts.{begins, directly}
+use Rattle.branch_marks.specs.Facts.{directly}
 use Rattle.branch_marks.specs.Marks.{LetsGo, IsUsable, FitsFrom, Fits}
 use Rattle.branch_marks.specs.Settled.{AreRoutesOfWeights, RoutesOfWeightsArePlan}
-use Rattle.branch_marks.specs.Weights.{weight, WeighsAtLeast}
+use Rattle.branch_marks.specs.Weights.{WeighsAtLeast}
 use Rattle.dive_heuristic.specs.Choice.{IsCarrierOf}
 use Rattle.dive_heuristic.specs.LeastRoutes.{AreLeastRoutes, IsInOne, IsEachInOne}
 use Rattle.branch_tree.specs.Choice.{IsPairAt}

@@ -1,26 +1,24 @@
 -- A line spells each label of a priced store: its activity is of the book, and its weight and counters are those of a legal
 -- route under duals in the box.
-use Rattle.std.proofs.Common.{◌≡◌, ℕ, ℤ, pos, ◌+◌, ◌^◌, ◌<◌, ◌≤◌, arith, List, [], ◌∷◌, length, subst, sym, Some}
-use Rattle.std.specs.Prelude.{All, ◌-ℤ◌}
+use Rattle.std.proofs.Common.{◌≡◌, ℕ, ℤ, pos, ◌<◌, arith, List, [], length, subst, sym, Some}
+use Rattle.std.specs.Prelude.{All}
 use Rattle.tail_book.specs.Seen.{BookSeen}
 use Rattle.tail_book.specs.inside.Seen.{CostTableSeen}
-use Rattle.tail_book.specs.declared.limits.TheConstants.{COUNTER_LIMIT}
 use Rattle.tail_book.specs.declared.place.Place.TheVariants.{Carry}
-use Rattle.tail_book.specs.Lookup.{activities, aircraft}
+use Rattle.tail_book.specs.Lookup.{aircraft}
 use Rattle.tail_book.specs.inside.CostTable.{IsCostTable, IsTableFor}
 use Rattle.tail_book.specs.inside.Rising.{LegalRoutesRise}
-use Rattle.tail_book.specs.inside.Route.{counters_after}
 use Rattle.tail_book.specs.inside.RouteBounds.{ReducedCostsAreSmall}
 use Rattle.tail_book.specs.inside.Sound.{IsBook}
 use Rattle.turn_rules.specs.inside.FreeBefore.{LinksLeaveTime}
 use Rattle.branch_marks.specs.declared.fact.Fact.{Fact}
-use Rattle.branch_marks.specs.Events.{IsLineLabel, IsLineValue, IsLineCounter}
+use Rattle.branch_marks.specs.Events.{IsLineValue, IsLineCounter}
 use Rattle.branch_marks.specs.Settled.{AreDuals}
-use Rattle.branch_marks.specs.Weights.{dual, weight}
+use Rattle.branch_marks.specs.Weights.{dual}
 use Rattle.label_store.specs.Seen.{StoreSeen}
 use Rattle.label_store.specs.Buckets.{row_at}
-use Rattle.label_store.specs.Store.{node_of, IsStore}
-use Rattle.pricing.specs.Rows.{weight_of, counters_of, label_of, route_to}
+use Rattle.label_store.specs.Store.{IsStore}
+use Rattle.pricing.specs.Rows.{weight_of, counters_of, route_to}
 use Rattle.branch_tree.specs.inside.Listing.{AreSpelledLabels}
 use Rattle.branch_tree.specs.inside.PricedStore.{IsPricedStore}
 use Rattle.branch_tree.proofs.Countings.{counters_spelled}

@@ -1,11 +1,10 @@
 -- A list that has a value for each aircraft grows at its end. What holds of each value by its number holds with one
 -- more: before the seam stand the old ones, and at the seam the new one, of which it was shown. The same for two lists
 -- side by side, as those of least weights and of routes that have them.
-use Rattle.std.proofs.Common.{◌≡◌, ◌⊎◌, inl, inr, ℕ, ℤ, pos, ◌+◌, ◌<◌, arith, List, [], ◌∷◌, ◌++◌, length, length-append, get_or, refl, sym, ap, ◌∙◌, subst}
+use Rattle.std.proofs.Common.{◌≡◌, inl, inr, ℕ, ◌+◌, ◌<◌, arith, List, [], ◌∷◌, ◌++◌, length, length-append, get_or, sym, ap, ◌∙◌, subst}
 use Rattle.std.proofs.lemmas.Bool.{cases_order}
 use Rattle.std.proofs.lemmas.List.{get_or_append_left}
 use Rattle.std.proofs.Math.Seq.{get_or-append_seam}
-use Rattle.branch_marks.specs.Bound.{value_of}
 
 pub one_longer : {X : Type 0} (xs new : List X) (k : ℕ) (x : X) → length xs ≡ k → new ≡ xs ++ x ∷ [] → length new ≡ k + 1
 one_longer {X} xs new k x count is = ap (λ (ys : List X). length ys) is ∙ length-append xs (x ∷ []) ∙ ap (λ (n : ℕ). n + 1) count

@@ -2,16 +2,16 @@
 -- marks that the code has, the node under those of its place with its steps, and shutting says that these are the same.
 -- Its target is what is to be undercut when the end is told. Steps and end were told one after the other, so the node
 -- was told.
-use Rattle.std.proofs.Common.{◌≡◌, ℕ, ℤ, inl, inr, List, [], ◌∷◌, ◌++◌, refl, sym, subst, Option, Some, None}
+use Rattle.std.proofs.Common.{ℕ, ℤ, inl, inr, List, refl, subst, Option, Some, None}
 use Rattle.tail_book.specs.Seen.{BookSeen}
 use Rattle.tail_book.specs.inside.Seen.{CostTableSeen}
 use Rattle.branch_marks.specs.declared.fact.Fact.{Fact}
 use Rattle.branch_marks.specs.Following.{IsShut}
 use Rattle.branch_marks.specs.LogShown.{LogShown}
-use Rattle.branch_marks.specs.TreeLog.{Notes, IsLater}
+use Rattle.branch_marks.specs.TreeLog.{IsLater}
 use Rattle.branch_tree.specs.declared.step.Step.{Step}
 use Rattle.branch_tree.specs.Counted.{IsEndOf}
-use Rattle.branch_tree.specs.Node.{Ending, Node, IsShownEnding}
+use Rattle.branch_tree.specs.Node.{Node, IsShownEnding}
 use Rattle.branch_tree.specs.NodeEvents.{node_events, step_events, ending_events}
 use Rattle.branch_tree.specs.Place.{Open}
 use Rattle.branch_tree.specs.Step.{IsVisit}

@@ -1,6 +1,6 @@
 -- The laws of search trees: what such a tree ends with is true, and its nodes are a proof tree of what the outcome
 -- claims.
-use Rattle.std.specs.Prelude.{◌≡◌, ◌+◌, ℕ, List, [], ◌∷◌, All}
+use Rattle.std.specs.Prelude.{◌≡◌, ℕ, List, [], ◌∷◌, All}
 use Rattle.tail_book.specs.Seen.{BookSeen}
 use Rattle.tail_book.specs.inside.Seen.{CostTableSeen}
 use Rattle.tail_book.specs.inside.CostTable.{IsCostTable, IsTableFor}
@@ -13,7 +13,8 @@ use Rattle.branch_tree.specs.declared.limit.Limit.{Limit}
 use Rattle.branch_tree.specs.Place.{root}
 use Rattle.branch_tree.specs.Node.{Node, IsShownNode, Bounds}
 use Rattle.branch_tree.specs.Growth.{Grows}
-use Rattle.branch_tree.specs.NodeEvents.{events_of, tree_events}
+use Rattle.branch_marks.specs.TreeEvents.{tree_events}
+use Rattle.branch_tree.specs.NodeEvents.{events_of}
 use Rattle.branch_tree.specs.Target.{no_target, HasUsedDive}
 use Rattle.branch_tree.specs.SearchTree.{SearchTree, nodes_of, IsSearchTree}
 

@@ -2,7 +2,7 @@
 //! audited, and only a cheaper legal plan is taken: so the target never rises, and is the cost of the best plan once
 //! there is one.
 
-ghost use Rattle.std.specs.Prelude.{◌≡◌, ◌≤◌, None, IfOk, List, ℕ};
+ghost use Rattle.std.specs.Prelude.{◌≡◌, ◌≤◌, None, IfOk};
 ghost use Rattle.tail_book.specs.Plan.{IsLegalPlan};
 ghost use Rattle.tail_book.specs.inside.CostTable.{IsTableFor, plan_cost_in};
 ghost use Rattle.tail_book.specs.inside.Truth.{IsPlanIn};

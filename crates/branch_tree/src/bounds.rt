@@ -4,7 +4,6 @@
 //! exact: sums are of 128 bits, and nothing is subtracted, since a target may be 0.
 
 ghost use Rattle.std.specs.Prelude.{◌≡◌, ◌↔◌, ◌+◌, ◌/◌, IsTrue, IfSome, IfNone};
-ghost use Rattle.tail_book.specs.inside.Sums.{total};
 ghost use Rattle.branch_marks.specs.Bound.{bound_of, rounded_up};
 ghost use Rattle.branch_tree.specs.Target.{Passes};
 

@@ -2,7 +2,6 @@
 //! without propagation, and told as a leaf. Bounds below the target are left, and the least of them bounds every plan.
 
 ghost use Rattle.std.specs.Prelude.{◌≡◌, ◌++◌, [], ◌∷◌, List, IfOk, OnErr, IsErrOf};
-ghost use Rattle.tail_book.specs.inside.CostTable.{IsTableFor};
 ghost use Rattle.connection_net.specs.Net.{net_of};
 ghost use Rattle.branch_marks.specs.TreeLog.{IsLater, WriteHasFailed};
 ghost use Rattle.branch_tree.specs.Closing.{IsLowest};

@@ -6,7 +6,7 @@
 //! A log that wants no events is told none, and then no aircraft is priced again: that covers with these values are there
 //! is a law of `whole_families`, and nobody reads them.
 
-ghost use Rattle.std.specs.Prelude.{◌≡◌, ◌<◌, ◌∷◌, [], All, IfOk, OnOk, OnErr, IsErrOf, List};
+ghost use Rattle.std.specs.Prelude.{◌≡◌, ◌<◌, ◌∷◌, All, IfOk, OnOk, OnErr, IsErrOf, List};
 ghost use Rattle.tail_book.specs.Lookup.{aircraft};
 ghost use Rattle.tail_book.specs.inside.CostTable.{IsTableFor};
 ghost use Rattle.branch_marks.specs.Bound.{AreLeastWeights};
@@ -15,10 +15,10 @@ ghost use Rattle.branch_marks.specs.Events.{IsNotable};
 ghost use Rattle.branch_marks.specs.Labels.{Label};
 ghost use Rattle.branch_marks.specs.ProofTree.{IsShownCover, IsShownStuck, zero_duals};
 ghost use Rattle.branch_marks.specs.Settled.{AreDuals};
-ghost use Rattle.branch_marks.specs.TreeLog.{Notes, NotesFront, IsLater, WriteHasFailed};
+ghost use Rattle.branch_marks.specs.TreeLog.{Notes, IsLater, WriteHasFailed};
 ghost use Rattle.branch_marks.specs.Weights.{IsLeastWeight};
 ghost use Rattle.pricing.specs.Rows.{labels_of};
-ghost use Rattle.branch_tree.specs.NodeEvents.{cover_event, dual_events, stuck_events};
+ghost use Rattle.branch_marks.specs.TreeEvents.{cover_event, dual_events, stuck_events};
 ghost use Rattle.branch_tree.specs.inside.Leaf.{IsReady, IsCutAtCover, IsCutAtCovers, IsCutAtLeaf, AreCoversOf, IsBoundNoted};
 
 use crate::listing::{list_duals, list_labels, list_one, list_value};

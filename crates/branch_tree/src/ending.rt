@@ -1,7 +1,7 @@
 //! The last part of a step: the end that was found is told, with what shows it. A split is one event. For a bound or a
 //! stuck aircraft the labels come from pricing again, one aircraft at a time, and only where the log wants events.
 
-ghost use Rattle.std.specs.Prelude.{◌≡◌, IfOk, OnErr, IsErrOf};
+ghost use Rattle.std.specs.Prelude.{IfOk, OnErr, IsErrOf};
 ghost use Rattle.branch_marks.specs.Settled.{AreDuals};
 ghost use Rattle.branch_marks.specs.TreeLog.{IsLater, WriteHasFailed};
 ghost use Rattle.branch_tree.specs.Step.{IsTrueStep};

@@ -1,11 +1,11 @@
 //! Lists of the events of a node, made before they are told: its steps, the duals of a bound, and the labels of a priced store.
 
-ghost use Rattle.std.specs.Prelude.{◌≡◌, ◌∷◌, ◌+◌, ◌<◌, ◌≤◌, ◌^◌, [], length, map, All, IfOk, OnOk, OnErr};
-ghost use Rattle.tail_book.specs.declared.limits.TheConstants.{COUNTER_LIMIT};
+ghost use Rattle.std.specs.Prelude.{◌≡◌, ◌∷◌, ◌<◌, ◌≤◌, ◌^◌, [], length, map, All, OnOk};
 ghost use Rattle.branch_marks.specs.Events.{IsNotable, IsLineFact, IsLineValue, IsLineLabel};
 ghost use Rattle.label_store.specs.Store.{bucket_of};
 ghost use Rattle.pricing.specs.Rows.{weight_of, counters_of, label_of, labels_of};
-ghost use Rattle.branch_tree.specs.NodeEvents.{step_events, dual_event, dual_events, label_events};
+ghost use Rattle.branch_marks.specs.TreeEvents.{dual_event, dual_events, label_events};
+ghost use Rattle.branch_tree.specs.NodeEvents.{step_events};
 ghost use Rattle.branch_tree.specs.inside.Listing.{Lists, AreSpelledLabels};
 
 use branch_marks::{Event, Fact, Row};

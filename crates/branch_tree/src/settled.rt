@@ -4,7 +4,7 @@
 //! Each turn adds a route to the pool, or it is the last: then the least weights are the pool's, so what is settled over it is
 //! settled. A pool has no more than 2^32 routes.
 
-ghost use Rattle.std.specs.Prelude.{◌≡◌, ◌<◌, ◌≤◌, length, IfOk, IfNone, IfSome, OnOk};
+ghost use Rattle.std.specs.Prelude.{◌<◌, ◌≤◌, length, IfOk, IfNone, IfSome};
 ghost use Rattle.branch_marks.specs.Settled.{AreDuals, IsSettledOver};
 ghost use Rattle.dive_heuristic.specs.Dive.{HasNoHole};
 ghost use Rattle.restricted_master.specs.Pool.{HasRoutes};

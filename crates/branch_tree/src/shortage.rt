@@ -6,7 +6,7 @@
 //! aircraft the other end, the Lagrangian sum is no less than the box's end for each activity too many, which is as much as a
 //! target can be. It is priced like any other.
 
-ghost use Rattle.std.specs.Prelude.{◌≡◌, IfOk, IfSome};
+ghost use Rattle.std.specs.Prelude.{IfOk, IfSome};
 ghost use Rattle.tail_book.specs.inside.CostTable.{IsInBox, IsTableFor};
 ghost use Rattle.branch_marks.specs.Settled.{AreDuals};
 

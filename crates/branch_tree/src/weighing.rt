@@ -3,7 +3,7 @@
 //! Where the least routes fly each activity once they are a plan that costs the Lagrangian sum. It lowers the target, and the
 //! bound reaches that: so no case of its own is needed.
 
-ghost use Rattle.std.specs.Prelude.{◌≡◌, ◌≤◌, IfOk};
+ghost use Rattle.std.specs.Prelude.{◌≤◌, IfOk};
 ghost use Rattle.branch_marks.specs.Settled.{AreDuals};
 ghost use Rattle.branch_tree.specs.Target.{IsBest};
 ghost use Rattle.branch_tree.specs.inside.Leaf.{IsReady};

@@ -11,7 +11,7 @@ use Rattle.tail_book.specs.inside.Sums.{total}
 use Rattle.branch_marks.specs.Bound.{rounded_up}
 use Rattle.branch_marks.specs.declared.fact.Fact.{Fact}
 use Rattle.cert_checker.specs.Judging.{after_leaf, done_section, lower, owes}
-use Rattle.cert_checker.specs.State.{State, Section}
+use Rattle.cert_checker.specs.State.{State}
 use Rattle.cert_checker.specs.State as section
 use Rattle.cert_checker.specs.declared.judging.Judging.{Judging}
 use Rattle.cert_checker.specs.declared.judging.Part.{Part}

@@ -8,7 +8,7 @@ use Rattle.std.specs.List.{list_all}
 use Rattle.std.specs.Prelude.{slice_set}
 use Rattle.branch_marks.specs.ProofTree.{Cover}
 use Rattle.branch_marks.specs.declared.event.Event.TheVariants as events
-use Rattle.cert_checker.specs.TreeEvents.{cover_event, cover_events, dual_event, dual_events}
+use Rattle.branch_marks.specs.TreeEvents.{cover_event, cover_events, dual_event, dual_events}
 
 -- from a number on the duals are 0
 abbrev pub AreZeroFrom : ℕ → List ℤ → Type 0

@@ -21,7 +21,7 @@ use Rattle.branch_marks.specs.inside.FollowingTests.{follows}
 use Rattle.branch_marks.specs.inside.TreeTests.{bounds_at_least, is_shown}
 use Rattle.cert_checker.specs.Judging.{lower}
 use Rattle.cert_checker.specs.Reasons.{reaches}
-use Rattle.cert_checker.specs.TreeEvents.{tree_events}
+use Rattle.branch_marks.specs.TreeEvents.{tree_events}
 
 -- each place has its tree, which is shown from its marks on and bounds by this
 abbrev pub ShownAt : BookSeen → ℕ → List (List Fact) → List Tree → Type 0

@@ -25,7 +25,7 @@ use Rattle.cert_lines.specs.declared.cert_line.CertLine.TheVariants as lines
 use Rattle.cert_checker.specs.Judging.{owed_with, rest_owed, take_cover_in, take_dual_in, take_label_in}
 use Rattle.cert_checker.specs.Reasons.{is_shown_leaf}
 use Rattle.cert_checker.specs.State.{BoundLeaf, OpenLeaf, State, Section, Start, InTree, InBound, InPlan, Claimed}
-use Rattle.cert_checker.specs.TreeEvents.{cover_events, dual_events, label_event, label_events}
+use Rattle.branch_marks.specs.TreeEvents.{cover_events, dual_events, label_event, label_events}
 use Rattle.cert_checker.specs.Verdict.{leaf_fails}
 use Rattle.cert_checker.specs.declared.verdict.Reason.TheVariants.{NotAlive, OutOfBox, OutOfPlace}
 use Rattle.cert_checker.proofs.Duals.{all_set, one_dual_more}

@@ -1,10 +1,10 @@
 -- What is kept stays of the book, line after line. The case to look at is a label: its activity is no less than that of
 -- the last one, so the family stays in order with it at the end. A leaf that begins has no labels, of which all of this
 -- holds.
-use Rattle.std.specs.Prelude.{◌==◌, ◌&&◌, nat_le, nat_lt, not, ◌-ℤ◌, ◌+ℤ◌, if◌then◌else◌}
-use Rattle.std.proofs.Common.{◌≡◌, ◌∙◌, ℕ, ℤ, pos, ◌+◌, ◌<◌, ◌≤◌, ◌*◌, ◌^◌, Bool, true, false, List, [], ◌∷◌, ◌++◌, Option, None, Some, inl, inr, length, refl, sym, ap, subst, arith}
+use Rattle.std.specs.Prelude.{◌==◌, ◌&&◌, nat_le, nat_lt, not, ◌-ℤ◌, ◌+ℤ◌}
+use Rattle.std.proofs.Common.{◌≡◌, ◌∙◌, ℕ, ℤ, pos, ◌+◌, ◌<◌, ◌≤◌, ◌*◌, ◌^◌, Bool, true, List, [], ◌∷◌, ◌++◌, Option, None, Some, inl, inr, length, sym, ap, subst, arith}
 use Rattle.std.proofs.Math.Seq.{get_or-append_seam}
-use Rattle.std.proofs.lemmas.Bool.{and_parts, cases_order, eqb-true, leb-true, ltb-true, ne_eqb}
+use Rattle.std.proofs.lemmas.Bool.{and_parts, cases_order, eqb-true, leb-true, ltb-true}
 use Rattle.std.proofs.lemmas.Int.{ints}
 use Rattle.std.proofs.lemmas.List.{get_or_append_left, length_push}
 use Rattle.std.proofs.lemmas.List.Elements.{All-nil, All-push}
@@ -15,7 +15,6 @@ use Rattle.branch_marks.specs.Labels.{Label}
 use Rattle.branch_marks.specs.ProofTree.{zero_duals}
 use Rattle.branch_marks.specs.declared.fact.Fact.{Fact}
 use Rattle.branch_marks.specs.inside.MarkTests.{is_alive}
-use Rattle.cert_checker.specs.Judging.{owed_with, rest_owed}
 use Rattle.cert_checker.specs.declared.judging.Judging.{Judging}
 use Rattle.cert_checker.specs.declared.judging.Leaf.{Leaf}
 use Rattle.cert_checker.specs.declared.judging.Part.{Part}
@@ -23,7 +22,7 @@ use Rattle.cert_checker.specs.declared.judging.Part.TheVariants.{Start, InTree, 
 use Rattle.cert_checker.specs.inside.Kept.{IsJudging, IsLeafIn, IsLeafOf, IsPartIn}
 use Rattle.tree_tests.specs.declared.branches.Branches.{Branches}
 use Rattle.tree_tests.specs.inside.Buckets.{IsFamilyOf, IsLabelOf, at_in, no_label}
-use Rattle.tree_tests.specs.inside.OpenBranches.{AreBranchesOf, behind_of, owed_of}
+use Rattle.tree_tests.specs.inside.OpenBranches.{AreBranchesOf}
 
 -- whether a node is owed says nothing of its marks
 pub owes_alone : (book : BookSeen) (branches : Branches) (owes : Bool) → AreBranchesOf book branches → AreBranchesOf book (record branches { owes = owes })

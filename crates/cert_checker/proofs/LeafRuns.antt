@@ -23,7 +23,7 @@ use Rattle.cert_lines.specs.declared.cert_line.CertLine.{CertLine}
 use Rattle.cert_lines.specs.declared.cert_line.CertLine.TheVariants as lines
 use Rattle.cert_checker.specs.Judging.{owed_with, rest_owed}
 use Rattle.cert_checker.specs.State.{OpenLeaf, State, Section, InBound}
-use Rattle.cert_checker.specs.TreeEvents.{cover_events, dual_events, label_event, label_events}
+use Rattle.branch_marks.specs.TreeEvents.{cover_events, dual_events, label_event, label_events}
 use Rattle.cert_checker.specs.Verdict.{leaf_fails}
 use Rattle.std.proofs.lemmas.List.{set_at}
 use Rattle.tail_book.specs.inside.SoundTests.{each_pair}
@@ -31,7 +31,7 @@ use Rattle.branch_marks.specs.inside.FamilyTests.{ends_at_least, goes_on, is_clo
 use Rattle.branch_marks.specs.inside.TreeTests.{is_shown_family}
 use Rattle.tail_book.specs.Lookup.{carry_of}
 use Rattle.tail_book.specs.declared.place.Place.TheVariants.{After, Carry}
-use Rattle.cert_checker.specs.TreeEvents.{dual_event}
+use Rattle.branch_marks.specs.TreeEvents.{dual_event}
 use Rattle.cert_checker.proofs.InLeaf.{rest_is}
 use Rattle.cert_checker.proofs.Running.{Passes, label_passes, one_passes, passes_then}
 

@@ -12,7 +12,7 @@ use Rattle.tail_book.specs.declared.claim.Claim.{Claim}
 use Rattle.tail_book.specs.inside.CostTable.{costs_of}
 use Rattle.tail_book.specs.inside.Sums.{total}
 use Rattle.tail_text.specs.Checks.{look, must}
-use Rattle.branch_marks.specs.ProofTree.{Cover, Tree, cover_of, zero_duals}
+use Rattle.branch_marks.specs.ProofTree.{Cover, cover_of}
 use Rattle.branch_marks.specs.ProofTree as grown
 use Rattle.branch_marks.specs.declared.event.Event.{Event}
 use Rattle.branch_marks.specs.declared.event.Event.TheVariants as events
@@ -25,7 +25,7 @@ use Rattle.cert_checker.specs.Certificate.{asked_of, claimed_cost, header_of, pl
 use Rattle.cert_checker.specs.Judging.{after_leaf, bound_of_leaf, done_section, lower, owed_with}
 use Rattle.cert_checker.specs.Reasons.{has_claimed_plan, is_shown_leaf, reaches, shows}
 use Rattle.cert_checker.specs.State.{BoundLeaf, OpenLeaf, State, Section, Start, InTree, InBound, InPlan, Claimed}
-use Rattle.cert_checker.specs.TreeEvents.{cover_event, cover_events, dual_events, label_events}
+use Rattle.branch_marks.specs.TreeEvents.{cover_event, cover_events, dual_events, label_events}
 use Rattle.cert_checker.specs.Verdict.{leaf_fails}
 use Rattle.cert_checker.specs.declared.verdict.Reason.{Reason}
 use Rattle.cert_checker.specs.declared.verdict.Reason.TheVariants.{OutOfPlace}

@@ -11,7 +11,7 @@ use Rattle.tail_book.proofs.Deciding.{int_le_tested}
 use Rattle.tail_book.specs.inside.CostTable.{box_end, costs_of}
 use Rattle.tail_text.specs.Checks.{must}
 use Rattle.branch_marks.specs.Branches.{first_branch, second_branch}
-use Rattle.branch_marks.specs.ProofTree.{Cover, Tree, cover_of, zero_duals}
+use Rattle.branch_marks.specs.ProofTree.{zero_duals}
 use Rattle.branch_marks.specs.ProofTree as grown
 use Rattle.branch_marks.specs.declared.event.Event.{Event}
 use Rattle.branch_marks.specs.declared.event.Event.TheVariants as events
@@ -27,7 +27,7 @@ use Rattle.cert_lines.specs.declared.cert_line.CertLine.TheVariants as lines
 use Rattle.cert_checker.specs.Certificate.{fly_lines, header_of}
 use Rattle.cert_checker.specs.Judging.{after_leaf, at_node, is_pair_of, next_owed, owed_with, take_bound, take_fact, take_hole, take_split, take_stuck}
 use Rattle.cert_checker.specs.State.{BoundLeaf, State, InBound}
-use Rattle.cert_checker.specs.TreeEvents.{dual_events}
+use Rattle.branch_marks.specs.TreeEvents.{dual_events}
 use Rattle.cert_checker.specs.Verdict.{leaf_fails}
 use Rattle.cert_checker.specs.declared.verdict.Reason.{Reason}
 use Rattle.cert_checker.specs.declared.verdict.Reason.TheVariants.{KnownFact, NotAlive, NotFollowing, OutOfPlace}

@@ -32,7 +32,7 @@ use Rattle.cert_checker.specs.Certificate.{tree_lines}
 use Rattle.cert_checker.specs.Judging.{bound_of_leaf, is_pair_of, lower, owed_with, owes, take_line}
 use Rattle.cert_checker.specs.Reasons.{reaches}
 use Rattle.cert_checker.specs.State.{BoundLeaf, OpenLeaf, State, InTree, InBound}
-use Rattle.cert_checker.specs.TreeEvents.{cover_events, dual_events, label_events, tree_events}
+use Rattle.branch_marks.specs.TreeEvents.{cover_events, dual_events, label_events, tree_events}
 use Rattle.cert_checker.specs.Verdict.{leaf_fails}
 use Rattle.cert_checker.proofs.LeafRuns.{same_number, CoversFit, bound_with, covers_pass, duals_pass, kept_in, labels_fit, labels_pass}
 use Rattle.cert_checker.proofs.Running.{IsBetween, IsKept, Passes, one_passes, passes_then, plain_between}

@@ -15,7 +15,7 @@ use Rattle.cert_lines.specs.declared.cert_line.CertLine.{CertLine}
 use Rattle.cert_lines.specs.declared.cert_line.CertLine.TheVariants as line
 use Rattle.cert_lines.specs.Grammar.{IsLine}
 use Rattle.cert_lines.specs.Spelling.{spelling}
-use Rattle.cert_checker.specs.TreeEvents.{tree_events}
+use Rattle.branch_marks.specs.TreeEvents.{tree_events}
 
 -- the header of the book's certificates
 abbrev pub header_of : BookSeen → CertLine

@@ -2,6 +2,5 @@ pub mod Certificate
 pub mod Judging
 pub mod Reasons
 pub mod State
-pub mod TreeEvents
 pub mod Verdict
 pub mod inside

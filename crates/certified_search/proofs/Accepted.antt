@@ -1,6 +1,6 @@
 -- A search's certificate is accepted: its nodes are a shown proof tree, its plan is that of its fliers, and its claim asks for what
 -- the bounds reach.
-use Rattle.std.proofs.Common.{◌≡◌, ◌∙◌, ◌+◌, ◌^◌, ◌<◌, ◌≤◌, ℕ, List, [], ◌∷◌, ◌++◌, length, map, Option, Some, None, refl, sym, ap, subst, arith, get_or}
+use Rattle.std.proofs.Common.{◌≡◌, ◌∙◌, ◌+◌, ◌^◌, ◌<◌, ℕ, List, [], ◌∷◌, ◌++◌, length, map, Option, Some, refl, sym, ap, subst, arith, get_or}
 use Rattle.std.proofs.lemmas.List.{length-map}
 use Rattle.std.proofs.lemmas.List.Elements.{All-append, All-cons, All-map, All-nil, All-weaker}
 use Rattle.std.proofs.lemmas.List.FromFn.{get_or-range_with_len, length-range_with_len}
@@ -17,7 +17,7 @@ use Rattle.tail_book.specs.inside.CostTable.{costs_of}
 use Rattle.tail_book.specs.inside.Fliers.{FliersFly, PlansOfTheirFliers, flier, fliers_of}
 use Rattle.tail_book.specs.inside.Sound.{IsBook}
 use Rattle.branch_marks.specs.Events.{IsNotable}
-use Rattle.branch_marks.specs.ProofTree.{BoundsAtLeast, IsShown, Tree}
+use Rattle.branch_marks.specs.ProofTree.{BoundsAtLeast, Tree}
 use Rattle.branch_marks.specs.declared.event.Event.{Event}
 use Rattle.branch_tree.specs.Laws.{SearchTreesAreBounded, ShownNodesAreTrees, claimed}
 use Rattle.branch_tree.specs.NodeEvents.{events_of}
@@ -26,11 +26,10 @@ use Rattle.branch_tree.specs.declared.limit.Limit.{Limit}
 use Rattle.cert_lines.specs.Grammar.{IsLine}
 use Rattle.cert_lines.specs.declared.cert_line.CertLine.{CertLine}
 use Rattle.cert_lines.specs.declared.cert_line.CertLine.TheVariants as line
-use Rattle.cert_checker.specs.TreeEvents.{tree_events}
+use Rattle.branch_marks.specs.TreeEvents.{tree_events}
 use Rattle.cert_checker.specs.Certificate.{Accepts, HasClaimedPlan, IsPlanOfFliers, asked_of, certificate_lines, claimed_cost, header_of, plan_lines, text_of}
 use Rattle.cert_writer.specs.Trailer.{plan_in}
 use Rattle.certified_search.specs.SearchText.{search_lines, search_text}
-use Rattle.certified_search.proofs.SameEvents.{same_events}
 use Rattle.certified_search.proofs.Spelled.{claim_good, events_good, header_good, plan_good}
 
 -- who flies each activity, where the outcome has a plan
@@ -92,7 +91,7 @@ module _ (bounded : SearchTreesAreBounded) (trees : ShownNodesAreTrees) (fly : F
       let told = events_of (nodes_of tree) in
       let (proof, shown, reached, same) = trees (costs_of book) book (claimed (costs_of book) outcome) (nodes_of tree) (bounded (costs_of book) book limit outcome tree is) in
       let all : search_lines book told outcome ≡ certificate_lines book proof (fliers_in book outcome) (claim_of outcome) =
-      same_lines book told proof outcome (sym same ∙ same_events proof) in
+      same_lines book told proof outcome (sym same) in
       let good : All IsLine (search_lines book told outcome) =
       All-cons IsLine (header_of book) (map line.Event told ++ (plan_lines (fliers_in book outcome) ++ line.Claim (claim_of outcome) ∷ [])) (header_good book sound)
       (All-append IsLine (map line.Event told) (plan_lines (fliers_in book outcome) ++ line.Claim (claim_of outcome) ∷ []) (events_good told notable)

@@ -1,4 +1,3 @@
-pub mod SameEvents
 pub mod Spelled
 pub mod Accepted
 pub mod Writing

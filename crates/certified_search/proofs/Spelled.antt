@@ -1,10 +1,9 @@
 -- Each line of a search's certificate is one that a certificate may have. The numbers of a book are few, its events are
 -- ones that a line spells, and its fliers are aircraft. The claim is left: the cost of a legal plan is limited, and a
 -- bound that is left lies below the final target, so rounded up to whole costs it is at most the target.
-use Rattle.std.proofs.Common.{◌≡◌, ◌∙◌, ◌+◌, ◌*◌, ◌^◌, ◌/◌, ◌<◌, ◌≤◌, ℕ, ℤ, List, [], ◌∷◌, ◌++◌, length, map, Option, Some, None, refl, arith}
-use Rattle.std.proofs.lemmas.List.Elements.{All-append, All-cons, All-head, All-map, All-nil, All-tail}
-use Rattle.std.specs.Prelude.{All, option_map}
-use Rattle.tail_book.specs.Lookup.{activities, aircraft}
+use Rattle.std.proofs.Common.{◌+◌, ◌^◌, ◌<◌, ◌≤◌, ℕ, List, [], ◌∷◌, length, map, Some, refl, arith}
+use Rattle.std.proofs.lemmas.List.Elements.{All-cons, All-head, All-map, All-nil, All-tail}
+use Rattle.std.specs.Prelude.{All}
 use Rattle.tail_book.specs.Seen.{BookSeen}
 use Rattle.tail_book.specs.Truth.{IsTrueOutcome, claim_of}
 use Rattle.tail_book.specs.declared.outcome.Outcome.{Outcome}
@@ -12,13 +11,11 @@ use Rattle.tail_book.specs.declared.outcome.Outcome.TheVariants.{Optimal, Infeas
 use Rattle.tail_book.specs.inside.Bounds.{LegalPlansCostAtMost}
 use Rattle.tail_book.specs.inside.CostTable.{costs_of}
 use Rattle.tail_book.specs.inside.Sound.{IsBook}
-use Rattle.branch_marks.specs.Bound.{bound_of}
 use Rattle.branch_marks.specs.Events.{IsNotable}
 use Rattle.branch_marks.specs.declared.event.Event.{Event}
 use Rattle.branch_tree.specs.Closing.{IsLeftAt, IsLowest}
 use Rattle.branch_tree.specs.Node.{Ending, Hole, Stuck, Bounded, Split, Node}
 use Rattle.branch_tree.specs.SearchTree.{IsOutcomeOf}
-use Rattle.branch_tree.specs.Target.{no_target}
 use Rattle.branch_tree.specs.declared.limit.Limit.{Limit}
 use Rattle.cert_lines.specs.Grammar.{IsLine, IsLineClaim}
 use Rattle.cert_lines.specs.declared.cert_line.CertLine.{CertLine}

@@ -1,11 +1,10 @@
 -- What a sink holds of a certificate after each of its parts: the header, the events of the search, the plan and the
 -- claim. Each part comes behind the ones before, so where one fails the sink holds a front of what was due: of a begun
 -- tree while the search runs, and of the whole certificate once it has ended.
-use Rattle.std.proofs.Common.{◌≡◌, ◌∙◌, ◌⊎◌, inl, inr, ◌<◌, ◌≤◌, ◌^◌, ◌-◌, ℕ, List, [], ◌∷◌, ◌++◌, map, Option, Some, None, refl, sym, ap, subst, append_assoc, arith}
+use Rattle.std.proofs.Common.{◌≡◌, ◌∙◌, inl, inr, ◌≤◌, ◌-◌, ℕ, List, [], ◌∷◌, ◌++◌, map, Option, Some, None, refl, sym, ap, subst, append_assoc, arith}
 use Rattle.std.proofs.lemmas.List.{append-nil, map-append}
 use Rattle.tail_book.specs.Lookup.{activities}
 use Rattle.tail_book.specs.Seen.{BookSeen}
-use Rattle.tail_book.specs.Truth.{claim_of}
 use Rattle.tail_book.specs.declared.outcome.Outcome.{Outcome}
 use Rattle.tail_book.specs.inside.CostTable.{costs_of}
 use Rattle.tail_book.specs.inside.Sound.{IsBook}
@@ -27,7 +26,7 @@ use Rattle.cert_writer.specs.Trailer.{trailer_lines}
 use Rattle.cert_writer.proofs.Lines.{text_append}
 use Rattle.certified_search.specs.SearchText.{SearchTreesAreAccepted, search_text}
 use Rattle.certified_search.specs.inside.Header.{AreNumbersOf}
-use Rattle.certified_search.specs.Written.{IsCertificateOf, IsFrontOf, IsFrontOfBegun, IsFrontOfCertificate, IsFrontOfDue}
+use Rattle.certified_search.specs.Written.{IsCertificateOf, IsFrontOfDue}
 
 -- the lines of more events
 more_events : (header : CertLine) (told rest : List Event) → event_text header (told ++ rest) ≡ event_text header told ++ text_of (map line.Event rest)

@@ -1,5 +1,5 @@
 -- What a search leaves of its certificate: all of it, or a front of what was due.
-use Rattle.std.specs.Prelude.{◌≡◌, ◌⊎◌, ℕ, false, List, [], ◌∷◌, ◌++◌, map, Option, Some}
+use Rattle.std.specs.Prelude.{◌≡◌, ◌⊎◌, ℕ, false, List, [], ◌∷◌, ◌++◌, map, Some}
 use Rattle.tail_book.specs.Seen.{BookSeen}
 use Rattle.tail_book.specs.Truth.{claim_of}
 use Rattle.tail_book.specs.declared.outcome.Outcome.{Outcome}

@@ -1,7 +1,7 @@
 //! A search that writes its certificate while it runs, and the plan and the claim at its end. Nothing of a node that
 //! was told is kept for the certificate but lines that wait for the sink, one piece at a time.
 
-ghost use Rattle.std.specs.Prelude.{◌≡◌, ◌≤◌, [], false, IfOk, OnErr, IsErrOf, length};
+ghost use Rattle.std.specs.Prelude.{◌≡◌, ◌≤◌, false, IfOk, OnErr, IsErrOf};
 ghost use Rattle.tail_book.specs.Lookup.{activities, aircraft};
 ghost use Rattle.tail_book.specs.Truth.{IsTrueOutcome};
 ghost use Rattle.tail_book.specs.inside.CostTable.{costs_of};

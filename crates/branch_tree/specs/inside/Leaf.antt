@@ -1,5 +1,5 @@
 -- Pricing all aircraft at a leaf, and what is told of it: a whole end, a front of one, or nothing.
-use Rattle.std.specs.Prelude.{◌≡◌, ◌+◌, ◌<◌, ◌≤◌, ⊤, ℕ, ℤ, List, [], ◌∷◌, All, length, map, take}
+use Rattle.std.specs.Prelude.{◌≡◌, ◌+◌, ◌<◌, ◌≤◌, ⊤, ℕ, ℤ, List, [], All, length, map, take}
 use Rattle.tail_book.specs.Seen.{BookSeen}
 use Rattle.tail_book.specs.inside.Seen.{CostTableSeen}
 use Rattle.tail_book.specs.Lookup.{activities, aircraft}
@@ -29,7 +29,8 @@ use Rattle.branch_tree.specs.declared.leaf.PricedLeaf.TheVariants as leaf
 use Rattle.branch_tree.specs.Closing.{IsPriced}
 use Rattle.branch_tree.specs.Place.{Open}
 use Rattle.branch_tree.specs.Node.{Ending, Stuck, Bounded, IsShownEnding, AreFirstCovers}
-use Rattle.branch_tree.specs.NodeEvents.{cover_events, ending_events, bound_events}
+use Rattle.branch_marks.specs.TreeEvents.{cover_events, bound_events}
+use Rattle.branch_tree.specs.NodeEvents.{ending_events}
 
 -- the node pricer is of the book and the table: what it reads of them, a store that has room for the labels, and a search
 pub record IsNodePricerOf (table : CostTableSeen) (book : BookSeen) (prices : NodePricer) : Type 0 where

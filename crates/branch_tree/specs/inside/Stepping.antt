@@ -10,7 +10,7 @@ use Rattle.branch_marks.specs.DeadEnds.{IsStuck}
 use Rattle.branch_marks.specs.Following.{FollowInTurn}
 use Rattle.branch_marks.specs.LogShown.{LogShown}
 use Rattle.branch_marks.specs.MarksSeen.{MarksSeen}
-use Rattle.branch_marks.specs.Pool.{Pooled, IsFittingEntry}
+use Rattle.branch_marks.specs.Pool.{IsFittingEntry}
 use Rattle.branch_marks.specs.TreeLog.{Notes, NotesFront}
 use Rattle.restricted_master.specs.Pool.{IsPoolFor}
 use Rattle.restricted_master.specs.Seen.{PoolSeen}

@@ -1,4 +1,4 @@
-use Rattle.std.proofs.Common.{◌≡◌, ◌<◌, ℕ, List, take}
+use Rattle.std.proofs.Common.{List}
 use Rattle.branch_marks.specs.declared.fact.Fact.{Fact}
 use Rattle.branch_tree.specs.inside.Pooling.{AreFittingRoutes, HasAll, HasGrown}
 use Rattle.branch_tree.specs.inside.Stepping.{IsFittingPool}

@@ -4,7 +4,7 @@ use Rattle.branch_marks.specs.declared.event.Event.{Event}
 use Rattle.branch_marks.specs.ProofTree.{Cover, IsShownCover}
 use Rattle.branch_marks.specs.TreeLog.{NotesFront}
 use Rattle.pricing.specs.Rows.{labels_of}
-use Rattle.branch_tree.specs.NodeEvents.{cover_event, cover_events}
+use Rattle.branch_marks.specs.TreeEvents.{cover_event}
 use Rattle.branch_tree.proofs.Lists.{cover_one}
 use Rattle.branch_tree.proofs.covers.note_cover.Goals as goal
 

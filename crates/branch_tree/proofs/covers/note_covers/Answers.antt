@@ -1,5 +1,4 @@
-use Rattle.std.proofs.Common.{rules, ◌≡◌, ◌<◌, length, arith, refl}
-use Rattle.tail_book.specs.Lookup.{aircraft}
+use Rattle.std.proofs.Common.{arith, refl}
 use Rattle.branch_marks.specs.Bound.{value_of}
 use Rattle.branch_marks.specs.ProofTree.{Cover}
 use Rattle.branch_tree.proofs.Cuts.{later_none, later_then}

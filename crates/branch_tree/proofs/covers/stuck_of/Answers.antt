@@ -1,7 +1,6 @@
 use Rattle.std.proofs.Common.{List, ℤ, subst, sym}
-use Rattle.branch_marks.specs.ProofTree.{IsShownFamily, zero_duals}
+use Rattle.branch_marks.specs.ProofTree.{zero_duals}
 use Rattle.branch_marks.specs.Settled.{AreDuals}
-use Rattle.pricing.specs.Rows.{labels_of}
 use Rattle.branch_tree.specs.inside.PricedStore.{IsPricedStore}
 use Rattle.branch_tree.proofs.covers.stuck_of.Goals as goal
 

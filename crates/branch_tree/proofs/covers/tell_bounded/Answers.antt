@@ -1,8 +1,8 @@
-use Rattle.std.proofs.Common.{◌≡◌, ◌∙◌, List, [], ◌∷◌, ◌++◌, arith, subst}
+use Rattle.std.proofs.Common.{◌≡◌, ◌∙◌, List, [], ◌∷◌, arith, subst}
 use Rattle.branch_marks.specs.declared.event.Event.{Event}
 use Rattle.branch_marks.specs.declared.event.Event.TheVariants as told
 use Rattle.branch_marks.specs.TreeLog.{Notes, NotesFront}
-use Rattle.branch_tree.specs.NodeEvents.{dual_events, cover_events}
+use Rattle.branch_marks.specs.TreeEvents.{dual_events, cover_events}
 use Rattle.branch_tree.specs.inside.Leaf.{Begun}
 use Rattle.branch_tree.proofs.Cuts.{front_first, front_then}
 use Rattle.branch_tree.proofs.covers.tell_bounded.Goals as goal

@@ -3,7 +3,7 @@ use Rattle.branch_marks.specs.declared.event.Event.{Event}
 use Rattle.branch_marks.specs.TreeLog.{NotesFront}
 use Rattle.pricing.specs.Rows.{labels_of}
 use Rattle.branch_tree.specs.Node.{Stuck}
-use Rattle.branch_tree.specs.NodeEvents.{stuck_events}
+use Rattle.branch_marks.specs.TreeEvents.{stuck_events}
 use Rattle.branch_tree.specs.inside.Leaf.{Whole}
 use Rattle.branch_tree.proofs.covers.tell_stuck.Goals as goal
 

@@ -1,10 +1,9 @@
-use Rattle.std.proofs.Common.{rules, ◌≡◌, ◌∙◌, ℤ, List, arith, ap, subst, sym, refl, to_z, of_z}
+use Rattle.std.proofs.Common.{rules, ◌≡◌, ◌∙◌, ℤ, List, ap, subst, sym, refl, to_z, of_z}
 use Rattle.std.specs.Int.{w128}
 use Rattle.std.proofs.lemmas.Int.{to_z-of_z}
 use Rattle.branch_marks.specs.Bound.{AreLeastWeights, lagrangian}
 use Rattle.branch_tree.specs.declared.node_pricer.PricedAll.{PricedAll}
 use Rattle.branch_tree.specs.Node.{Stuck, Bounded}
-use Rattle.branch_tree.specs.Place.{Open}
 use Rattle.branch_tree.specs.inside.Leaf.{ArePrices}
 use Rattle.branch_tree.proofs.Cuts.{front_whole, notes_none}
 use Rattle.branch_tree.proofs.LeafStops.{leaf_stops, untold_stops}

@@ -1,7 +1,7 @@
 use Rattle.std.proofs.Common.{take, map}
 use Rattle.label_store.specs.Store.{bucket_of}
 use Rattle.pricing.specs.Rows.{label_of}
-use Rattle.branch_tree.specs.NodeEvents.{label_events}
+use Rattle.branch_marks.specs.TreeEvents.{label_events}
 use Rattle.branch_tree.specs.inside.Listing.{Lists}
 use Rattle.branch_tree.proofs.listing.list_bucket.Given as goal
 

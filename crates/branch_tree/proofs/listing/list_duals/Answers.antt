@@ -1,4 +1,4 @@
-use Rattle.std.proofs.Common.{List, [], subst, sym}
+use Rattle.std.proofs.Common.{List, subst, sym}
 use Rattle.branch_marks.specs.declared.event.Event.{Event}
 use Rattle.branch_tree.specs.inside.Listing.{Lists}
 use Rattle.branch_tree.proofs.Lists.{lists_none, lists_then, no_duals, duals_more}

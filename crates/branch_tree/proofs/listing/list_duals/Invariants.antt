@@ -1,5 +1,5 @@
 use Rattle.std.proofs.Common.{take}
-use Rattle.branch_tree.specs.NodeEvents.{dual_events}
+use Rattle.branch_marks.specs.TreeEvents.{dual_events}
 use Rattle.branch_tree.specs.inside.Listing.{Lists}
 use Rattle.branch_tree.proofs.listing.list_duals.Given as goal
 

@@ -1,4 +1,4 @@
-use Rattle.std.proofs.Common.{◌≡◌, ℕ, List, sym, subst}
+use Rattle.std.proofs.Common.{ℕ, List, sym, subst}
 use Rattle.dive_heuristic.specs.LeastRoutes.{AreLeastRoutes, IsEachInOne}
 use Rattle.branch_tree.proofs.PairChoices.{least_routes, plan_passes}
 use Rattle.branch_tree.proofs.splitting.split.Goals as goal

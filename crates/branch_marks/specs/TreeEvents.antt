@@ -31,10 +31,18 @@ abbrev pub cover_events : ℕ → List Cover → List Event
 cover_events k [] = []
 cover_events k (cover ∷ covers) = cover_event k cover ++ cover_events (k + 1) covers
 
+-- a bound, its duals, and its covers
+abbrev pub bound_events : List ℤ → List Cover → List Event
+bound_events duals covers = event.Bound ∷ dual_events 0 duals ++ cover_events 0 covers
+
+-- a stuck aircraft, and the labels that show it
+abbrev pub stuck_events : ℕ → List Label → List Event
+stuck_events k family = event.Stuck k ∷ label_events family
+
 -- the events of the tree
 abbrev pub tree_events : Tree → List Event
 tree_events (Step fact tree) = event.Fact fact ∷ tree_events tree
 tree_events (Split pair one other) = event.Split pair ∷ tree_events one ++ tree_events other
 tree_events (Hole a) = event.Hole a ∷ []
-tree_events (Stuck k family) = event.Stuck k ∷ label_events family
-tree_events (Bounded duals covers) = event.Bound ∷ dual_events 0 duals ++ cover_events 0 covers
+tree_events (Stuck k family) = stuck_events k family
+tree_events (Bounded duals covers) = bound_events duals covers
