@@ -3,13 +3,12 @@
 -- Where a ends at the airport at which b starts, a common aircraft is one that has the link, and the other way round;
 -- where it does not, nobody has the link. The odd case is a stop in which no turn is in time: each type's turn is a day
 -- at most, so nobody turns in it.
-use Rattle.std.proofs.Common.{◌≡◌, ◌≢◌, ◌∙◌, ℕ, pos, ◌+◌, ◌-◌, ◌<◌, arith, ap, refl, subst, sym, Bool, true, false, List, [], ◌∷◌, ◌++◌, None, Some, get_or, length, ⊎_elim}
+use Rattle.std.proofs.Common.{◌≡◌, ◌≢◌, ◌∙◌, ℕ, pos, ◌+◌, ◌-◌, ◌<◌, arith, ap, refl, sym, Bool, true, false, None, Some, get_or}
 use Rattle.std.specs.Prelude.{◌&&◌, ◌||◌, nat_eq, nat_lt, IsTrue}
 use Rattle.std.specs.List.{list_any, range_with_len}
 use Rattle.std.specs.Bool.{Decides}
-use Rattle.std.proofs.lemmas.Bool.{and_parts, both_ways, cases_lt, eq-eqb, ne_eqb}
+use Rattle.std.proofs.lemmas.Bool.{and_parts, both_ways, eq-eqb, ne_eqb}
 use Rattle.std.proofs.lemmas.Bool.Decides.{nat_tests, Decides-like, same_from_decides}
-use Rattle.std.proofs.lemmas.List.{get_or_append_left, get_or-append_right}
 use Rattle.std.proofs.lemmas.List.Folds.{Any-from_list_any, list_any_at}
 use Rattle.std.proofs.lemmas.List.FromFn.{length-range_with_len, get_or-range_with_len}
 use Rattle.tail_book.specs.Seen.{BookSeen}
@@ -47,17 +46,6 @@ below_from k n p b so h = grind (arith, nat_tests)
 
 apart : (p t f : Bool) → p ≡ false → ((p && t) && f) ≡ true → ⊥
 apart p t f unfit all = grind arith
-
--- one element more, of which the same holds at its number
-pub each_more : {A : Type 0} (P : ℕ → A → Type 0) (xs : List A) (x d : A) (n : ℕ) → length xs ≡ n → ((i : ℕ) → i < n → P i (get_or xs i d)) → P n x
-    → (i : ℕ) → i < n + 1 → P i (get_or (xs ++ x ∷ []) i d)
-each_more P xs x d n long each last i lt = ⊎_elim
-    (λ before. subst (P i) (sym (get_or_append_left xs (x ∷ []) d i (omega (arith, long, before)))) (each i before))
-    (λ after.
-    let here : i ≡ n = omega (arith, lt, after) in
-    let none : n - n ≡ 0 = omega arith in
-    rw here (subst (P n) (sym (get_or-append_right xs (x ∷ []) n n d long (omega arith) ∙ ap (λ j. get_or (x ∷ []) j d) none)) last))
-    (cases_lt i n)
 
 -- a test of the numbers below n: one of them passes
 pub any_below : (p : ℕ → Bool) (n : ℕ) → Decides (list_any p (range_with_len 0 n)) ((k : ℕ) × (k < n) × (p k ≡ true))

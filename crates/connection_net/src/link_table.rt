@@ -9,9 +9,9 @@
 
 ghost use Rattle.std.specs.Prelude.{◌≡◌, ◌<◌, ◌↔◌, ◌-ℤ◌, ◌≤ℤ◌, ◌&&◌, ℕ, pos, negsuc, IfOk, IsTrue, length, if◌then◌else◌};
 ghost use Rattle.std.specs.Int.{int_min};
-ghost use Rattle.tail_book.specs.Lookup.{activities, aircraft, kind_of, is_flight, from_port, to_port, start_of, end_of, type_turn, port_turn};
+ghost use Rattle.tail_book.specs.Lookup.{activities, aircraft, kind_of, type_turn};
 ghost use Rattle.tail_book.specs.Numbers.{int_le};
-ghost use Rattle.tail_book.specs.inside.Sound.{IsMoment, IsWithin};
+ghost use Rattle.tail_book.specs.inside.Sound.{IsWithin};
 ghost use Rattle.tail_book.specs.inside.Tests.{is_allowed};
 ghost use Rattle.turn_rules.specs.inside.PermissionTable.{ArePermissionsOf};
 ghost use Rattle.connection_net.specs.inside.AircraftSet.{has};

@@ -1,4 +1,6 @@
 pub mod NameLemmas
+pub mod Rows
+pub mod Listed
 pub mod Timed
 pub mod Rise
 pub mod FlownOnce

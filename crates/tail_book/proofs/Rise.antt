@@ -16,7 +16,8 @@ use Rattle.tail_book.specs.inside.Place.{IsPlaceOf, IsBefore}
 use Rattle.tail_book.specs.inside.Rising.{IsRisingFrom}
 use Rattle.tail_book.proofs.Timed.{IsTimed}
 
-chosen : (b : Bool) (z w : ℤ) → pos 0 ≤ℤ z → pos 0 ≤ℤ (if b then int_max z w else pos 0)
+-- the longer of two turns takes no less than no time, and neither does none
+pub chosen : (turns : Bool) (z w : ℤ) → pos 0 ≤ℤ z → pos 0 ≤ℤ (if turns then int_max z w else pos 0)
 chosen true z w h = omega (arith, ints, int_max_is z w)
 chosen false z w h = omega (arith, ints)
 

@@ -1,12 +1,10 @@
--- The book's own costs: the entry of aircraft k and activity a stands behind k rows, and so each cost by the table is
--- the book's. The entry goes by induction on the rows, all of one length, and routes and plans by induction on their
--- lists.
+-- The book's own costs: a row for each aircraft, with an entry for each activity, so each cost by the table is the
+-- book's. Routes and plans go by induction on their lists.
 --
 -- That it is a cost table comes from the book's limits: no entry and no band passes its maximum, and with at most 4,000
 -- activities at two million each the sums of duals and costs stay within 2^61.
-use Rattle.std.proofs.Common.{◌≡◌, ℕ, zero, suc, ◌+◌, ◌*◌, ◌^◌, ◌<◌, ◌≤◌, arith, List, [], ◌∷◌, ◌++◌, length, sym, refl, ap, ap₂, ◌∙◌, subst, get_or}
+use Rattle.std.proofs.Common.{◌≡◌, ℕ, zero, suc, ◌+◌, ◌*◌, ◌^◌, ◌<◌, ◌≤◌, arith, List, [], ◌∷◌, length, refl, ap, ap₂, ◌∙◌, subst, get_or}
 use Rattle.std.proofs.Math.Nat.{mul-le-mul}
-use Rattle.std.proofs.lemmas.List.{append-nil, append_assoc, get_or_append_left, get_or-append-add, length-append}
 use Rattle.std.proofs.lemmas.List.Elements.{All-head, All-tail, All-append, All-from_get_or}
 use Rattle.std.proofs.lemmas.List.FromFn.{length-map-range_with_len, get_or-map-range_with_len}
 use Rattle.std.specs.Prelude.{All}
@@ -21,38 +19,8 @@ use Rattle.tail_book.specs.inside.CostTable.{IsCostTable, IsTableFor, activity_c
 use Rattle.tail_book.specs.Plan.{IsLegalPlan}
 use Rattle.tail_book.specs.inside.Sound.{IsBook}
 use Rattle.tail_book.proofs.Costs.{activity_cost_most}
+use Rattle.tail_book.proofs.Rows.{entry, rows_length}
 use Rattle.tail_book.proofs.Partition.{plan_of_book}
-
--- one row more
-pub rows_more : {A : Type 0} (f : ℕ → List A) (s n j : ℕ) → s + n ≡ j → flat_map f (range_with_len s (suc n)) ≡ flat_map f (range_with_len s n) ++ f j
-rows_more f s zero j e = append-nil (f s) ∙ ap f (omega (arith, e))
-rows_more f s (suc n) j e =
-    let rest = rows_more f (s + 1) n j (omega (arith, e)) in
-    ap (λ xs. f s ++ xs) rest ∙ sym (append_assoc (f s) (flat_map f (range_with_len (s + 1) n)) (f j))
-
--- rows of n elements each
-rows_length : (f : ℕ → List ℕ) (n : ℕ) → ((j : ℕ) → length (f j) ≡ n) → (s m : ℕ) → length (flat_map f (range_with_len s m)) ≡ n * m
-rows_length f n each s zero = omega arith
-rows_length f n each s (suc m) =
-    let joined = length-append (f s) (flat_map f (range_with_len (s + 1) m)) in
-    let here = each s in
-    let rest = rows_length f n each (s + 1) m in
-    omega (arith, joined, here, rest)
-
-entry : (f : ℕ → List ℕ) (n : ℕ) → ((j : ℕ) → length (f j) ≡ n) → (s m k a : ℕ) → k < m → a < n
-    → get_or (flat_map f (range_with_len s m)) (k * n + a) 0 ≡ get_or (f (s + k)) a 0
-entry f n each s zero k a lt la = absurd (omega (arith, lt))
-entry f n each s (suc m) zero a lt la =
-    let rest = flat_map f (range_with_len (s + 1) m) in
-    let place : 0 * n + a ≡ a = omega arith in
-    let same : f s ≡ f (s + 0) = ap f (omega arith) in
-    ap (λ i. get_or (f s ++ rest) i 0) place ∙ get_or_append_left (f s) rest 0 a (omega (arith, each s, la)) ∙ ap (λ row. get_or row a 0) same
-entry f n each s (suc m) (suc k) a lt la =
-    let rest = flat_map f (range_with_len (s + 1) m) in
-    let place : suc k * n + a ≡ length (f s) + (k * n + a) = omega (arith, each s) in
-    let same : f (s + 1 + k) ≡ f (s + suc k) = ap f (omega arith) in
-    ap (λ i. get_or (f s ++ rest) i 0) place ∙ get_or-append-add (f s) rest (k * n + a) 0
-    ∙ entry f n each (s + 1) m k a (omega (arith, lt)) la ∙ ap (λ row. get_or row a 0) same
 
 row_length : (book : BookSeen) (k : ℕ) → length (activity_costs book k) ≡ activities book
 row_length book k = length-map-range_with_len (activity_cost book k) 0 (activities book)
@@ -70,7 +38,7 @@ own_costs_for_book book = record {
 pub own_activity_cost : (book : BookSeen) (k a : ℕ) → k < aircraft book → a < activities book → activity_cost_in (costs_of book) k a ≡ activity_cost book k a
 own_activity_cost book k a lk la =
     let same : activity_costs book (0 + k) ≡ activity_costs book k = ap (activity_costs book) (omega arith) in
-    entry (activity_costs book) (activities book) (row_length book) 0 (aircraft book) k a lk la ∙ ap (λ row. get_or row a 0) same ∙ row_entry book k a la
+    entry 0 (activity_costs book) (activities book) (row_length book) 0 (aircraft book) k a lk la ∙ ap (λ row. get_or row a 0) same ∙ row_entry book k a la
 
 pub own_connection_cost : (book : BookSeen) (k : ℕ) (x : Place) (b : ℕ) → connection_cost_in (costs_of book) book k x b ≡ connection_cost book k x b
 own_connection_cost book k Carry b = refl

@@ -1,7 +1,6 @@
 -- A turn takes no less than no time, so where there is a link, the aircraft is free before the activity starts.
-use Rattle.std.proofs.Common.{ℕ, ℤ, pos, ◌≤ℤ◌, ◌<◌, Bool, true, false, arith, if◌then◌else◌}
-use Rattle.std.specs.Int.{int_max}
-use Rattle.std.proofs.lemmas.Int.{ints, int_max_is}
+use Rattle.std.proofs.Common.{ℕ, pos, ◌≤ℤ◌, ◌<◌, arith}
+use Rattle.std.proofs.lemmas.Int.{ints}
 use Rattle.std.proofs.lemmas.List.Elements.{All-get_or}
 use Rattle.tail_book.specs.Seen.{BookSeen}
 use Rattle.tail_book.specs.declared.place.Place.{Place}
@@ -9,11 +8,8 @@ use Rattle.tail_book.specs.declared.place.Place.TheVariants.{Carry, After}
 use Rattle.tail_book.specs.Lookup.{aircraft, no_tail, no_type, kind_of}
 use Rattle.tail_book.specs.Link.{IsLink, turn_time}
 use Rattle.tail_book.specs.inside.Sound.{IsBook, IsKind}
+use Rattle.tail_book.proofs.Rise.{chosen}
 use Rattle.turn_rules.specs.inside.FreeBefore.{IsFreeBefore}
-
-chosen : (t : Bool) (z w : ℤ) → pos 0 ≤ℤ z → pos 0 ≤ℤ (if t then int_max z w else pos 0)
-chosen true z w h = omega (arith, ints, int_max_is z w)
-chosen false z w h = omega (arith, ints)
 
 turn_takes : (book : BookSeen) → IsBook book → (k : ℕ) → k < aircraft book → (x : Place) (b : ℕ) → pos 0 ≤ℤ turn_time book k x b
 turn_takes book sound k lt Carry b = omega (arith, ints)

@@ -1,6 +1,6 @@
 use Rattle.std.proofs.Common.{rules}
 use Rattle.connection_net.specs.inside.LinkTable.{IsLegOf, no_leg}
-use Rattle.connection_net.proofs.Links.{each_more}
+use Rattle.tail_book.proofs.Listed.{each_more}
 use Rattle.connection_net.proofs.link_table.all_legs.Goals as goal
 
 -- the next row stands last

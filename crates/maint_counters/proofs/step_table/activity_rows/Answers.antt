@@ -1,6 +1,6 @@
 use Rattle.std.proofs.Common.{rules}
 use Rattle.maint_counters.specs.inside.StepTable.{IsActivityRow, no_activity_row}
-use Rattle.maint_counters.proofs.Listed.{each_more}
+use Rattle.tail_book.proofs.Listed.{each_more}
 use Rattle.maint_counters.proofs.step_table.activity_rows.Goals as goal
 
 -- the next row stands last

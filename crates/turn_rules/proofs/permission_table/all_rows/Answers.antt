@@ -1,7 +1,7 @@
 use Rattle.std.proofs.Common.{arith, sym}
 use Rattle.std.proofs.Math.Numerals.{add-one}
 use Rattle.turn_rules.specs.inside.PermissionTable.{allowed_to}
-use Rattle.turn_rules.proofs.Permissions.{rows_more}
+use Rattle.tail_book.proofs.Rows.{rows_more}
 use Rattle.turn_rules.proofs.permission_table.all_rows.Goals as goal
 
 -- the next aircraft's answers stand last
