@@ -5,3 +5,4 @@ mod Buckets
 mod Entering
 mod Offers
 mod OneBucket
+pub mod Growing

@@ -2,3 +2,4 @@
 pub mod RowsParts
 pub mod Packing
 pub mod Laws
+pub mod Growth

@@ -1,6 +1,6 @@
 -- The labels of all buckets as one list: what holds of the rows of each bucket holds of each label, and what a bucket covers
 -- some label covers. So buckets that are done are a closed family, and a least end among them is least of all.
-use Rattle.std.proofs.Common.{◌≡◌, ℕ, zero, suc, ℤ, ◌≤ℤ◌, ◌<◌, arith, refl, List, [], ◌∷◌, length, Option, None, Some, sym, ◌∙◌, ap, subst}
+use Rattle.std.proofs.Common.{◌≡◌, ℕ, zero, suc, ℤ, ◌≤ℤ◌, ◌<◌, arith, List, [], ◌∷◌, length, None, Some, sym, ◌∙◌, ap, subst}
 use Rattle.std.specs.Prelude.{All, slice_index_or}
 use Rattle.std.specs.List.{Contains, concat}
 use Rattle.std.proofs.lemmas.List.{get_or-map, length-map}

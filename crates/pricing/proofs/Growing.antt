@@ -1,42 +1,14 @@
 -- Stores that grow in the bucket of b alone. Growth chains, and what it keeps is kept: rows have their values, what is
 -- covered stays covered, and no other bucket changes. That a row was tried means that what it gives is covered or
 -- passes a limit, so what was tried stays tried; and with one row more the rows of a bucket up to a place have been.
-use Rattle.std.proofs.Common.{◌≡◌, ℕ, ℤ, ◌+◌, ◌<◌, arith, refl, inl, inr, List, get_or, ◌∙◌, subst}
+use Rattle.std.proofs.Common.{◌≡◌, ℕ, ℤ, ◌+◌, ◌<◌, arith, inl, inr, List, get_or, subst}
 use Rattle.std.proofs.lemmas.Bool.{cases_lt}
 use Rattle.tail_book.specs.Seen.{BookSeen}
 use Rattle.tail_book.specs.declared.place.Place.{Place}
 use Rattle.label_store.specs.Seen.{StoreSeen}
 use Rattle.label_store.specs.Buckets.{row_at}
 use Rattle.pricing.specs.inside.Truth.{row_after}
-use Rattle.pricing.specs.inside.Growth.{Grows, IsAsWide, Tried}
-
-pub Grows-refl : (b : ℕ) (store : StoreSeen) → Grows b store store
-Grows-refl b store = record {
-  rows = record { longer = omega arith; rows = λ i lt. refl; parents = λ i lt. refl; nodes = λ i lt. refl };
-  covered = λ v row covered. covered;
-  others = λ v other. refl;
-}
-
-pub Grows-trans : (b : ℕ) (one two three : StoreSeen) → Grows b one two → Grows b two three → Grows b one three
-Grows-trans b one two three first next =
-    let longer = first.rows.longer in
-    let longer_yet = next.rows.longer in
-    record {
-      rows = record {
-        longer = omega (arith, longer, longer_yet);
-        rows = λ i lt. next.rows.rows i (omega (arith, lt, longer)) ∙ first.rows.rows i lt;
-        parents = λ i lt. next.rows.parents i (omega (arith, lt, longer)) ∙ first.rows.parents i lt;
-        nodes = λ i lt. next.rows.nodes i (omega (arith, lt, longer)) ∙ first.rows.nodes i lt;
-      };
-      covered = λ v row covered. next.covered v row (first.covered v row covered);
-      others = λ v other. next.others v other ∙ first.others v other;
-    }
-
-pub wide_refl : (store : StoreSeen) → IsAsWide store store
-wide_refl store = record { width = refl; nodes = refl }
-
-pub wide_trans : (one two three : StoreSeen) → IsAsWide one two → IsAsWide two three → IsAsWide one three
-wide_trans one two three first next = record { width = next.width ∙ first.width; nodes = next.nodes ∙ first.nodes }
+use Rattle.pricing.specs.inside.Growth.{Grows, Tried}
 
 -- what was tried stays tried
 pub tried_stays : (book : BookSeen) (k : ℕ) (old new : StoreSeen) (arc : ℤ) (x : Place) (b c : ℕ) (row : List ℤ) → Grows c old new

@@ -20,7 +20,7 @@ use Rattle.pricing.specs.declared.waiting.Waiting.{Waiting}
 use Rattle.pricing.specs.declared.window.Window.{Window}
 use Rattle.pricing.specs.inside.Growth.{Grows}
 use Rattle.pricing.specs.inside.Waiting.{AreFlights, AreHeld, ArePending, HaveEntered, IsHeld, IsEntryOf, IsEntry, IsWaiting, Joins, MayWait, enters_after, label_at, place_at, window_at}
-use Rattle.pricing.proofs.Growing.{Grows-refl, Grows-trans}
+use Rattle.label_store.proofs.Growing.{grows_refl, grows_trans}
 
 module _ (book : BookSeen) (marks : List Fact) (stand : Stand) (windows : List Window) (store : StoreSeen) where
   -- what is an entry is one where its window, its label, its activity and its key are the same
@@ -72,12 +72,12 @@ joined i x j old new grows labels places is_labels is_places = record {
 }
 
 pub joins_refl : (i : ℕ) (waiting : Waiting) → Joins i waiting waiting
-joins_refl i waiting = record { keys = Grows-refl i waiting.keys; labels = λ e lt. refl; places = λ e lt. refl }
+joins_refl i waiting = record { keys = grows_refl waiting.keys; labels = λ e lt. refl; places = λ e lt. refl }
 
 pub joins_trans : (i : ℕ) (one two three : Waiting) → Joins i one two → Joins i two three → Joins i one three
 joins_trans i one two three first next =
     let longer = first.keys.rows.longer in record {
-      keys = Grows-trans i one.keys two.keys three.keys first.keys next.keys;
+      keys = grows_trans one.keys two.keys three.keys first.keys next.keys;
       labels = λ e lt. next.labels e (omega (arith, lt, longer)) ∙ first.labels e lt;
       places = λ e lt. next.places e (omega (arith, lt, longer)) ∙ first.places e lt;
     }

@@ -2,7 +2,7 @@
 -- that what it gives is covered, passes a limit of a counter, or is past the limit of weight; covered stays covered,
 -- and the limit only falls, so what was tried stays tried. An activity's bucket is done once all that may come next was
 -- tried from each of its rows, and those rows are still what they were.
-use Rattle.std.proofs.Common.{◌≡◌, ℕ, ℤ, ◌+ℤ◌, ◌-ℤ◌, ◌≤ℤ◌, ◌<ℤ◌, suc, ◌+◌, ◌<◌, ◌≤◌, arith, refl, inl, inr, List, ◌∷◌, length, get_or, sym, ◌∙◌, subst}
+use Rattle.std.proofs.Common.{◌≡◌, ℕ, ℤ, ◌+ℤ◌, ◌-ℤ◌, ◌≤ℤ◌, ◌<ℤ◌, suc, ◌+◌, ◌<◌, ◌≤◌, arith, inl, inr, List, ◌∷◌, length, get_or, sym, subst}
 use Rattle.std.specs.Prelude.{pos}
 use Rattle.std.specs.List.{Contains}
 use Rattle.std.proofs.lemmas.Bool.{cases_lt}
@@ -22,39 +22,11 @@ use Rattle.pricing.specs.Rows.{weight_of}
 use Rattle.pricing.specs.inside.Truth.{first_row, row_after}
 use Rattle.route_search.specs.declared.completion.Way.{Way}
 use Rattle.route_search.specs.inside.Completion.{IsWay}
-use Rattle.route_search.specs.inside.Reach.{IsPast, IsTried, AreTried, IsDone, AreDone, Grows, IsAsWide}
-
-pub Grows-refl : (m : ℕ) (store : StoreSeen) → Grows m store store
-Grows-refl m store = record {
-  rows = record { longer = omega arith; rows = λ i lt. refl; parents = λ i lt. refl; nodes = λ i lt. refl };
-  covered = λ v row covered. covered;
-  others = λ v other. refl;
-}
-
-pub Grows-trans : (m : ℕ) (one two three : StoreSeen) → Grows m one two → Grows m two three → Grows m one three
-Grows-trans m one two three first next =
-    let longer = first.rows.longer in
-    let longer_yet = next.rows.longer in
-    record {
-      rows = record {
-        longer = omega (arith, longer, longer_yet);
-        rows = λ i lt. next.rows.rows i (omega (arith, lt, longer)) ∙ first.rows.rows i lt;
-        parents = λ i lt. next.rows.parents i (omega (arith, lt, longer)) ∙ first.rows.parents i lt;
-        nodes = λ i lt. next.rows.nodes i (omega (arith, lt, longer)) ∙ first.rows.nodes i lt;
-      };
-      covered = λ v row covered. next.covered v row (first.covered v row covered);
-      others = λ v other. next.others v other ∙ first.others v other;
-    }
+use Rattle.route_search.specs.inside.Reach.{IsPast, IsTried, AreTried, IsDone, AreDone, Grows}
 
 -- what leaves more buckets as they are leaves fewer as they are
 pub Grows-less : (m n : ℕ) (old new : StoreSeen) → m ≤ n → Grows n old new → Grows m old new
 Grows-less m n old new le grows = record { rows = grows.rows; covered = grows.covered; others = λ v lt. grows.others v (omega (arith, lt, le)) }
-
-pub wide_refl : (store : StoreSeen) → IsAsWide store store
-wide_refl store = record { width = refl; nodes = refl }
-
-pub wide_trans : (one two three : StoreSeen) → IsAsWide one two → IsAsWide two three → IsAsWide one three
-wide_trans one two three first next = record { width = next.width ∙ first.width; nodes = next.nodes ∙ first.nodes }
 
 -- a row of a bucket is kept, and has its node
 pub row_of_bucket : (store : StoreSeen) → IsStore store → (b j : ℕ) → b < length store.buckets → Contains (bucket_of store b) j → IsRowOf store b j

@@ -1,24 +1,17 @@
 -- What offers to the bucket of an activity do to a store.
-use Rattle.std.specs.Prelude.{◌≡◌, ◌≢◌, ℕ, ℤ, List, length}
+use Rattle.std.specs.Prelude.{◌≢◌, ℕ, ℤ, List}
 use Rattle.tail_book.specs.Seen.{BookSeen}
 use Rattle.tail_book.specs.declared.place.Place.{Place}
 use Rattle.tail_book.specs.Counters.{step, WithinLimits}
 use Rattle.label_store.specs.Seen.{StoreSeen}
-use Rattle.label_store.specs.Store.{bucket_of}
-use Rattle.label_store.specs.inside.Laws.{IsCoveredAt, KeepsRows}
+use Rattle.label_store.specs.inside.Growth.{GrowsBeside}
+use Rattle.label_store.specs.inside.Laws.{IsCoveredAt}
 use Rattle.pricing.specs.Rows.{counters_of}
 use Rattle.pricing.specs.inside.Truth.{row_after}
 
 -- rows are added alone, what was covered stays covered, and no other bucket changes than that of b
-pub record Grows (b : ℕ) (old new : StoreSeen) : Type 0 where
-  pub rows : KeepsRows old new
-  pub covered : (v : ℕ) (row : List ℤ) → IsCoveredAt old v row → IsCoveredAt new v row
-  pub others : (v : ℕ) → v ≢ b → bucket_of new v ≡ bucket_of old v
-
--- the store has room for the same rows at the same nodes
-pub record IsAsWide (old new : StoreSeen) : Type 0 where
-  pub width : new.width ≡ old.width
-  pub nodes : length new.buckets ≡ length old.buckets
+abbrev pub Grows : ℕ → StoreSeen → StoreSeen → Type 0
+Grows b old new = GrowsBeside (λ v. v ≢ b) old new
 
 -- from a place with these values, where b adds this weight, a row that b covers comes about or the limits are passed
 abbrev pub Tried : BookSeen → ℕ → StoreSeen → ℤ → Place → ℕ → List ℤ → Type 0

@@ -1,5 +1,5 @@
 -- Rows as they come: what was tried on the way from a place, as far as a limit.
-use Rattle.std.specs.Prelude.{◌≡◌, ℕ, ℤ, suc, ◌+ℤ◌, ◌<ℤ◌, ◌<◌, ◌⊎◌, List, length, Contains}
+use Rattle.std.specs.Prelude.{ℕ, ℤ, suc, ◌+ℤ◌, ◌<ℤ◌, ◌<◌, ◌⊎◌, List, Contains}
 use Rattle.tail_book.specs.Seen.{BookSeen}
 use Rattle.tail_book.specs.inside.Seen.{CostTableSeen}
 use Rattle.tail_book.specs.declared.place.Place.{Place}
@@ -11,7 +11,8 @@ use Rattle.branch_marks.specs.Weights.{arc_weight, weight_from}
 use Rattle.label_store.specs.Seen.{StoreSeen}
 use Rattle.label_store.specs.Buckets.{row_at}
 use Rattle.label_store.specs.Store.{bucket_of}
-use Rattle.label_store.specs.inside.Laws.{IsCoveredAt, KeepsRows}
+use Rattle.label_store.specs.inside.Growth.{GrowsBeside}
+use Rattle.label_store.specs.inside.Laws.{IsCoveredAt}
 use Rattle.pricing.specs.Rows.{weight_of, counters_of}
 use Rattle.pricing.specs.inside.Truth.{first_row, row_after}
 
@@ -48,17 +49,10 @@ pub record AreDone (table : CostTableSeen) (book : BookSeen) (marks : List Fact)
   pub next : (x : ℕ) → x < n → IsDone table book marks k duals limit store x
 
 -- rows are added alone, what was covered stays covered, and no bucket below m changes
-pub record Grows (m : ℕ) (old new : StoreSeen) : Type 0 where
-  pub rows : KeepsRows old new
-  pub covered : (v : ℕ) (row : List ℤ) → IsCoveredAt old v row → IsCoveredAt new v row
-  pub others : (v : ℕ) → v < m → bucket_of new v ≡ bucket_of old v
+abbrev pub Grows : ℕ → StoreSeen → StoreSeen → Type 0
+Grows m old new = GrowsBeside (λ v. v < m) old new
 
 -- the buckets up to a place
 abbrev pub up_to : Place → ℕ
 up_to Carry = 0
 up_to (After x) = suc x
-
--- the store has room for the same rows at the same nodes
-pub record IsAsWide (old new : StoreSeen) : Type 0 where
-  pub width : new.width ≡ old.width
-  pub nodes : length new.buckets ≡ length old.buckets

@@ -10,7 +10,8 @@ use Rattle.label_store.specs.Store.{bucket_of, node_of}
 use Rattle.pricing.specs.inside.Growth.{Tried}
 use Rattle.pricing.specs.inside.Waiting.{IsTriedBelow, IsTriedIn, MayWait, label_at, place_at, window_at}
 use Rattle.pricing.proofs.Families.{row_of_bucket}
-use Rattle.pricing.proofs.Growing.{Grows-trans, wide_trans, tried_stays}
+use Rattle.label_store.proofs.Growing.{grows_trans, wide_trans}
+use Rattle.pricing.proofs.Growing.{tried_stays}
 use Rattle.pricing.proofs.Staying.{turn_at_most, waiting_stays}
 use Rattle.pricing.proofs.Waiters.{one_more}
 use Rattle.pricing.proofs.departing.depart.Goals as goal
@@ -68,7 +69,7 @@ loop-q-preserved c =
     subst (λ (r : List ℤ). Tried book k new (arc_weight table book k duals (After x) b) (After x) b r) there (tried short) in
     record {
       state = c.in_ok-try_waiting.ensures.state;
-      grows = Grows-trans b first old new inv.grows grows;
+      grows = grows_trans first old new inv.grows grows;
       wide = wide_trans first old new inv.wide c.in_ok-try_waiting.ensures.wide;
       row = long;
       waiting = waiting_stays book c.every_book_is_sound.ensures c.args.marks.now.facts c.args.stand c.requires.leaves.forward b c.requires.activity

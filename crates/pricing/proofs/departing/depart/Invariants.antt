@@ -1,7 +1,8 @@
 use Rattle.std.proofs.Common.{◌≡◌, ◌<◌, ℕ, length, get_or}
 use Rattle.label_store.specs.Store.{bucket_of}
 use Rattle.pricing.specs.inside.Asked.{IsUnderWay}
-use Rattle.pricing.specs.inside.Growth.{Grows, IsAsWide}
+use Rattle.label_store.specs.inside.Growth.{IsAsWide}
+use Rattle.pricing.specs.inside.Growth.{Grows}
 use Rattle.pricing.specs.inside.Waiting.{IsTriedIn, IsWaiting, window_at}
 use Rattle.pricing.proofs.departing.depart.Given as goal
 

@@ -1,5 +1,5 @@
 use Rattle.std.proofs.Common.{arith, length, ◌<◌}
-use Rattle.pricing.proofs.Growing.{Grows-trans}
+use Rattle.label_store.proofs.Growing.{grows_trans}
 use Rattle.pricing.proofs.Filling.{filled}
 use Rattle.pricing.proofs.fill.fill.Goals as goal
 
@@ -11,4 +11,4 @@ returns-clause-filled c =
 
 pub returns-clause-grows : goal.returns-clause-grows
 returns-clause-grows c =
-    Grows-trans c.args.b c.args.store.now c.try_first.new.store c.try_links.new.store c.in_ok-try_first.ensures.grows c.in_ok-try_links.ensures.grows
+    grows_trans c.args.store.now c.try_first.new.store c.try_links.new.store c.in_ok-try_first.ensures.grows c.in_ok-try_links.ensures.grows

@@ -1,6 +1,6 @@
 use Rattle.std.proofs.Common.{◌≡◌, ◌<◌, rules, arith, length}
 use Rattle.tail_book.specs.Lookup.{activities}
-use Rattle.pricing.proofs.Growing.{wide_trans}
+use Rattle.label_store.proofs.Growing.{wide_trans}
 use Rattle.pricing.proofs.Filling.{filled_one_more}
 use Rattle.pricing.proofs.fill.fill_all.Goals as goal
 

@@ -1,6 +1,6 @@
 use Rattle.std.proofs.Common.{◌≡◌, length}
 use Rattle.pricing.specs.inside.Asked.{IsUnderWay}
-use Rattle.pricing.specs.inside.Growth.{IsAsWide}
+use Rattle.label_store.specs.inside.Growth.{IsAsWide}
 use Rattle.pricing.specs.inside.Filled.{AreFilled}
 use Rattle.pricing.proofs.fill.fill_all.Given as goal
 

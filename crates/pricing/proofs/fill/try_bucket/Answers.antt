@@ -5,7 +5,8 @@ use Rattle.tail_book.specs.declared.place.Place.TheVariants.{After}
 use Rattle.label_store.specs.Buckets.{row_at}
 use Rattle.label_store.specs.Store.{bucket_of}
 use Rattle.pricing.specs.inside.Growth.{Tried}
-use Rattle.pricing.proofs.Growing.{Grows-trans, wide_trans, tried_one_more}
+use Rattle.label_store.proofs.Growing.{grows_trans, wide_trans}
+use Rattle.pricing.proofs.Growing.{tried_one_more}
 use Rattle.pricing.proofs.fill.try_bucket.Goals as goal
 
 -- the row at place i was tried; it is the one that stood there at first
@@ -32,7 +33,7 @@ loop-i-preserved c =
     let long : length c.try_row.new.row ≡ length c.args.row.now = search rules in
     record {
       state = c.in_ok-try_row.ensures.state;
-      grows = Grows-trans b first old new inv.grows c.in_ok-try_row.ensures.grows;
+      grows = grows_trans first old new inv.grows c.in_ok-try_row.ensures.grows;
       wide = wide_trans first old new inv.wide c.in_ok-try_row.ensures.wide;
       tried = tried_one_more c.args.book.now c.args.k first old new bucket (to_z w64 (of_z w64 c.args.arc)) (After x) b i c.copy_from_slice.new.self c.in_ok-try_row.ensures.grows
           inv.tried c.in_ok-try_row.ensures.tried is;

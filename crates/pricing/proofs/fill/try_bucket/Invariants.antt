@@ -3,7 +3,8 @@ use Rattle.tail_book.specs.declared.place.Place.TheVariants.{After}
 use Rattle.label_store.specs.Buckets.{row_at}
 use Rattle.label_store.specs.Store.{bucket_of}
 use Rattle.pricing.specs.inside.Asked.{IsUnderWay}
-use Rattle.pricing.specs.inside.Growth.{Grows, IsAsWide, Tried}
+use Rattle.label_store.specs.inside.Growth.{IsAsWide}
+use Rattle.pricing.specs.inside.Growth.{Grows, Tried}
 use Rattle.pricing.proofs.fill.try_bucket.Given as goal
 
 -- the rows before place i were tried

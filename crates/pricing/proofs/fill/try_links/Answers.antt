@@ -1,6 +1,6 @@
 use Rattle.std.proofs.Common.{◌≡◌, ◌<◌, ℕ, rules, arith, length, get_or, subst}
 use Rattle.pricing.specs.inside.Filled.{IsReached}
-use Rattle.pricing.proofs.Growing.{Grows-trans, wide_trans}
+use Rattle.label_store.proofs.Growing.{grows_trans, wide_trans}
 use Rattle.pricing.proofs.Predecessors.{predecessor, place_of_predecessor}
 use Rattle.pricing.proofs.Filling.{reached_here, reached_one_more}
 use Rattle.pricing.proofs.fill.try_links.Goals as goal
@@ -34,7 +34,7 @@ loop-i-preserved c =
     let long : length c.try_link.new.row ≡ length c.args.row.now = search rules in
     record {
       state = c.in_ok-try_link.ensures.state;
-      grows = Grows-trans c.args.b first old new inv.grows c.in_ok-try_link.ensures.grows;
+      grows = grows_trans first old new inv.grows c.in_ok-try_link.ensures.grows;
       wide = wide_trans first old new inv.wide c.in_ok-try_link.ensures.wide;
       reached = reached_one_more c.args.table.now c.args.book.now c.args.marks.now.facts c.args.k c.args.duals.now.values first old new there c.args.b i
           c.in_ok-try_link.ensures.grows inv.reached

@@ -1,6 +1,7 @@
 use Rattle.std.proofs.Common.{◌≡◌, ◌<◌, ℕ, length, get_or}
 use Rattle.pricing.specs.inside.Asked.{IsUnderWay}
-use Rattle.pricing.specs.inside.Growth.{Grows, IsAsWide}
+use Rattle.label_store.specs.inside.Growth.{IsAsWide}
+use Rattle.pricing.specs.inside.Growth.{Grows}
 use Rattle.pricing.specs.inside.Filled.{IsReached}
 use Rattle.pricing.proofs.fill.try_links.Given as goal
 

@@ -1,6 +1,6 @@
 use Rattle.std.proofs.Common.{◌<◌, ◌∙◌, arith, length}
 use Rattle.std.proofs.lemmas.List.{length-set}
-use Rattle.pricing.proofs.Growing.{wide_trans}
+use Rattle.label_store.proofs.Growing.{wide_trans}
 use Rattle.pricing.proofs.Opening.{entered_with, pending_with}
 use Rattle.pricing.proofs.line_fill.advance_all.Goals as goal
 

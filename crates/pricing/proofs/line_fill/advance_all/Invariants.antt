@@ -1,5 +1,5 @@
 use Rattle.std.proofs.Common.{◌≡◌, ◌<◌, ℕ, length, get_or}
-use Rattle.pricing.specs.inside.Growth.{IsAsWide}
+use Rattle.label_store.specs.inside.Growth.{IsAsWide}
 use Rattle.pricing.specs.inside.Waiting.{AreEntered, ArePending, IsWaiting}
 use Rattle.pricing.proofs.line_fill.advance_all.Given as goal
 

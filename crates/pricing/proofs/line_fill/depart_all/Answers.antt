@@ -6,7 +6,8 @@ use Rattle.label_store.specs.Buckets.{row_at}
 use Rattle.pricing.specs.inside.Growth.{Tried}
 use Rattle.pricing.specs.inside.Waiting.{AreTriedIn, label_at, place_at}
 use Rattle.pricing.proofs.Families.{row_of_bucket}
-use Rattle.pricing.proofs.Growing.{Grows-trans, wide_trans, tried_stays}
+use Rattle.label_store.proofs.Growing.{grows_trans, wide_trans}
+use Rattle.pricing.proofs.Growing.{tried_stays}
 use Rattle.pricing.proofs.Staying.{waiting_stays}
 use Rattle.pricing.proofs.Waiters.{one_more}
 use Rattle.pricing.proofs.line_fill.depart_all.Goals as goal
@@ -39,7 +40,7 @@ loop-i-preserved c =
     (inv.grows.rows.rows j (row_of_bucket first c.every_store_is_sound.ensures x j node entry.label).kept) (c.in_ok-depart.ensures.tried e counts short) in
     record {
       state = c.in_ok-depart.ensures.state;
-      grows = Grows-trans b first old new inv.grows grows;
+      grows = grows_trans first old new inv.grows grows;
       wide = wide_trans first old new inv.wide c.in_ok-depart.ensures.wide;
       row = long;
       waiting = waiting_stays book c.every_book_is_sound.ensures c.args.marks.now.facts c.args.stand c.requires.leaves.forward b c.requires.activity

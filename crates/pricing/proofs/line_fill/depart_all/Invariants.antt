@@ -1,6 +1,7 @@
 use Rattle.std.proofs.Common.{◌≡◌, ◌<◌, ℕ, length}
 use Rattle.pricing.specs.inside.Asked.{IsUnderWay}
-use Rattle.pricing.specs.inside.Growth.{Grows, IsAsWide}
+use Rattle.label_store.specs.inside.Growth.{IsAsWide}
+use Rattle.pricing.specs.inside.Growth.{Grows}
 use Rattle.pricing.specs.inside.Waiting.{AreTriedIn, IsWaiting}
 use Rattle.pricing.proofs.line_fill.depart_all.Given as goal
 

@@ -4,7 +4,7 @@ use Rattle.tail_book.specs.Lookup.{no_activity}
 use Rattle.tail_book.specs.inside.Sound.{IsMoment}
 use Rattle.pricing.specs.inside.Waiting.{IsReadable}
 use Rattle.pricing.proofs.Filling.{filled}
-use Rattle.pricing.proofs.Growing.{Grows-trans}
+use Rattle.label_store.proofs.Growing.{grows_trans}
 use Rattle.pricing.proofs.Opening.{open_reached}
 use Rattle.pricing.proofs.Staying.{all_entered_stay, waiting_stays}
 use Rattle.pricing.proofs.line_fill.fill_open.Goals as goal
@@ -45,8 +45,8 @@ depart_all-requires-clause-waiting c =
 -- the bucket grows with each of the three
 pub returns-clause-grows : goal.returns-clause-grows
 returns-clause-grows c =
-    Grows-trans c.args.b c.args.store.now c.try_first.new.store c.depart_all.new.store c.in_ok-try_first.ensures.grows
-    (Grows-trans c.args.b c.try_first.new.store c.try_grounds.new.store c.depart_all.new.store c.in_ok-try_grounds.ensures.grows c.in_ok-depart_all.ensures.grows)
+    grows_trans c.args.store.now c.try_first.new.store c.depart_all.new.store c.in_ok-try_first.ensures.grows
+    (grows_trans c.try_first.new.store c.try_grounds.new.store c.depart_all.new.store c.in_ok-try_grounds.ensures.grows c.in_ok-depart_all.ensures.grows)
 
 pub returns-clause-waiting : goal.returns-clause-waiting
 returns-clause-waiting c =
@@ -91,7 +91,7 @@ returns-clause-filled c =
     c.every_store_is_sound-2.ensures state.nodes c.in_ok-try_grounds.ensures.grows windows flights c.advance_all.new.waiting c.advance_all.new.entered c.in_ok-advance_all.ensures.entered in
     let node : b < length one.buckets = omega (arith, state.nodes, c.requires.activity) in
     filled table book marks k duals one three b c.every_store_is_sound-2.ensures node
-    (Grows-trans b one two three c.in_ok-try_grounds.ensures.grows c.in_ok-depart_all.ensures.grows) c.in_ok-try_first.ensures.begun
+    (grows_trans one two three c.in_ok-try_grounds.ensures.grows c.in_ok-depart_all.ensures.grows) c.in_ok-try_first.ensures.begun
     (open_reached c.each_at_most_chains.ensures c.lower_stays_within.ensures table book marks k duals c.args.stand b is_book c.requires.activity c.requires.leaves
     windows c.requires.windows flights c.requires.flights c.args.grounds.now c.requires.grounds one two three c.every_store_is_sound-2.ensures c.every_store_is_sound-3.ensures read state.nodes
     c.in_ok-try_grounds.ensures.grows c.in_ok-depart_all.ensures.grows c.advance_all.new.waiting c.every_store_is_sound-4.ensures here c.advance_all.new.entered have

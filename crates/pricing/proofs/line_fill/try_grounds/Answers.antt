@@ -2,7 +2,7 @@ use Rattle.std.proofs.Common.{◌≡◌, ◌<◌, ◌∙◌, ℕ, rules, arith, 
 use Rattle.std.proofs.lemmas.List.{get_or_default}
 use Rattle.pricing.specs.inside.Filled.{IsReached}
 use Rattle.pricing.proofs.Filling.{reached_here, reached_stays}
-use Rattle.pricing.proofs.Growing.{Grows-trans, wide_trans}
+use Rattle.label_store.proofs.Growing.{grows_trans, wide_trans}
 use Rattle.pricing.proofs.Waiters.{one_more}
 use Rattle.pricing.proofs.line_fill.try_grounds.Goals as goal
 
@@ -29,7 +29,7 @@ loop-q-preserved c =
     let long : length c.try_earlier.new.row ≡ length c.args.row.now = search rules in
     record {
       state = c.in_ok-try_earlier.ensures.state;
-      grows = Grows-trans b first old new inv.grows grows;
+      grows = grows_trans first old new inv.grows grows;
       wide = wide_trans first old new inv.wide c.in_ok-try_earlier.ensures.wide;
       row = long;
       reached = one_more (λ r. get_or grounds r 0 < b → IsReached table book marks k duals first (get_or grounds r 0) b new) q

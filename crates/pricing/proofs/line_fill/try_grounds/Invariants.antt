@@ -1,7 +1,8 @@
 use Rattle.std.proofs.Common.{◌≡◌, ◌<◌, ℕ, length, get_or}
 use Rattle.pricing.specs.inside.Asked.{IsUnderWay}
 use Rattle.pricing.specs.inside.Filled.{IsReached}
-use Rattle.pricing.specs.inside.Growth.{Grows, IsAsWide}
+use Rattle.label_store.specs.inside.Growth.{IsAsWide}
+use Rattle.pricing.specs.inside.Growth.{Grows}
 use Rattle.pricing.proofs.line_fill.try_grounds.Given as goal
 
 -- those at places before q were tried

@@ -4,7 +4,7 @@ use Rattle.tail_book.specs.Lookup.{activities, start_of}
 use Rattle.pricing.specs.declared.airport.Airport.{Airport}
 use Rattle.pricing.specs.inside.Airports.{AreAirports, AreBusy}
 use Rattle.pricing.proofs.Busy.{alike_airports, fresh_are_busy, starts_rise}
-use Rattle.pricing.proofs.Growing.{wide_trans}
+use Rattle.label_store.proofs.Growing.{wide_trans}
 use Rattle.pricing.proofs.Filling.{filled_one_more}
 use Rattle.pricing.proofs.line_pass.fill_lines.Goals as goal
 

@@ -1,7 +1,7 @@
 use Rattle.std.proofs.Common.{◌≡◌, ◌≤ℤ◌, ◌<◌, length}
 use Rattle.tail_book.specs.Lookup.{activities, start_of}
 use Rattle.pricing.specs.inside.Asked.{IsUnderWay}
-use Rattle.pricing.specs.inside.Growth.{IsAsWide}
+use Rattle.label_store.specs.inside.Growth.{IsAsWide}
 use Rattle.pricing.specs.inside.Filled.{AreFilled}
 use Rattle.pricing.specs.inside.Airports.{AreAirports, AreBusy, IsFloor}
 use Rattle.pricing.proofs.line_pass.fill_lines.Given as goal

@@ -1,7 +1,7 @@
 use Rattle.std.proofs.Common.{◌+ℤ◌, ◌≤ℤ◌, ◌<ℤ◌, ◌<◌, rules, get_or, length}
 use Rattle.tail_book.specs.Lookup.{end_of}
 use Rattle.pricing.specs.inside.Waiting.{enters_after, window_at}
-use Rattle.pricing.proofs.Growing.{wide_trans}
+use Rattle.label_store.proofs.Growing.{wide_trans}
 use Rattle.pricing.proofs.Waiters.{entered_one_more, joins_trans, pending_from}
 use Rattle.pricing.proofs.waiting.advance.Goals as goal
 

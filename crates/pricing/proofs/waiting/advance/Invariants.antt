@@ -1,4 +1,4 @@
-use Rattle.pricing.specs.inside.Growth.{IsAsWide}
+use Rattle.label_store.specs.inside.Growth.{IsAsWide}
 use Rattle.pricing.specs.inside.Waiting.{HaveEntered, IsWaiting, Joins}
 use Rattle.pricing.proofs.waiting.advance.Given as goal
 

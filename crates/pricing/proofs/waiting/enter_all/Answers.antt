@@ -2,7 +2,7 @@ use Rattle.std.proofs.Common.{◌≡◌, ◌<◌, ◌∙◌, ℕ, arith, get_or,
 use Rattle.std.proofs.lemmas.List.{get_or_default}
 use Rattle.label_store.specs.Store.{bucket_of}
 use Rattle.pricing.specs.inside.Waiting.{IsHeld}
-use Rattle.pricing.proofs.Growing.{wide_trans}
+use Rattle.label_store.proofs.Growing.{wide_trans}
 use Rattle.pricing.proofs.Waiters.{held_stays, joins_trans, one_more}
 use Rattle.pricing.proofs.waiting.enter_all.Goals as goal
 

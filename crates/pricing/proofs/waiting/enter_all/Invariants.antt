@@ -1,6 +1,6 @@
 use Rattle.std.proofs.Common.{◌<◌, ℕ, get_or}
 use Rattle.label_store.specs.Store.{bucket_of}
-use Rattle.pricing.specs.inside.Growth.{IsAsWide}
+use Rattle.label_store.specs.inside.Growth.{IsAsWide}
 use Rattle.pricing.specs.inside.Waiting.{IsWaiting, IsHeld, Joins}
 use Rattle.pricing.proofs.waiting.enter_all.Given as goal
 

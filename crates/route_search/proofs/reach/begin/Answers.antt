@@ -4,7 +4,8 @@ use Rattle.tail_book.specs.declared.place.Place.TheVariants.{Carry}
 use Rattle.branch_marks.specs.Marks.{IsUsable}
 use Rattle.pricing.specs.inside.Truth.{first_row}
 use Rattle.route_search.specs.inside.Reach.{IsTried}
-use Rattle.route_search.proofs.Growing.{Grows-trans, wide_trans, first_one_more}
+use Rattle.label_store.proofs.Growing.{grows_trans, wide_trans}
+use Rattle.route_search.proofs.Growing.{first_one_more}
 use Rattle.route_search.proofs.Successors.{head, place_of_head}
 use Rattle.route_search.proofs.reach.begin.Goals as goal
 
@@ -22,7 +23,7 @@ loop-i-preserved c =
     let new = c.try_first.new.store in
     record {
       truths = c.in_ok-try_first.ensures.truths;
-      grows = Grows-trans 0 first old new inv.grows c.in_ok-try_first.ensures.grows;
+      grows = grows_trans first old new inv.grows c.in_ok-try_first.ensures.grows;
       wide = wide_trans first old new inv.wide c.in_ok-try_first.ensures.wide;
       tried = first_one_more c.args.task.now.table.now c.args.task.now.book.now c.args.task.now.marks.now.facts c.args.task.now.k c.args.task.now.duals.now.values (to_z w64 (of_z w64 c.args.limit)) 0 old new c.heads-first.result.now c.loop-i.i c.in_ok-try_first.ensures.grows inv.tried c.in_ok-try_first.ensures.tried;
       row = c.in_ok-try_first.ensures.length ∙ inv.row;

@@ -2,7 +2,8 @@ use Rattle.std.proofs.Common.{◌≡◌, ◌<◌, ℕ, length, get_or}
 use Rattle.tail_book.specs.declared.place.Place.TheVariants.{Carry}
 use Rattle.branch_marks.specs.Marks.{IsUsable}
 use Rattle.pricing.specs.inside.Truth.{AreTrue, first_row}
-use Rattle.route_search.specs.inside.Reach.{IsTried, Grows, IsAsWide}
+use Rattle.label_store.specs.inside.Growth.{IsAsWide}
+use Rattle.route_search.specs.inside.Reach.{IsTried, Grows}
 use Rattle.route_search.proofs.reach.begin.Given as goal
 
 -- the activities at places before i were tried

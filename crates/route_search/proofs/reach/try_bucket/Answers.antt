@@ -5,7 +5,8 @@ use Rattle.tail_book.specs.declared.place.Place.TheVariants.{After}
 use Rattle.label_store.specs.Buckets.{row_at}
 use Rattle.label_store.specs.Store.{bucket_of, IsRowOf}
 use Rattle.route_search.specs.inside.Reach.{IsTried}
-use Rattle.route_search.proofs.Growing.{Grows-trans, wide_trans, tried_one_more}
+use Rattle.label_store.proofs.Growing.{grows_trans, wide_trans}
+use Rattle.route_search.proofs.Growing.{tried_one_more}
 use Rattle.route_search.proofs.reach.try_bucket.Goals as goal
 
 -- the row at place i is of the store, and has its node
@@ -43,7 +44,7 @@ loop-i-preserved c =
     ∙ ap (λ (w : ℤ). limit -ℤ w) (to_z-of_z w64 c.args.way.least least_fits)) in
     record {
       truths = c.in_ok-try_kept.ensures.truths;
-      grows = Grows-trans (suc x) first old new inv.grows c.in_ok-try_kept.ensures.grows;
+      grows = grows_trans first old new inv.grows c.in_ok-try_kept.ensures.grows;
       wide = wide_trans first old new inv.wide c.in_ok-try_kept.ensures.wide;
       tried = tried_one_more c.args.task.now.table.now c.args.task.now.book.now c.args.task.now.marks.now.facts c.args.task.now.k c.args.task.now.duals.now.values limit (suc x) first old new bucket (After x) b i c.in_ok-try_kept.ensures.grows inv.tried
           (subst (λ (r : List ℤ). IsTried c.args.task.now.table.now c.args.task.now.book.now c.args.task.now.marks.now.facts c.args.task.now.k c.args.task.now.duals.now.values limit new (After x) r b) is tried);

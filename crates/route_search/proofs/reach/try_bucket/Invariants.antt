@@ -3,7 +3,8 @@ use Rattle.tail_book.specs.declared.place.Place.TheVariants.{After}
 use Rattle.label_store.specs.Buckets.{row_at}
 use Rattle.label_store.specs.Store.{bucket_of}
 use Rattle.pricing.specs.inside.Truth.{AreTrue}
-use Rattle.route_search.specs.inside.Reach.{IsTried, Grows, IsAsWide}
+use Rattle.label_store.specs.inside.Growth.{IsAsWide}
+use Rattle.route_search.specs.inside.Reach.{IsTried, Grows}
 use Rattle.route_search.proofs.reach.try_bucket.Given as goal
 
 -- the rows before place i were tried

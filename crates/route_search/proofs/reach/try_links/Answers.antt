@@ -1,7 +1,8 @@
 use Rattle.std.proofs.Common.{◌<◌, ◌∙◌, ℕ, ℤ, suc, w64, to_z, of_z, arith, length, get_or, subst}
 use Rattle.std.proofs.lemmas.Int.{to_z-of_z}
 use Rattle.route_search.specs.inside.Reach.{AreTried, IsDone}
-use Rattle.route_search.proofs.Growing.{Grows-trans, wide_trans, reached_one_more, reached_here, done}
+use Rattle.label_store.proofs.Growing.{grows_trans, wide_trans}
+use Rattle.route_search.proofs.Growing.{reached_one_more, reached_here, done}
 use Rattle.route_search.proofs.reach.try_links.Goals as goal
 
 -- one more was tried, and its rows were those of the beginning
@@ -18,7 +19,7 @@ loop-i-preserved c =
     let place : x < length first.buckets = omega (arith, c.requires.place, c.requires.nodes) in
     record {
       truths = c.in_ok-try_link.ensures.truths;
-      grows = Grows-trans (suc x) first old new inv.grows c.in_ok-try_link.ensures.grows;
+      grows = grows_trans first old new inv.grows c.in_ok-try_link.ensures.grows;
       wide = wide_trans first old new inv.wide c.in_ok-try_link.ensures.wide;
       tried = reached_one_more c.args.task.now.table.now c.args.task.now.book.now c.args.task.now.marks.now.facts c.args.task.now.k c.args.task.now.duals.now.values limit (suc x) first old new there x i c.in_ok-try_link.ensures.grows inv.tried
           (reached_here c.args.task.now.table.now c.args.task.now.book.now c.args.task.now.marks.now.facts c.args.task.now.k c.args.task.now.duals.now.values limit first old new x (get_or there i 0) c.every_store_is_sound.ensures place inv.grows c.in_ok-try_link.ensures.tried);

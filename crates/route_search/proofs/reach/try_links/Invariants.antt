@@ -1,6 +1,7 @@
 use Rattle.std.proofs.Common.{◌≡◌, ◌<◌, ℕ, suc, length, get_or}
 use Rattle.pricing.specs.inside.Truth.{AreTrue}
-use Rattle.route_search.specs.inside.Reach.{AreTried, Grows, IsAsWide}
+use Rattle.label_store.specs.inside.Growth.{IsAsWide}
+use Rattle.route_search.specs.inside.Reach.{AreTried, Grows}
 use Rattle.route_search.proofs.reach.try_links.Given as goal
 
 -- the activities at places before i were tried

@@ -7,7 +7,8 @@ use Rattle.route_search.specs.inside.Completion.{IsBroad}
 use Rattle.route_search.specs.inside.Ends.{AreEnds}
 use Rattle.route_search.specs.inside.Reach.{AreDone, GoesOn, IsDone}
 use Rattle.route_search.proofs.Ending.{ends_stay, ends_one_more}
-use Rattle.route_search.proofs.Growing.{done_one_more, wide_trans}
+use Rattle.label_store.proofs.Growing.{wide_trans}
+use Rattle.route_search.proofs.Growing.{done_one_more}
 use Rattle.route_search.proofs.search.search_rows.Goals as goal
 
 -- the carry-in is done, and no bucket yet

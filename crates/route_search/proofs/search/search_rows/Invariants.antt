@@ -2,7 +2,8 @@ use Rattle.std.proofs.Common.{◌≡◌, length}
 use Rattle.pricing.specs.inside.Truth.{AreTrue}
 use Rattle.route_search.specs.inside.Completion.{IsBroad}
 use Rattle.route_search.specs.inside.Ends.{AreEnds}
-use Rattle.route_search.specs.inside.Reach.{AreDone, IsAsWide}
+use Rattle.label_store.specs.inside.Growth.{IsAsWide}
+use Rattle.route_search.specs.inside.Reach.{AreDone}
 use Rattle.route_search.proofs.search.search_rows.Given as goal
 
 -- it goes on from each row of the buckets before x, and the ends there are among the ends
