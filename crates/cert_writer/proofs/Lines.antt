@@ -2,7 +2,7 @@
 -- of the list. A line that joins what waits makes the list longer by its event. All that waits is put: the sink has it,
 -- and the list stays. Where putting fails the sink took a front, and the log is torn at the last event. Where there is
 -- no memory for a line, the sink took nothing more, and the log is torn at the event of that line.
-use Rattle.std.proofs.Common.{◌≡◌, ◌∙◌, ℕ, List, [], ◌∷◌, ◌++◌, map, Option, Some, None, Result, Ok, Err, is_ok, true, refl, sym, ap, subst, append_assoc}
+use Rattle.std.proofs.Common.{◌≡◌, ◌∙◌, ℕ, List, [], ◌∷◌, ◌++◌, map, Option, Result, Ok, Err, is_ok, true, refl, sym, ap, subst, append_assoc}
 use Rattle.std.proofs.lemmas.List.{append-nil, map-append}
 use Rattle.std.proofs.lemmas.List.Elements.{All-push}
 use Rattle.std.specs.Prelude.{OnErr, OnOk}

@@ -2,7 +2,6 @@
 //! pass over the routes, and kept as one number for each activity.
 
 ghost use Rattle.std.specs.Prelude.{◌≡◌, ◌<◌, ◌^◌, ◌++◌, ◌∷◌, [], IfOk, OnOk, Some, length};
-ghost use Rattle.tail_book.specs.Truth.{claim_of};
 ghost use Rattle.tail_book.specs.inside.Fliers.{fliers_of};
 ghost use Rattle.cert_checker.specs.Certificate.{plan_lines, text_of};
 ghost use Rattle.cert_lines.specs.Grammar.{IsLine};
@@ -12,7 +11,7 @@ ghost use Rattle.cert_writer.specs.inside.Noting.{NotesRoute};
 
 use cert_lines::{CertLine, write_line};
 use std::alloc::Global;
-use tail_book::{Claim, Memory, Outcome, Route};
+use tail_book::{Memory, Outcome, Route, claim_of};
 use tail_text::Line;
 
 /// Appends a line with its newline.
@@ -67,24 +66,6 @@ fn add_plan(fliers: &[u32], line: &mut Line) -> Result<(), Memory>
         add_line(&CertLine::Fly(a, fliers[a as usize]), line)?;
     }
     Ok(())
-}
-
-// What an outcome claims.
-fn claim_of(outcome: &Outcome) -> Claim
-    ensures { result ≡ claim_of outcome.now }
-{
-    match outcome {
-        Outcome::Optimal(_, cost) => Claim::Optimal(*cost),
-        Outcome::Infeasible => Claim::Infeasible,
-        Outcome::Between { low, high, .. } => Claim::Limit {
-            low: *low,
-            high: Some(*high),
-        },
-        Outcome::Above { low, .. } => Claim::Limit {
-            low: *low,
-            high: None,
-        },
-    }
 }
 
 /// Appends the lines that end a certificate of n activities and m aircraft.

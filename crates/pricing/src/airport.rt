@@ -4,7 +4,7 @@
 //! stand on: all flights that end there in order of their ends, all ground time there, and windows that join and in which
 //! no band ends and no stop is reached. Only with such an airport do labels wait in lines.
 
-ghost use Rattle.std.specs.Prelude.{ℕ, ◌≡◌, ◌<◌, ◌≤◌, ◌+◌, ◌≤ℤ◌, ◌<ℤ◌, ◌⊎◌, pos, All, Contains, IsTrue, length, slice_index_or};
+ghost use Rattle.std.specs.Prelude.{ℕ, ◌≡◌, ◌<◌, ◌≤◌, ◌+◌, ◌≤ℤ◌, ◌⊎◌, pos, All, Contains, IsTrue, length, slice_index_or};
 ghost use Rattle.tail_book.specs.Lookup.{activities, end_of};
 ghost use Rattle.tail_book.specs.Numbers.{contains};
 ghost use Rattle.pricing.specs.inside.Lines.{EndsOutside, StopsOutside, clears};

@@ -10,7 +10,8 @@ ghost use Rattle.tail_book.specs.Lookup.{activities};
 ghost use Rattle.tail_book.specs.Link.{gap};
 ghost use Rattle.label_store.specs.Store.{bucket_of};
 ghost use Rattle.pricing.specs.inside.Asked.{IsAsked, IsUnderWay};
-ghost use Rattle.pricing.specs.inside.Growth.{Grows, IsAsWide};
+ghost use Rattle.label_store.specs.inside.Growth.{IsAsWide};
+ghost use Rattle.pricing.specs.inside.Growth.{Grows};
 ghost use Rattle.pricing.specs.inside.Waiting.{AreTriedIn, IsOpen, IsTriedBelow, IsWaiting, MayWait, label_at, place_at, window_at};
 
 use crate::fill::try_row;

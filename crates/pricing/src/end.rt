@@ -5,14 +5,12 @@
 //! Each row is looked at once, in buckets at which the aircraft may end. The route is spelled from a row's parents,
 //! back to front.
 
-ghost use Rattle.std.specs.Prelude.{◌≡◌, ◌<◌, ◌≤◌, ◌≤ℤ◌, ◌⊎◌, ℤ, pos, length, None, Some, IfSome, IfOk, ◌++◌, reverse};
+ghost use Rattle.std.specs.Prelude.{◌≡◌, ◌<◌, ◌⊎◌, ℤ, pos, length, None, Some, IfSome, IfOk, reverse};
 ghost use Rattle.tail_book.specs.declared.place.Place.TheVariants.{Carry, After};
 ghost use Rattle.tail_book.specs.Lookup.{activities, aircraft};
-ghost use Rattle.tail_book.specs.inside.Place.{IsPlaceOf};
 ghost use Rattle.branch_marks.specs.inside.MarkTables.{AreMarksOf};
 ghost use Rattle.branch_marks.specs.Marks.{MayEnd};
 ghost use Rattle.label_store.specs.Buckets.{row_at};
-ghost use Rattle.label_store.specs.Store.{node_of};
 ghost use Rattle.pricing.specs.Rows.{weight_of, route_to};
 ghost use Rattle.pricing.specs.inside.Truth.{IsKept};
 ghost use Rattle.pricing.specs.inside.Ends.{IsEnd, IsAtMost, IsLeastAt, IsLeastEnd};

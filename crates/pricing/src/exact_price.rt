@@ -17,7 +17,7 @@ ghost use Rattle.branch_marks.specs.Settled.{AreDuals};
 ghost use Rattle.pricing.specs.Price.{IsPriceOf};
 ghost use Rattle.pricing.specs.Rows.{labels_of, AreSpelled};
 ghost use Rattle.pricing.specs.inside.Truth.{AreTrue};
-ghost use Rattle.pricing.specs.inside.Growth.{IsAsWide};
+ghost use Rattle.label_store.specs.inside.Growth.{IsAsWide};
 
 use crate::end::{least_end, spelled};
 use crate::{Priced, Pricer, laws};

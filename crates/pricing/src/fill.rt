@@ -4,25 +4,22 @@
 //! change none of them. Each link is asked for once, and its weight taken once, however many rows wait there. A row is
 //! copied once for each try, and nothing is allocated but what the store grows by.
 
-ghost use Rattle.std.specs.Prelude.{◌≡◌, ◌≢◌, ◌<◌, ◌≤◌, ◌+◌, ◌^◌, ◌-ℤ◌, ℕ, pos, length, Option, Some, IfOk, Contains};
+ghost use Rattle.std.specs.Prelude.{◌≡◌, ◌<◌, ◌+◌, ◌^◌, ◌-ℤ◌, ℕ, pos, length, Option, Some, IfOk};
 ghost use Rattle.tail_book.specs.declared.place.Place.TheVariants.{Carry, After};
 ghost use Rattle.tail_book.specs.Lookup.{activities, aircraft, carry_of};
-ghost use Rattle.tail_book.specs.inside.CostTable.{IsTableFor};
 ghost use Rattle.tail_book.specs.inside.Place.{IsPlaceOf};
 ghost use Rattle.tail_book.specs.inside.Sound.{IsWithin};
 ghost use Rattle.turn_rules.specs.inside.FreeBefore.{IsFreeBefore};
 ghost use Rattle.maint_counters.specs.inside.Counts.{AreCounts};
-ghost use Rattle.connection_net.specs.Net.{net_of, predecessors_of};
-ghost use Rattle.branch_marks.specs.inside.MarkTables.{AreMarksOf};
+ghost use Rattle.connection_net.specs.Net.{net_of};
 ghost use Rattle.branch_marks.specs.Marks.{IsUsable};
-ghost use Rattle.branch_marks.specs.Settled.{AreDuals};
 ghost use Rattle.branch_marks.specs.Weights.{arc_weight};
-ghost use Rattle.label_store.specs.Store.{bucket_of, IsStore};
 ghost use Rattle.label_store.specs.inside.Laws.{IsCoveredAt};
 ghost use Rattle.pricing.specs.inside.Truth.{place_of, first_row, row_of, IsTrueAt, AreTrue, IsKept, IsNext};
 ghost use Rattle.pricing.specs.inside.Asked.{IsAsked, IsUnderWay};
-ghost use Rattle.pricing.specs.inside.Growth.{Grows, IsAsWide, Tried};
-ghost use Rattle.pricing.specs.inside.Filled.{AreTried, IsReached, IsBegun, IsFilled, AreFilled};
+ghost use Rattle.label_store.specs.inside.Growth.{IsAsWide};
+ghost use Rattle.pricing.specs.inside.Growth.{Grows, Tried};
+ghost use Rattle.pricing.specs.inside.Filled.{IsReached, IsBegun, IsFilled, AreFilled};
 
 use crate::laws;
 use crate::step::{arc_weight, links_leave_free, stepped};

@@ -21,4 +21,4 @@ pub use end::{spelled, weight_of};
 pub use exact_price::price;
 pub use priced::Priced;
 pub use pricer::Pricer;
-pub use step::{costs_are_small, stepped};
+pub use step::stepped;

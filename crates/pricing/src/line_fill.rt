@@ -3,14 +3,15 @@
 //! What has become ready enters its lines, each line gives what it has, and ground time there is gone through link by
 //! link. Nothing else can lead to a flight with no Tie and no Cut into it.
 
-ghost use Rattle.std.specs.Prelude.{ℕ, ◌≡◌, ◌<◌, ◌≤ℤ◌, ◌+◌, ◌≤◌, length, IfOk, Contains, slice_index_or, false};
+ghost use Rattle.std.specs.Prelude.{ℕ, ◌≡◌, ◌<◌, length, IfOk, Contains, slice_index_or};
 ghost use Rattle.tail_book.specs.Lookup.{activities};
 ghost use Rattle.tail_book.specs.inside.Sound.{IsMoment};
 ghost use Rattle.branch_marks.specs.inside.MarkTables.{AreMarksOf};
 ghost use Rattle.pricing.specs.inside.Asked.{IsAsked, IsUnderWay};
 ghost use Rattle.pricing.specs.inside.Filled.{IsFilled, IsReached};
-ghost use Rattle.pricing.specs.inside.Growth.{Grows, IsAsWide};
-ghost use Rattle.pricing.specs.inside.Waiting.{AreCleared, AreEntered, AreFlights, ArePending, AreTriedIn, AreWindows, IsOpen, IsReadable, IsWaiting, Joins, window_at};
+ghost use Rattle.label_store.specs.inside.Growth.{IsAsWide};
+ghost use Rattle.pricing.specs.inside.Growth.{Grows};
+ghost use Rattle.pricing.specs.inside.Waiting.{AreCleared, AreEntered, AreFlights, ArePending, AreTriedIn, AreWindows, IsOpen, IsReadable, IsWaiting, window_at};
 ghost use Rattle.pricing.specs.inside.Airports.{AreGrounds};
 
 use crate::departing::depart;

@@ -14,7 +14,8 @@ ghost use Rattle.branch_marks.specs.inside.MarkTables.{AreMarksOf};
 ghost use Rattle.connection_net.specs.Net.{net_of};
 ghost use Rattle.pricing.specs.inside.Asked.{IsAsked, IsUnderWay};
 ghost use Rattle.pricing.specs.inside.Filled.{AreFilled, IsFilled};
-ghost use Rattle.pricing.specs.inside.Growth.{Grows, IsAsWide};
+ghost use Rattle.label_store.specs.inside.Growth.{IsAsWide};
+ghost use Rattle.pricing.specs.inside.Growth.{Grows};
 ghost use Rattle.pricing.specs.inside.Airports.{AreAirports, AreAlike, AreBusy, AreFresh, AreNoted, IsFloor, IsFreshAirport, IsLikeAirport};
 
 use crate::airport::Airport;

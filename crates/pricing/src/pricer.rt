@@ -17,7 +17,7 @@ ghost use Rattle.pricing.specs.inside.Airports.{AreAirports};
 ghost use Rattle.pricing.specs.inside.Asked.{IsAsked, IsUnderWay};
 ghost use Rattle.pricing.specs.inside.Filled.{AreFilled};
 ghost use Rattle.pricing.specs.inside.Truth.{AreTrue};
-ghost use Rattle.pricing.specs.inside.Growth.{IsAsWide};
+ghost use Rattle.label_store.specs.inside.Growth.{IsAsWide};
 ghost use Rattle.pricing.specs.inside.Prepared.{IsPricerOf};
 
 use crate::airport::Airport;

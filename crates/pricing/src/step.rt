@@ -4,11 +4,11 @@
 //! writes over the row and allocates nothing. All weights are in thousandths of a cost unit, and no sum of them leaves
 //! 64 bits.
 
-ghost use Rattle.std.specs.Prelude.{◌≡◌, ◌<◌, ◌≤◌, ◌+◌, ◌*◌, ◌^◌, ◌↔◌, ◌-ℤ◌, pos, length, IsTrue};
+ghost use Rattle.std.specs.Prelude.{◌≡◌, ◌<◌, ◌+◌, ◌^◌, ◌↔◌, ◌-ℤ◌, pos, length, IsTrue};
 ghost use Rattle.tail_book.specs.Lookup.{activities, aircraft};
 ghost use Rattle.tail_book.specs.Counters.{step, WithinLimits};
 ghost use Rattle.tail_book.specs.Link.{IsLink};
-ghost use Rattle.tail_book.specs.inside.CostTable.{IsTableFor, activity_cost_in, connection_cost_in, box_end};
+ghost use Rattle.tail_book.specs.inside.CostTable.{IsTableFor};
 ghost use Rattle.tail_book.specs.inside.Place.{IsPlaceOf};
 ghost use Rattle.tail_book.specs.inside.Sound.{IsWithin};
 ghost use Rattle.turn_rules.specs.inside.FreeBefore.{IsFreeBefore};
@@ -20,19 +20,10 @@ ghost use Rattle.pricing.specs.Rows.{weight_of, counters_of};
 ghost use Rattle.pricing.specs.inside.Truth.{row_after};
 
 use maint_counters::{StepTable, step_by};
-use tail_book::laws::{every_book_is_sound, every_cost_table_is_sound};
+use tail_book::laws::{costs_are_small, every_book_is_sound};
 use tail_book::{Book, COST_UNIT, CostTable, Duals, Place};
-use turn_rules::connection_cost;
+use turn_rules::arc_cost;
 use turn_rules::laws::links_leave_time;
-
-/// One activity's costs, and a dual, are small in thousandths of a cost unit.
-pub fn costs_are_small(table: &CostTable)
-    requires { 1 ≤ table.now.n }
-    ensures costs { 1000 * (table.now.fly_max + table.now.band_max) ≤ 2 ^ 61 }
-    ensures duals { box_end table.now ≤ 2 ^ 61 }
-{
-    every_cost_table_is_sound(table);
-}
 
 /// A link leaves an aircraft free before the activity starts: the law for one link.
 pub fn links_leave_free(book: &Book, k: u32, from: Place, b: u32)
@@ -41,19 +32,6 @@ pub fn links_leave_free(book: &Book, k: u32, from: Place, b: u32)
 {
     every_book_is_sound(book);
     links_leave_time();
-}
-
-// What an activity and the connection to it cost.
-fn arc_cost(book: &Book, table: &CostTable, k: u32, from: Place, b: u32) -> u64
-    requires table { IsTableFor book.now table.now }
-    requires aircraft { k < aircraft book.now }
-    requires place { IsPlaceOf book.now from }
-    requires activity { b < activities book.now }
-    ensures value { result ≡ activity_cost_in table.now k b + connection_cost_in table.now book.now k from b }
-    ensures most { 1000 * result ≤ 2 ^ 61 }
-{
-    costs_are_small(table);
-    table.activity_cost(k, b) + connection_cost(book, &table.bands, k, from, b)
 }
 
 /// What an activity after a place adds to a weight, in thousandths of a cost unit.

@@ -3,8 +3,7 @@
 //! Between the moments at which a band ends or a counter's stop is reached, a longer stay changes nothing. So labels that
 //! wait at an airport can be compared once and for all, as they stand at the beginning of a window.
 
-ghost use Rattle.std.specs.Prelude.{◌≡◌, ◌<◌, ◌≤ℤ◌, ◌-ℤ◌, if◌then◌else◌, pos};
-ghost use Rattle.std.specs.Int.{int_max};
+ghost use Rattle.std.specs.Prelude.{◌≡◌, ◌-ℤ◌, if◌then◌else◌, pos};
 ghost use Rattle.tail_book.specs.declared.limits.TheConstants.{COUNT_LIMIT};
 ghost use Rattle.tail_book.specs.inside.Sound.{IsWithin, IsMoment};
 ghost use Rattle.pricing.specs.inside.Lines.{key_by};

@@ -7,8 +7,7 @@ ghost use Rattle.tail_book.specs.inside.CostTable.{IsTableFor};
 ghost use Rattle.branch_marks.specs.Settled.{AreDuals};
 ghost use Rattle.route_search.specs.inside.Task.{AreAdded, IsAdded};
 
-use pricing::costs_are_small;
-use tail_book::laws::every_book_is_sound;
+use tail_book::laws::{costs_are_small, every_book_is_sound};
 use tail_book::{Book, COST_UNIT, CostTable, Duals};
 
 // What an activity costs an aircraft less its dual, in thousandths of a cost unit.

@@ -4,11 +4,11 @@
 //! forbid, a legal rest of a route is among the rests that fit, and none of it weighs less than the completion. No link is
 //! asked for twice, and an activity from which no end can be reached ends the question at once.
 
-ghost use Rattle.std.specs.Prelude.{◌≡◌, ◌<◌, ◌≤◌, ◌^◌, ◌-ℤ◌, ◌+ℤ◌, ◌+◌, ℕ, [], pos, length, Option, None, Some, IfSome, slice_index_or};
-ghost use Rattle.tail_book.specs.declared.place.Place.TheVariants.{Carry, After};
+ghost use Rattle.std.specs.Prelude.{◌≡◌, ◌<◌, ◌+ℤ◌, ◌+◌, [], length, Option, None, Some, IfSome, slice_index_or};
+ghost use Rattle.tail_book.specs.declared.place.Place.TheVariants.{After};
 ghost use Rattle.tail_book.specs.Lookup.{activities};
 ghost use Rattle.tail_book.specs.inside.Place.{IsPlaceOf};
-ghost use Rattle.branch_marks.specs.Marks.{IsAlive, IsUsable};
+ghost use Rattle.branch_marks.specs.Marks.{IsUsable};
 ghost use Rattle.route_search.specs.inside.Task.{IsTask};
 ghost use Rattle.route_search.specs.inside.Completion.{AreBehind, AreBehindFrom, IsBehind, IsCompletion, IsLeastAmong, IsBroad, IsSmall, IsWay, IsWayOrNone, least_of, lesser};
 

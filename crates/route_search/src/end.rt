@@ -2,7 +2,7 @@
 //!
 //! With each lighter end the limit falls to it and the slack, so that what comes later has less to do.
 
-ghost use Rattle.std.specs.Prelude.{true, false, ◌≡◌, ◌<◌, ◌≤◌, ◌≤ℤ◌, ◌^◌, ◌-ℤ◌, ◌⊎◌, ℤ, ℕ, pos, length, None, Some, IfSome};
+ghost use Rattle.std.specs.Prelude.{true, false, ◌≡◌, ◌<◌, ◌≤◌, ◌≤ℤ◌, ◌⊎◌, ℤ, length, None, Some, IfSome};
 ghost use Rattle.tail_book.specs.declared.place.Place.TheVariants.{Carry, After};
 ghost use Rattle.tail_book.specs.Lookup.{activities};
 ghost use Rattle.branch_marks.specs.Marks.{MayEnd};

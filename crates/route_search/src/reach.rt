@@ -5,7 +5,7 @@
 //! link adds and the least that can come behind, is past the limit: no completion of it is within. That is one comparison,
 //! before the counters are stepped, before anything is copied. Nothing is allocated but what the store grows by.
 
-ghost use Rattle.std.specs.Prelude.{◌≡◌, ◌<◌, ◌≤◌, ◌+◌, ◌^◌, ◌+ℤ◌, ◌-ℤ◌, ◌≤ℤ◌, ◌↔◌, ℕ, ℤ, suc, pos, length, Option, Some, IfOk, Contains};
+ghost use Rattle.std.specs.Prelude.{◌≡◌, ◌<◌, ◌≤◌, ◌+◌, ◌-ℤ◌, ℤ, suc, length, Option, Some, IfOk};
 ghost use Rattle.tail_book.specs.declared.place.Place.TheVariants.{Carry, After};
 ghost use Rattle.tail_book.specs.Lookup.{activities, carry_of};
 ghost use Rattle.tail_book.specs.inside.Place.{IsPlaceOf};
@@ -15,10 +15,11 @@ ghost use Rattle.branch_marks.specs.Weights.{arc_weight};
 ghost use Rattle.label_store.specs.Buckets.{row_at};
 ghost use Rattle.label_store.specs.Store.{IsRowOf};
 ghost use Rattle.label_store.specs.inside.Laws.{IsCoveredAt};
-ghost use Rattle.pricing.specs.Rows.{weight_of, counters_of};
-ghost use Rattle.pricing.specs.inside.Truth.{place_of, first_row, row_of, row_after, IsTrueAt, AreTrue, IsKept, IsNext};
+ghost use Rattle.pricing.specs.Rows.{weight_of};
+ghost use Rattle.pricing.specs.inside.Truth.{place_of, first_row, row_of, IsTrueAt, AreTrue, IsKept, IsNext};
 ghost use Rattle.route_search.specs.inside.Completion.{AreBehind, IsBroad, IsSmall, IsWay};
-ghost use Rattle.route_search.specs.inside.Reach.{IsTried, AreTried, IsDone, GoesOn, Grows, IsAsWide, up_to};
+ghost use Rattle.label_store.specs.inside.Growth.{IsAsWide};
+ghost use Rattle.route_search.specs.inside.Reach.{IsTried, AreTried, IsDone, GoesOn, Grows, up_to};
 ghost use Rattle.route_search.specs.inside.Task.{IsTask};
 
 use crate::completion::{Way, way_through};

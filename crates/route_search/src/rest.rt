@@ -4,7 +4,7 @@
 //! activity from which it stays within the limits. Going back over a link, a cap falls by what the link adds, and is lifted
 //! where the link forgets what the counter stood at. What a link does to counters is told by two steps: from 0, and from 1.
 
-ghost use Rattle.std.specs.Prelude.{◌≡◌, ◌<◌, ◌≤◌, ◌≤ℤ◌, pos, length};
+ghost use Rattle.std.specs.Prelude.{◌<◌, ◌≤◌, length};
 ghost use Rattle.tail_book.specs.Lookup.{activities};
 ghost use Rattle.route_search.specs.inside.Task.{IsTask};
 

@@ -4,7 +4,7 @@
 //! Only those are made that are within the cut with the lightest row of the activity. All rests stand in one list, those of one
 //! activity together, and the list is used again from search to search.
 
-ghost use Rattle.std.specs.Prelude.{◌≡◌, ◌<◌, ◌≤◌, length};
+ghost use Rattle.std.specs.Prelude.{◌≡◌, ◌<◌, length};
 ghost use Rattle.tail_book.specs.Lookup.{activities};
 ghost use Rattle.route_search.specs.inside.Task.{IsTask};
 

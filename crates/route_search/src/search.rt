@@ -20,7 +20,8 @@ ghost use Rattle.route_search.specs.Search.{IsSearchOf};
 ghost use Rattle.route_search.specs.inside.Completion.{AreBehind, IsBroad};
 ghost use Rattle.route_search.specs.inside.Ends.{AreEnds};
 ghost use Rattle.route_search.specs.inside.Laws.{IsClamped};
-ghost use Rattle.route_search.specs.inside.Reach.{AreDone, IsAsWide};
+ghost use Rattle.label_store.specs.inside.Growth.{IsAsWide};
+ghost use Rattle.route_search.specs.inside.Reach.{AreDone};
 ghost use Rattle.route_search.specs.inside.Task.{IsTask};
 
 use crate::added::add_up;

@@ -12,7 +12,7 @@ ghost use Rattle.route_search.specs.inside.Task.{IsTask, IsAdded};
 ghost use Rattle.route_search.specs.inside.Completion.{IsBroad};
 
 use crate::task::{Task, every_task_is_sound};
-use pricing::costs_are_small;
+use tail_book::laws::costs_are_small;
 use tail_book::{Book, COST_UNIT, CostTable, Place};
 use turn_rules::laws::links_leave_time;
 

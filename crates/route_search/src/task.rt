@@ -3,7 +3,6 @@
 
 ghost use Rattle.tail_book.specs.inside.CostTable.{IsCostTable};
 ghost use Rattle.tail_book.specs.inside.Sound.{IsBook};
-ghost use Rattle.route_search.specs.inside.Task.{IsTask};
 
 use branch_marks::Marks;
 use connection_net::Net;

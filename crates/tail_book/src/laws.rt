@@ -23,7 +23,7 @@ mod sums;
 use crate::{Book, CostTable};
 pub use along::{counters_along_step, legal_is_legal_along};
 pub use bounds::{
-    reduced_costs_are_small, rising_routes_are_below, rising_routes_are_short,
+    costs_are_small, reduced_costs_are_small, rising_routes_are_below, rising_routes_are_short,
     rising_routes_cost_at_most, rising_routes_cost_at_most_in, routes_cost_at_most,
     routes_cost_at_most_in,
 };

@@ -22,7 +22,7 @@ mod sound;
 pub use activity::Activity;
 pub use aircraft::Tail;
 pub use book::Book;
-pub use claim::Claim;
+pub use claim::{Claim, claim_of};
 pub use cost_table::{COST_UNIT, CostTable, band_cost};
 pub use duals::Duals;
 pub use flown::Flown;

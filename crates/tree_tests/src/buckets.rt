@@ -4,7 +4,7 @@
 //! once for all activities, in one pass; a look then goes over the labels of one activity alone, and ends at the first that
 //! covers. Nothing is allocated.
 
-ghost use Rattle.std.specs.Prelude.{◌≡◌, ◌<◌, ◌≤◌, ◌&&◌, ℕ, ℤ, All, length};
+ghost use Rattle.std.specs.Prelude.{◌≡◌, ◌<◌, ◌≤◌, ◌&&◌, ℕ, All, length};
 ghost use Rattle.tail_book.specs.Lookup.{activities};
 ghost use Rattle.tail_book.specs.Numbers.{int_le};
 ghost use Rattle.tail_book.specs.inside.Order.{each_at_most};

@@ -4,15 +4,14 @@
 //! limits, some label there has to be as good. Then the ends are looked at. Labels that are not alive, out of order, or without
 //! a value for each counter were refused at their lines.
 
-ghost use Rattle.std.specs.Prelude.{◌≡◌, ◌<◌, ◌≤◌, ◌+◌, ◌*◌, ◌^◌, ◌-ℤ◌, ◌+ℤ◌, ◌&&◌, ◌||◌, not, pos, All, length};
+ghost use Rattle.std.specs.Prelude.{◌≡◌, ◌<◌, ◌+◌, ◌+ℤ◌, ◌&&◌, ◌||◌, not, pos, All, length};
 ghost use Rattle.std.specs.List.{list_all};
 ghost use Rattle.tail_book.specs.Counters.{step};
 ghost use Rattle.tail_book.specs.Lookup.{activities, aircraft, carry_of};
 ghost use Rattle.tail_book.specs.Numbers.{int_le};
 ghost use Rattle.tail_book.specs.declared.place.Place.TheVariants.{After as PlaceAfter, Carry as PlaceCarry};
-ghost use Rattle.tail_book.specs.inside.CostTable.{IsTableFor, activity_cost_in, connection_cost_in, costs_of};
+ghost use Rattle.tail_book.specs.inside.CostTable.{IsTableFor, costs_of};
 ghost use Rattle.tail_book.specs.inside.Place.{IsPlaceOf};
-ghost use Rattle.tail_book.specs.inside.Sound.{IsWithin};
 ghost use Rattle.tail_book.specs.inside.Tests.{within_limits};
 ghost use Rattle.maint_counters.specs.inside.Counts.{AreCountable};
 ghost use Rattle.branch_marks.specs.Labels.{label_after};
@@ -33,30 +32,9 @@ use crate::means::Means;
 use crate::ways::{ways, ways_are_all, ways_are_of_book};
 use branch_marks::Marks;
 use maint_counters::step_by;
-use tail_book::laws::{every_book_is_sound, every_cost_table_is_sound, own_costs_are_for_book};
+use tail_book::laws::{every_book_is_sound, own_costs_are_for_book};
 use tail_book::{Book, COST_UNIT, CostTable, Place};
-use turn_rules::connection_cost;
-
-// One activity's costs are small in thousandths of a cost unit.
-fn costs_are_small(table: &CostTable)
-    requires { 1 ≤ table.now.n }
-    ensures { 1000 * (table.now.fly_max + table.now.band_max) ≤ 2 ^ 61 }
-{
-    every_cost_table_is_sound(table);
-}
-
-// What an activity and the connection to it cost.
-fn arc_cost(book: &Book, table: &CostTable, k: u32, from: Place, b: u32) -> u64
-    requires table { IsTableFor book.now table.now }
-    requires aircraft { k < aircraft book.now }
-    requires place { IsPlaceOf book.now from }
-    requires activity { b < activities book.now }
-    ensures value { result ≡ activity_cost_in table.now k b + connection_cost_in table.now book.now k from b }
-    ensures most { 1000 * result ≤ 2 ^ 61 }
-{
-    costs_are_small(table);
-    table.activity_cost(k, b) + connection_cost(book, &table.bands, k, from, b)
-}
+use turn_rules::arc_cost;
 
 // What a label weighs after an activity, from a place where it weighs so much.
 fn weight_after(

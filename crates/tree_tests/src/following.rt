@@ -3,7 +3,7 @@
 //! A fact is tested for the aircraft and the activities that it names, and for nothing else: a Bar asks for the floors of its
 //! aircraft up to its activity, a Cut for those of each aircraft that may use the link, up to one that goes on over it.
 
-ghost use Rattle.std.specs.Prelude.{◌≡◌, ◌<◌, ◌≤◌, ◌↔◌, ℤ, ℕ, List, None, Some, IsTrue, IfSome, IfNone, true, false, length};
+ghost use Rattle.std.specs.Prelude.{◌≡◌, ◌<◌, ◌≤◌, ◌↔◌, IsTrue, true, false, length};
 ghost use Rattle.tail_book.specs.Lookup.{activities, aircraft};
 ghost use Rattle.tail_book.specs.declared.place.Place.TheVariants.{After as PlaceAfter};
 ghost use Rattle.branch_marks.specs.Branches.{IsPairOf};
@@ -19,7 +19,6 @@ ghost use Rattle.branch_marks.specs.inside.MarkTests.{is_usable};
 ghost use Rattle.branch_marks.specs.inside.TreeTests.{is_hole};
 ghost use Rattle.floor_rows.specs.inside.FloorRow.{IsRowOf};
 ghost use Rattle.floor_rows.specs.inside.LeastOver.{floor_of};
-ghost use Rattle.floor_rows.specs.inside.Neighbours.{goes_on_to};
 ghost use Rattle.tree_tests.specs.inside.Means.{AreMeansOf};
 
 use crate::means::Means;

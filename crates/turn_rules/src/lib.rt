@@ -11,7 +11,7 @@ mod permission;
 mod permission_table;
 
 pub use connection::{connected, earliest_start, free_from, gap, link, port, turn};
-pub use costs::connection_cost;
+pub use costs::{arc_cost, connection_cost};
 pub use curfew::curfewed;
 pub use curfew_table::{CurfewTable, curfewed_by};
 pub use number_set::NumberSet;
