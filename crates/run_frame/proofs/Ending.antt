@@ -3,7 +3,7 @@
 use Rattle.std.proofs.Common.{◌≡◌, ◌≢◌, ◌∙◌, ℕ, ◌⊎◌, inl, inr, arith, List, [], ◌∷◌, Option, None, Some, IfSome, refl, subst, sym}
 use Rattle.std.proofs.lemmas.List.{append-nil}
 use Rattle.tail_outside.proofs.OutsideLemmas.{TakesFront-whole}
-use Rattle.tail_outside.specs.Outside.{PieceHasFailed, Takes, TakesFront}
+use Rattle.tail_outside.specs.Outside.{PieceHasFailed, Takes}
 use Rattle.tail_outside.specs.Shown.{SinkShown}
 use Rattle.tail_text.specs.declared.refusal.Refusal.{Refusal}
 use Rattle.plan_report.specs.Lines.{text_of}

@@ -4,7 +4,7 @@
 use Rattle.std.proofs.Common.{◌≡◌, ◌∙◌, ℕ, ◌+◌, ◌<◌, ◌≤◌, ◌⊎◌, inl, inr, false, arith, List, length, take, refl, ap, sym, length-take-le}
 use Rattle.std.proofs.lemmas.Bool.Decides.{nat_tests}
 use Rattle.std.proofs.lemmas.List.{take_all}
-use Rattle.std.specs.Prelude.{nat_le, Result, Ok, Err}
+use Rattle.std.specs.Prelude.{nat_le, Result, Err}
 use Rattle.tail_text.specs.Checks.{look}
 use Rattle.tail_text.specs.Reading.{refusal_at}
 use Rattle.tail_text.specs.declared.codes.TheConstants.{TOO_BIG}
@@ -19,7 +19,7 @@ use Rattle.fleet_rules.specs.RawRules.{RawRulesSeen}
 use Rattle.fleet_rules.specs.RulesTable.{rules_of}
 use Rattle.fleet_rules.specs.Tail.{RawTailSeen}
 use Rattle.book_maker.specs.Made.{book_of, made_of}
-use Rattle.run_frame.specs.inside.TableFiles.{front, fronts}
+use Rattle.run_frame.specs.inside.TableFiles.{front}
 use Rattle.run_frame.specs.Tables.{TablesSeen}
 use Rattle.run_frame.specs.declared.table_files.TheConstants.{READ_LIMIT}
 

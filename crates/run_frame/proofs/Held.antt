@@ -2,7 +2,7 @@
 -- read are the fronts of those that are held, where each of them is told; that is by cases. What follows of what is
 -- held follows where it is told, and where it is known, it holds of that: names are given once, so both speak of the
 -- same.
-use Rattle.std.proofs.Common.{◌≡◌, ◌∙◌, ℕ, List, Option, Some, None, IfSome, ap, option_map, refl, subst, sym, take}
+use Rattle.std.proofs.Common.{◌≡◌, ◌∙◌, ℕ, List, Option, Some, None, IfSome, ap, option_map, refl, subst, sym}
 use Rattle.std.specs.Prelude.{option_and_then}
 use Rattle.tail_outside.specs.Shown.{FilesShown}
 use Rattle.run_frame.specs.TableFiles.{IsHeld, OfHeld, tables_held}

@@ -1,5 +1,5 @@
 -- The reading of the words: a program's name and the names of three tables, as `clap` reads one simple command.
-use Rattle.std.specs.Prelude.{ℕ, Bool, true, List, map, codes, length, ◌==◌, Option, Some, None, option_and_then, option_map, if◌then◌else◌, string_bytes}
+use Rattle.std.specs.Prelude.{ℕ, Bool, true, List, codes, length, ◌==◌, Option, Some, None, option_and_then, option_map, if◌then◌else◌}
 use Rattle.clap.specs.Words.{App, Row, Rule, fault_of, first_of, matches_of, new_app, new_rule, with_rule}
 use Rattle.clap.specs.Simple.{on_top}
 use Rattle.run_frame.specs.Tables.{NamesSeen}

@@ -16,4 +16,4 @@ pub use process::{Process, process_of};
 pub use status::{NO_MEMORY, READ_FAILED, REFUSED, Ran, Status, USAGE, WRITE_FAILED};
 pub use table_files::{READ_LIMIT, read_tables};
 pub use tables::{TableNames, Tables};
-pub use words::{tables_command, tables_in, value_of};
+pub use words::{matched, tables_command, tables_in, value_of};

@@ -3,14 +3,17 @@
 //! `clap` reads them for one simple command, and what it gives is stated for every list of words. So both outcomes
 //! are exact: names come where the command takes the words, and nothing where it refuses them.
 
-ghost use Rattle.std.specs.Prelude.{◌≡◌, IfOk, option_map};
-ghost use Rattle.clap.specs.Words.{app_of, first_of, found_of, rows_of};
+ghost use Rattle.std.specs.Prelude.{◌≡◌, true, IfOk, option_map};
+ghost use Rattle.clap.specs.Words.{app_of, first_of, found_of, is_simple_and_free, rows_of};
 ghost use Rattle.run_frame.specs.inside.TableFiles.{names_seen};
-ghost use Rattle.run_frame.specs.Words.{tables_command, tables_in};
+ghost use Rattle.run_frame.specs.Spelled.{spelled};
+ghost use Rattle.run_frame.specs.Words.{matched, tables_command, tables_in};
 
 use crate::TableNames;
+use clap::error::ErrorKind;
 use clap::{Arg, ArgMatches, Command};
 use std::alloc::{AllocError, Global};
+use tail_book::Memory;
 
 /// The command of a program: three words that have to stand in their places, and no flag for help.
 pub fn tables_command<'a>(alloc: Global, program: &'a str) -> Result<Command<'a>, AllocError>
@@ -21,6 +24,21 @@ pub fn tables_command<'a>(alloc: Global, program: &'a str) -> Result<Command<'a>
         .arg(Arg::new(alloc, "timetable").required(true))?
         .arg(Arg::new(alloc, "fleet").required(true))?
         .arg(Arg::new(alloc, "rules").required(true))
+}
+
+/// What a command matches of the words, or nothing where it refuses them. The words begin with the program's name.
+pub fn matched<'a>(
+    command: Command<'a>,
+    words: &'a [String],
+) -> Result<Option<ArgMatches<'a>>, Memory>
+    requires { is_simple_and_free (app_of command) ≡ true }
+    ensures { IfOk result (λ found. option_map (λ matches. rows_of (found_of matches)) found ≡ matched (app_of command.entry) (spelled words.now)) }
+{
+    match command.try_get_matches_from(words) {
+        Ok(matches) => Ok(Some(matches)),
+        Err(error) if error.kind() == ErrorKind::OutOfMemory => Err(Memory),
+        Err(_) => Ok(None),
+    }
 }
 
 /// The word that an argument was given.

@@ -7,9 +7,8 @@ ghost use Rattle.run_frame.specs.Spelled.{spelled};
 ghost use Rattle.tailcheck.specs.inside.Texts.{check_names_seen, subject_seen};
 ghost use Rattle.tailcheck.specs.Words.{check_of, command, names_in, subject_of};
 
-use clap::error::ErrorKind;
 use clap::{Arg, ArgMatches, Command};
-use run_frame::{TableNames, tables_command, tables_in, value_of};
+use run_frame::{TableNames, matched, tables_command, tables_in, value_of};
 use std::alloc::{AllocError, Global};
 use tail_book::Memory;
 
@@ -63,11 +62,9 @@ fn names_in<'a>(matches: &ArgMatches<'a>) -> Option<CheckNames<'a>>
 pub fn check_of<'a>(alloc: Global, words: &'a [String]) -> Result<Option<CheckNames<'a>>, Memory>
     ensures { IfOk result (λ names. option_map check_names_seen names ≡ check_of (spelled words.now)) }
 {
-    let command = command(alloc)?;
-    match command.try_get_matches_from(words) {
-        Ok(matches) => Ok(names_in(&matches)),
-        Err(error) if error.kind() == ErrorKind::OutOfMemory => Err(Memory),
-        Err(_) => Ok(None),
+    match matched(command(alloc)?, words)? {
+        Some(matches) => Ok(names_in(&matches)),
+        None => Ok(None),
     }
 }
 

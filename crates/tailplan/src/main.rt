@@ -10,19 +10,15 @@ mod usage;
 mod words;
 
 use run::solve_run;
-use run_frame::{NO_MEMORY, Process, process_of};
+use run_frame::{NO_MEMORY, process_of};
 use std::process::ExitCode;
 
 fn main(rt: HostRuntime) -> ExitCode {
     let alloc = rt.alloc();
     let status = match process_of(alloc, "tailplan", rt) {
-        Ok(process) => {
-            let Process {
-                words,
-                files,
-                mut out,
-            } = process;
-            solve_run(alloc, &words, files, &mut out).status
+        Ok(mut process) => {
+            let files = process.files;
+            solve_run(alloc, &process.words, files, &mut process.out).status
         }
         Err(_) => NO_MEMORY,
     };

@@ -8,9 +8,8 @@ ghost use Rattle.tailplan.specs.Words.{command, is_trial, limit_of, names_in, ru
 ghost use Rattle.tailplan.specs.inside.Tasks.{task_names_seen};
 
 use branch_tree::Limit;
-use clap::error::ErrorKind;
 use clap::{Arg, ArgMatches, Command};
-use run_frame::{TableNames, tables_command, tables_in, value_of};
+use run_frame::{TableNames, matched, tables_command, tables_in, value_of};
 use std::alloc::{AllocError, Global};
 use tail_book::Memory;
 use tail_text::number;
@@ -97,11 +96,9 @@ pub fn run_of<'a>(alloc: Global, words: &'a [String]) -> Result<Option<TaskNames
     if is_trial(words) {
         return Ok(None);
     }
-    let command = command(alloc)?;
-    match command.try_get_matches_from(words) {
-        Ok(matches) => Ok(names_in(&matches)),
-        Err(error) if error.kind() == ErrorKind::OutOfMemory => Err(Memory),
-        Err(_) => Ok(None),
+    match matched(command(alloc)?, words)? {
+        Some(matches) => Ok(names_in(&matches)),
+        None => Ok(None),
     }
 }
 

@@ -8,19 +8,15 @@ mod usage;
 mod words;
 
 use run::view_run;
-use run_frame::{NO_MEMORY, Process, process_of};
+use run_frame::{NO_MEMORY, process_of};
 use std::process::ExitCode;
 
 fn main(rt: HostRuntime) -> ExitCode {
     let alloc = rt.alloc();
     let status = match process_of(alloc, "tailview", rt) {
-        Ok(process) => {
-            let Process {
-                words,
-                files,
-                mut out,
-            } = process;
-            view_run(alloc, &words, files, &mut out).status
+        Ok(mut process) => {
+            let files = process.files;
+            view_run(alloc, &process.words, files, &mut process.out).status
         }
         Err(_) => NO_MEMORY,
     };

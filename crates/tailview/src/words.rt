@@ -7,9 +7,8 @@ ghost use Rattle.run_frame.specs.Spelled.{spelled};
 ghost use Rattle.tailview.specs.inside.Texts.{view_names_seen};
 ghost use Rattle.tailview.specs.Words.{names_of, command, names_in, with_curfews, with_plan};
 
-use clap::error::ErrorKind;
 use clap::{Arg, ArgAction, ArgMatches, Command};
-use run_frame::{TableNames, tables_command, tables_in, value_of};
+use run_frame::{TableNames, matched, tables_command, tables_in, value_of};
 use std::alloc::{AllocError, Global};
 use tail_book::Memory;
 
@@ -70,10 +69,8 @@ fn names_in<'a>(matches: &ArgMatches<'a>) -> Option<ViewNames<'a>>
 pub fn names_of<'a>(alloc: Global, words: &'a [String]) -> Result<Option<ViewNames<'a>>, Memory>
     ensures { IfOk result (λ names. option_map view_names_seen names ≡ names_of (spelled words.now)) }
 {
-    let command = command(alloc)?;
-    match command.try_get_matches_from(words) {
-        Ok(matches) => Ok(names_in(&matches)),
-        Err(error) if error.kind() == ErrorKind::OutOfMemory => Err(Memory),
-        Err(_) => Ok(None),
+    match matched(command(alloc)?, words)? {
+        Some(matches) => Ok(names_in(&matches)),
+        None => Ok(None),
     }
 }

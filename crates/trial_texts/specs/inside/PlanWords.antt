@@ -1,5 +1,5 @@
--- How the words are read by a program that judges a plan by three tables, at command lines that are written out.
-use Rattle.std.specs.Prelude.{◌≡◌, ℕ, List, [], ◌∷◌, Option, None, codes}
+-- How the words are read by a program that judges a plan by three tables: at command lines that are written out, and whatever the names are.
+use Rattle.std.specs.Prelude.{◌≡◌, ◌==◌, ℕ, false, List, [], ◌∷◌, ◌++◌, Option, None, codes}
 
 -- the program's name, the reading of that word and those behind it, and what it gives for the names of these tables and this plan
 module _ {A : Type 0} (program : List ℕ) (read : List (List ℕ) → Option A) (named : List ℕ → List ℕ → List ℕ → List ℕ → Option A) where
@@ -66,3 +66,20 @@ module _ {A : Type 0} (program : List ℕ) (read : List (List ℕ) → Option A)
         × (after_name (codes "--version" ∷ []) ≡ None)
         × (after_name (codes "t" ∷ codes "f" ∷ codes "r" ∷ codes "--plan" ∷ codes "p" ∷ codes "--help" ∷ []) ≡ None)
         × (after_name (codes "t" ∷ codes "f" ∷ codes "r" ∷ codes "--plan" ∷ codes "p" ∷ codes "-V" ∷ []) ≡ None)
+
+-- the reading of all words, and what it gives for the names of these tables and this plan
+module _ {A : Type 0} (read : List (List ℕ) → Option A) (named : List ℕ → List ℕ → List ℕ → List ℕ → Option A) where
+  pub record ReadsAnyNames : Type 0 where
+    -- the program's name does not matter
+    pub any_program : (one other : List ℕ) (words : List (List ℕ)) → read (one ∷ words) ≡ read (other ∷ words)
+    -- any four words can be given as the names
+    pub any_names : (program timetable fleet rules plan : List ℕ)
+        → read (program ∷ (codes "--plan=" ++ plan) ∷ codes "--" ∷ timetable ∷ fleet ∷ rules ∷ []) ≡ named timetable fleet rules plan
+    -- more than three tables are too many
+    pub no_fourth : (program plan one two three four : List ℕ) (rest : List (List ℕ))
+        → read (program ∷ (codes "--plan=" ++ plan) ∷ codes "--" ∷ one ∷ two ∷ three ∷ four ∷ rest) ≡ None
+    -- names of tables that begin with another sign than a dash are taken as they stand
+    pub plain_names : (program timetable fleet rules plan : List ℕ) (t f r : ℕ) → (t == 45) ≡ false → (f == 45) ≡ false → (r == 45) ≡ false
+        → read (program ∷ (codes "--plan=" ++ plan) ∷ (t ∷ timetable) ∷ (f ∷ fleet) ∷ (r ∷ rules) ∷ []) ≡ named (t ∷ timetable) (f ∷ fleet) (r ∷ rules) plan
+    -- without an option no names are taken
+    pub option_wanted : (program timetable fleet rules : List ℕ) → read (program ∷ codes "--" ∷ timetable ∷ fleet ∷ rules ∷ []) ≡ None

@@ -1,6 +1,6 @@
 -- The three fronts are those of the tables that are held; the files hold the same for each of the three reads.
-use Rattle.std.proofs.Common.{◌≡◌, ◌∙◌, IfSome}
-use Rattle.run_frame.specs.inside.TableFiles.{front, names_seen}
+use Rattle.std.proofs.Common.{◌∙◌}
+use Rattle.run_frame.specs.inside.TableFiles.{names_seen}
 use Rattle.run_frame.proofs.Held.{tables-read, read-later}
 use Rattle.run_frame.proofs.table_files.read_tables.Goals as goal
 
