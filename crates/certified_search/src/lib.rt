@@ -5,6 +5,3 @@ mod certified;
 pub mod laws;
 
 pub use certified::{Certified, certified_search};
-
-#[cfg(test)]
-mod tests;

@@ -8,6 +8,7 @@ mod branching;
 mod certificates;
 mod limits;
 mod logs;
+mod lone_flight;
 mod nodes;
 mod worked;
 

@@ -1,7 +1,7 @@
-//! Activities, each written as a row: what tests change is in the row, and all else asks for nothing. At most six rows
+//! Activities, each written as a row: what tests change is in the row, and all else asks for nothing. At most ten rows
 //! count, as many as there are names.
 
-use crate::names::names;
+use crate::names::names_in_order;
 use std::alloc::Global;
 use tail_book::*;
 
@@ -35,26 +35,35 @@ fn resets(alloc: Global, row: Row) -> Result<Vec<u32>, Memory> {
     Ok(resets)
 }
 
-fn activity(alloc: Global, id: Name, row: Row) -> Result<Activity, Memory> {
-    let resets = resets(alloc, row)?;
-    Ok(Activity {
+/// A flight of this name that any aircraft may fly, between two airports and from one minute since 1970-01-01T00:00 UTC to
+/// another.
+pub fn named_flight(alloc: Global, id: Name, leg: (u32, u32), time: (i64, i64)) -> Activity {
+    let ((from, to), (start, end)) = (leg, time);
+    Activity {
         id,
-        flight: row.flight,
-        from: row.leg.0,
-        to: row.leg.1,
-        start: row.time.0,
-        end: row.time.1,
+        flight: true,
+        from,
+        to,
+        start,
+        end,
         types: Vec::new(alloc),
         tags: Vec::new(alloc),
         tail: None,
-        resets,
-    })
+        resets: Vec::new(alloc),
+    }
 }
 
-/// The activities of these rows, of which at most six count.
+fn activity(alloc: Global, id: Name, row: Row) -> Result<Activity, Memory> {
+    let mut activity = named_flight(alloc, id, row.leg, row.time);
+    activity.flight = row.flight;
+    activity.resets = resets(alloc, row)?;
+    Ok(activity)
+}
+
+/// The activities of these rows, of which at most ten count.
 pub fn activities(alloc: Global, rows: &[Row]) -> Result<Vec<Activity>, Memory> {
     let mut activities = Vec::new(alloc);
-    for (name, row) in names().iter().zip(rows) {
+    for (name, row) in names_in_order().iter().zip(rows) {
         activities.push(activity(alloc, *name, *row)?)?;
     }
     Ok(activities)

@@ -12,11 +12,12 @@ mod rising;
 mod rule_rows;
 mod small_book;
 
-pub use activity_rows::{Row, activities, flight};
-pub use aircraft::tails;
+pub use activity_rows::{Row, activities, flight, named_flight};
+pub use aircraft::{named_tail, tails};
 pub use cost_table::costs;
 pub use duals::{are_duals, duals_of};
 pub use marking::marks;
+pub use names::names_in_order;
 pub use rising::is_rising;
 pub use rule_rows::{bands, counters, rules};
 pub use small_book::{book, plain_book, there_and_back, two_at_once};

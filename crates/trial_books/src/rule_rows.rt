@@ -1,14 +1,14 @@
 //! Rules of small books: two types of rates 1 and 2, four airports that ask for no turn and keep UTC, no curfew, and
 //! the counters and bands that a test writes.
 
-use crate::names::names;
+use crate::names::names_in_order;
 use std::alloc::Global;
 use tail_book::*;
 
 // Types of rate 1 and 2, with this turn.
 fn kinds(alloc: Global, turn: i64) -> Result<Vec<AircraftType>, Memory> {
     let mut kinds = Vec::new(alloc);
-    for (name, rate) in names().iter().zip(1..3u64) {
+    for (name, rate) in names_in_order().iter().zip(1..3u64) {
         kinds.push(AircraftType {
             name: *name,
             rate,
@@ -21,7 +21,7 @@ fn kinds(alloc: Global, turn: i64) -> Result<Vec<AircraftType>, Memory> {
 // Airports that ask for no turn.
 fn airports(alloc: Global) -> Result<Vec<Airport>, Memory> {
     let mut airports = Vec::new(alloc);
-    for name in names().iter().take(4) {
+    for name in names_in_order().iter().take(4) {
         airports.push(Airport {
             name: *name,
             offset: 0,
@@ -65,7 +65,7 @@ fn counter(
     })
 }
 
-/// Counters, each of a kind, a limit and a stop in minutes, with a base at one airport. At most six count. A limit is in
+/// Counters, each of a kind, a limit and a stop in minutes, with a base at one airport. At most ten count. A limit is in
 /// the unit of its kind.
 pub fn counters(
     alloc: Global,
@@ -73,7 +73,7 @@ pub fn counters(
     rows: &[(CounterKind, i64, i64)],
 ) -> Result<Vec<Counter>, Memory> {
     let mut counters = Vec::new(alloc);
-    for (name, row) in names().iter().zip(rows) {
+    for (name, row) in names_in_order().iter().zip(rows) {
         counters.push(counter(alloc, *name, base, *row)?)?;
     }
     Ok(counters)

@@ -1,6 +1,6 @@
 //! A small book whose floors are known from outside, under facts of each kind.
 
-ghost use Rattle.std.specs.Prelude.{◌≡◌, ◌<◌, ◌≤◌, IfOk, length};
+ghost use Rattle.std.specs.Prelude.{◌≡◌, ◌<◌, IfOk, length};
 ghost use Rattle.tail_book.specs.Lookup.{activities, aircraft};
 ghost use Rattle.connection_net.specs.Net.{net_of};
 ghost use Rattle.maint_counters.specs.inside.StepTable.{IsStepTableOf};
@@ -15,6 +15,7 @@ use std::alloc::Global;
 use std::test::Fail;
 use tail_book::laws::every_book_is_sound;
 use tail_book::*;
+use trial_books::{named_flight, named_tail};
 
 const ARN: u32 = 0;
 
@@ -38,22 +39,11 @@ fn flights(alloc: Global) -> Result<Vec<Activity>, Memory> {
         (Name::new(b"BACK".as_slice()), OSL, ARN, 480, 540),
         (Name::new(b"AGAIN".as_slice()), ARN, OSL, 600, 640),
     ] {
-        let mut resets = Vec::new(alloc);
+        let mut flight = named_flight(alloc, id, (from, to), (start, end));
         if start == 360 {
-            resets.push(1)?;
+            flight.resets.push(1)?;
         }
-        flights.push(Activity {
-            id,
-            flight: true,
-            from,
-            to,
-            start,
-            end,
-            types: Vec::new(alloc),
-            tags: Vec::new(alloc),
-            tail: None,
-            resets,
-        })?;
+        flights.push(flight)?;
     }
     Ok(flights)
 }
@@ -65,16 +55,9 @@ fn fleet(alloc: Global) -> Result<Vec<Tail>, Memory> {
         (Name::new(b"A".as_slice()), ARN, 0, 0),
         (Name::new(b"B".as_slice()), OSL, 50, 3),
     ] {
-        tails.push(Tail {
-            name,
-            kind: 0,
-            at,
-            ready: 0,
-            fixed: 0,
-            tags: Vec::new(alloc),
-            avoid: Vec::new(alloc),
-            carry: vec![in alloc; minutes, landings]?,
-        })?;
+        let mut tail = named_tail(alloc, name, 0, at, 0);
+        tail.carry = vec![in alloc; minutes, landings]?;
+        tails.push(tail)?;
     }
     Ok(tails)
 }

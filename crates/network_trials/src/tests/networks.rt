@@ -8,6 +8,7 @@ use connection_net::laws::rows_for_each;
 use std::alloc::Global;
 use std::test::Fail;
 use tail_book::*;
+use trial_books::{named_flight, named_tail, names_in_order};
 
 mod chance;
 
@@ -21,55 +22,17 @@ type Leg = (bool, (u32, u32), (i64, i64), Option<u32>);
 // An aircraft: its type, where it comes in, and when it is ready there.
 type Carried = (u32, u32, i64);
 
-// Names in order.
-fn names() -> [Name; 10] {
-    [
-        Name::new(b"0".as_slice()),
-        Name::new(b"1".as_slice()),
-        Name::new(b"2".as_slice()),
-        Name::new(b"3".as_slice()),
-        Name::new(b"4".as_slice()),
-        Name::new(b"5".as_slice()),
-        Name::new(b"6".as_slice()),
-        Name::new(b"7".as_slice()),
-        Name::new(b"8".as_slice()),
-        Name::new(b"9".as_slice()),
-    ]
-}
-
 fn activity(alloc: Global, id: Name, leg: &Leg) -> Activity {
-    let (flight, (from, to), (start, end), tail) = *leg;
-    Activity {
-        id,
-        flight,
-        from,
-        to,
-        start,
-        end,
-        types: Vec::new(alloc),
-        tags: Vec::new(alloc),
-        tail,
-        resets: Vec::new(alloc),
-    }
-}
-
-fn aircraft(alloc: Global, name: Name, carried: &Carried) -> Tail {
-    let (kind, at, ready) = *carried;
-    Tail {
-        name,
-        kind,
-        at,
-        ready,
-        fixed: 0,
-        tags: Vec::new(alloc),
-        avoid: Vec::new(alloc),
-        carry: Vec::new(alloc),
-    }
+    let (flight, ports, time, tail) = *leg;
+    let mut activity = named_flight(alloc, id, ports, time);
+    activity.flight = flight;
+    activity.tail = tail;
+    activity
 }
 
 fn kinds(alloc: Global, turns: &[i64]) -> Result<Vec<AircraftType>, Memory> {
     let mut kinds = Vec::new(alloc);
-    for (name, turn) in names().iter().zip(turns) {
+    for (name, turn) in names_in_order().iter().zip(turns) {
         kinds.push(AircraftType {
             name: *name,
             rate: 1,
@@ -81,7 +44,7 @@ fn kinds(alloc: Global, turns: &[i64]) -> Result<Vec<AircraftType>, Memory> {
 
 fn airports(alloc: Global, ports: usize) -> Result<Vec<Airport>, Memory> {
     let mut airports = Vec::new(alloc);
-    for name in names().iter().take(ports) {
+    for name in names_in_order().iter().take(ports) {
         airports.push(Airport {
             name: *name,
             offset: 60,
@@ -105,7 +68,7 @@ fn rules(alloc: Global, turns: &[i64], ports: usize) -> Result<Rules, Memory> {
 
 fn activities(alloc: Global, legs: &[Leg]) -> Result<Vec<Activity>, Memory> {
     let mut activities = Vec::new(alloc);
-    for (name, leg) in names().iter().zip(legs) {
+    for (name, leg) in names_in_order().iter().zip(legs) {
         activities.push(activity(alloc, *name, leg))?;
     }
     Ok(activities)
@@ -113,8 +76,9 @@ fn activities(alloc: Global, legs: &[Leg]) -> Result<Vec<Activity>, Memory> {
 
 fn fleet(alloc: Global, tails: &[Carried]) -> Result<Vec<Tail>, Memory> {
     let mut fleet = Vec::new(alloc);
-    for (name, carried) in names().iter().zip(tails) {
-        fleet.push(aircraft(alloc, *name, carried))?;
+    for (name, carried) in names_in_order().iter().zip(tails) {
+        let (kind, at, ready) = *carried;
+        fleet.push(named_tail(alloc, *name, kind, at, ready))?;
     }
     Ok(fleet)
 }

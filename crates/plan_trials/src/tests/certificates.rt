@@ -7,36 +7,11 @@ use std::alloc::Global;
 use std::process::Abort;
 use std::test::Fail;
 use tail_book::*;
-
-// A flight between two airports.
-fn flight(alloc: Global, id: Name, leg: (u32, u32), time: (i64, i64)) -> Activity {
-    let ((from, to), (start, end)) = (leg, time);
-    Activity {
-        id,
-        flight: true,
-        from,
-        to,
-        start,
-        end,
-        types: Vec::new(alloc),
-        tags: Vec::new(alloc),
-        tail: None,
-        resets: Vec::new(alloc),
-    }
-}
+use trial_books::{named_flight, named_tail};
 
 // An aircraft of a type, ready at the first airport at minute 300.
 fn tail(alloc: Global, name: Name, kind: u32) -> Tail {
-    Tail {
-        name,
-        kind,
-        at: 0,
-        ready: 300,
-        fixed: 0,
-        tags: Vec::new(alloc),
-        avoid: Vec::new(alloc),
-        carry: Vec::new(alloc),
-    }
+    named_tail(alloc, name, kind, 0, 300)
 }
 
 // Two airports with turns of 20 minutes, and types with these rates and turns.
@@ -60,15 +35,15 @@ fn rules(alloc: Global, first: (u64, i64), second: (u64, i64)) -> Result<Rules, 
 
 // A flight and no aircraft.
 fn nobody(alloc: Global) -> Result<Book, Fail> {
-    let first = flight(alloc, Name::new(b"F1".as_slice()), (0, 1), (360, 420));
+    let first = named_flight(alloc, Name::new(b"F1".as_slice()), (0, 1), (360, 420));
     let flights = vec![in alloc; first]?;
     Ok(Book::new(flights, Vec::new(alloc), rules(alloc, (1, 30), (2, 30))?).ok_or("no book")?)
 }
 
 // Two flights half an hour apart, and an aircraft that takes a minute more to turn.
 fn late(alloc: Global) -> Result<Book, Fail> {
-    let first = flight(alloc, Name::new(b"F1".as_slice()), (0, 1), (360, 420));
-    let second = flight(alloc, Name::new(b"F2".as_slice()), (1, 0), (450, 510));
+    let first = named_flight(alloc, Name::new(b"F1".as_slice()), (0, 1), (360, 420));
+    let second = named_flight(alloc, Name::new(b"F2".as_slice()), (1, 0), (450, 510));
     let flights = vec![in alloc; first, second]?;
     let tails = vec![in alloc; tail(alloc, Name::new(b"A1".as_slice()), 0)]?;
     Ok(Book::new(flights, tails, rules(alloc, (1, 31), (2, 30))?).ok_or("no book")?)
@@ -76,8 +51,8 @@ fn late(alloc: Global) -> Result<Book, Fail> {
 
 // Two flights at once, of an hour and of two, and two aircraft of which the second costs twice as much.
 fn rates(alloc: Global) -> Result<Book, Fail> {
-    let first = flight(alloc, Name::new(b"F1".as_slice()), (0, 1), (360, 420));
-    let second = flight(alloc, Name::new(b"F2".as_slice()), (0, 1), (360, 480));
+    let first = named_flight(alloc, Name::new(b"F1".as_slice()), (0, 1), (360, 420));
+    let second = named_flight(alloc, Name::new(b"F2".as_slice()), (0, 1), (360, 480));
     let flights = vec![in alloc; first, second]?;
     let (a, b) = (Name::new(b"A1".as_slice()), Name::new(b"A2".as_slice()));
     let tails = vec![in alloc; tail(alloc, a, 0), tail(alloc, b, 1)]?;

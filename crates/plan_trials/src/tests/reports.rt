@@ -13,6 +13,7 @@ use std::test::Fail;
 use tail_book::*;
 use tail_outside::MemSink;
 use tail_text::Stopped;
+use trial_books::{named_flight, named_tail};
 
 // The numbers of the flights F1, F2 and F3, and of the aircraft A1 and A2.
 const F1: u32 = 0;
@@ -26,18 +27,7 @@ const A1: u32 = 0;
 const A2: u32 = 1;
 
 fn flight(alloc: Global, id: Name, start: i64, end: i64) -> Activity {
-    Activity {
-        id,
-        flight: true,
-        from: 0,
-        to: 0,
-        start,
-        end,
-        types: Vec::new(alloc),
-        tags: Vec::new(alloc),
-        tail: None,
-        resets: Vec::new(alloc),
-    }
+    named_flight(alloc, id, (0, 0), (start, end))
 }
 
 // One type, one airport, and a counter of minutes.
@@ -76,16 +66,9 @@ fn rules(alloc: Global) -> Result<Rules, Memory>
 }
 
 fn tail(alloc: Global, name: Name) -> Result<Tail, Memory> {
-    Ok(Tail {
-        name,
-        kind: 0,
-        at: 0,
-        ready: 0,
-        fixed: 0,
-        tags: Vec::new(alloc),
-        avoid: Vec::new(alloc),
-        carry: vec![in alloc; 0]?,
-    })
+    let mut tail = named_tail(alloc, name, 0, 0, 0);
+    tail.carry = vec![in alloc; 0]?;
+    Ok(tail)
 }
 
 fn book(alloc: Global) -> Result<Book, Fail>

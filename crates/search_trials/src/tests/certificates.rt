@@ -11,22 +11,6 @@ use std::test::Fail;
 use tail_book::*;
 use tail_outside::MemSink;
 
-// What is claimed of an outcome.
-fn claim_of(outcome: &Outcome) -> Claim {
-    match outcome {
-        Outcome::Optimal(_, cost) => Claim::Optimal(*cost),
-        Outcome::Infeasible => Claim::Infeasible,
-        Outcome::Between { low, high, .. } => Claim::Limit {
-            low: *low,
-            high: Some(*high),
-        },
-        Outcome::Above { low, .. } => Claim::Limit {
-            low: *low,
-            high: None,
-        },
-    }
-}
-
 // What a search within the limit claims, and the verdict on what it wrote.
 fn judged(alloc: Global, book: &Book, limit: Limit) -> Result<Option<(Claim, Verdict)>, Fail> {
     let table = CostTable::of(alloc, book)?;

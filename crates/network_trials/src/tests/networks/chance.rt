@@ -4,7 +4,7 @@ ghost use Rattle.std.specs.Prelude.{◌≡◌, ◌<◌};
 ghost use Rattle.tail_book.specs.Lookup.{activities, aircraft};
 ghost use Rattle.connection_net.specs.Net.{net_of};
 
-use super::{aircraft, made, names, rules};
+use super::{made, rules};
 use connection_net::Net;
 use connection_net::laws::rows_for_each;
 use dice::Dice;
@@ -12,6 +12,7 @@ use std::alloc::Global;
 use std::process::Abort;
 use std::test::Fail;
 use tail_book::*;
+use trial_books::{named_tail, names_in_order};
 use turn_rules::link;
 
 // Up to two numbers below 3, and none in half of the cases.
@@ -56,9 +57,9 @@ fn three_types(alloc: Global, dice: &mut Dice) -> Result<Rules, Memory> {
 
 fn four_tails(alloc: Global, dice: &mut Dice) -> Result<Vec<Tail>, Memory> {
     let mut tails = Vec::new(alloc);
-    for name in names().iter().take(4) {
-        let carried = (dice.below(3), dice.below(3), 1000 + dice.below(1500) as i64);
-        let mut tail = aircraft(alloc, *name, &carried);
+    for name in names_in_order().iter().take(4) {
+        let (kind, at, ready) = (dice.below(3), dice.below(3), 1000 + dice.below(1500) as i64);
+        let mut tail = named_tail(alloc, *name, kind, at, ready);
         tail.tags = few(dice, alloc)?;
         if dice.below(4) == 0 {
             tail.avoid = few(dice, alloc)?;
@@ -95,7 +96,7 @@ fn an_activity(alloc: Global, dice: &mut Dice, id: Name, start: i64) -> Result<A
 
 fn ten_activities(alloc: Global, dice: &mut Dice) -> Result<Vec<Activity>, Memory> {
     let (mut activities, mut start) = (Vec::new(alloc), 1000i64);
-    for name in names().iter() {
+    for name in names_in_order().iter() {
         activities.push(an_activity(alloc, dice, *name, start)?)?;
         start = start.saturating_add(1 + dice.below(400) as i64);
     }

@@ -1,4 +1,4 @@
-use Rattle.std.proofs.Common.{◌≡◌, ◌<◌, ℕ, below_more}
+use Rattle.std.proofs.Common.{◌≡◌, ℕ, below_more}
 use Rattle.std.specs.Prelude.{Any}
 use Rattle.branch_marks.specs.Pool.{Pooled}
 use Rattle.plan_trials.proofs.tests.pools.has_routes.Goals as goal

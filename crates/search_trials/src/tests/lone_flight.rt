@@ -1,51 +1,13 @@
 //! Certificates in memory of a book of one flight, for which there is no aircraft: without a limit, at a limit of no nodes, and
 //! where a write fails.
 
-use crate::certified_search;
 use branch_tree::{Limit, Stop};
+use certified_search::certified_search;
 use std::alloc::Global;
 use std::test::Fail;
-use tail_book::{Activity, Airport, Book, CostTable, Memory, Name, Outcome, Rules};
+use tail_book::{CostTable, Outcome};
 use tail_outside::MemSink;
-
-// Two airports, and nothing else.
-fn rules(alloc: Global) -> Result<Rules, Memory> {
-    let (arn, osl) = (Name::new(b"ARN".as_slice()), Name::new(b"OSL".as_slice()));
-    let airport = |name| Airport {
-        name,
-        offset: 0,
-        turn: 30,
-    };
-    Ok(Rules {
-        kinds: Vec::new(alloc),
-        airports: vec![in alloc; airport(arn), airport(osl)]?,
-        curfews: Vec::new(alloc),
-        counters: Vec::new(alloc),
-        bands: Vec::new(alloc),
-    })
-}
-
-// An hour from the one to the other.
-fn flight(alloc: Global) -> Activity {
-    Activity {
-        id: Name::new(b"F1".as_slice()),
-        flight: true,
-        from: 0,
-        to: 1,
-        start: 360,
-        end: 420,
-        types: Vec::new(alloc),
-        tags: Vec::new(alloc),
-        tail: None,
-        resets: Vec::new(alloc),
-    }
-}
-
-fn lone_flight(alloc: Global) -> Result<Book, Fail> {
-    let mut flights = Vec::new(alloc);
-    flights.push(flight(alloc))?;
-    Ok(Book::new(flights, Vec::new(alloc), rules(alloc)?).ok_or("no book")?)
-}
+use trial_books::{flight, plain_book};
 
 // What a search of that book answers, and what a sink took of whose calls these fail.
 fn run(
@@ -53,7 +15,7 @@ fn run(
     limit: Limit,
     failing: Vec<u64>,
 ) -> Result<(Result<Outcome, Stop>, MemSink), Fail> {
-    let book = lone_flight(alloc)?;
+    let book = plain_book(alloc, &[flight((0, 1), (360, 420))], &[], 30)?;
     let table = CostTable::of(alloc, &book)?;
     let sink = MemSink::new(alloc, failing)?;
     let done = certified_search(alloc, &book, &table, limit, sink);
