@@ -3,7 +3,7 @@
 //! All values stand in one list, a row for each activity, with a flag beside it that says whether there is a floor: at
 //! most 4,000 rows of six values. A floor is lowered in place, and nothing is allocated once the lists are made.
 
-ghost use Rattle.std.specs.Prelude.{◌≡◌, ◌<◌, ◌≤◌, ◌+◌, ◌*◌, ◌++◌, IsTrue, IfOk, Option, None, Some, is_some, false, if◌then◌else◌, length, replicate, slice_index_or, slice_set, take, drop, slice_range};
+ghost use Rattle.std.specs.Prelude.{◌≡◌, ◌≢◌, ◌<◌, ◌≤◌, ◌+◌, ◌*◌, ◌++◌, IsTrue, IfOk, Option, None, Some, is_some, false, if◌then◌else◌, length, replicate, slice_index_or, slice_set, take, drop, slice_range};
 ghost use Rattle.branch_marks.specs.Floors.{lesser, lesser_floor};
 ghost use Rattle.maint_counters.specs.inside.Counts.{AreCounts};
 ghost use Rattle.floor_rows.specs.inside.FloorRow.{kept_floors, IsFloorRow};
@@ -79,7 +79,8 @@ fn is_row(width: usize, known: &[bool], values: &[i64], x: usize, row: &[i64]) -
     requires row { IsFloorRow width known.now values.now }
     requires place { x < length known.now }
     requires width { length row.now ≡ width }
-    ensures { IsTrue result → slice_index_or (kept_floors width known.now values.now) x None ≡ Some row.now }
+    ensures same { IsTrue result → slice_index_or (kept_floors width known.now values.now) x None ≡ Some row.now }
+    ensures other { result ≡ false → slice_index_or (kept_floors width known.now values.now) x None ≢ Some row.now }
 {
     if !known[x] {
         return false;
@@ -169,7 +170,8 @@ impl FloorRow {
     pub fn is(&self, x: usize, values: &[i64]) -> bool
         requires place { x < length self.now.floors }
         requires width { length values.now ≡ self.now.width }
-        ensures { IsTrue result → slice_index_or self.now.floors x None ≡ Some values.now }
+        ensures same { IsTrue result → slice_index_or self.now.floors x None ≡ Some values.now }
+        ensures other { result ≡ false → slice_index_or self.now.floors x None ≢ Some values.now }
     {
         is_row(self.width, &self.known, &self.values, x, values)
     }

@@ -33,7 +33,7 @@ returns-then-is c =
     back_lowered book facts c.args.k c.args.b c.args.row.now c.requires.below c.args.row.now c.args.before.now (predecessors_in (net_of book) c.args.b)
     (none_lowered book facts c.args.k c.args.b c.args.row.now c.requires.below c.floors_are_least.ensures c.requires.activity c.requires.first (predecessors_in (net_of book) c.args.b)
     (c.predecessors_bring_all.ensures book c.every_book_is_sound.ensures facts c.args.k c.args.b c.requires.activity (floor_of book facts c.args.k)))
-    (c.if-is.ensures refl) (c.requires.low c.if-had.true)
+    (c.if-is.ensures.same refl) (c.requires.low c.if-had.true)
 
 -- a predecessor brings it
 pub returns-then-is-2 : goal.returns-then-is-2
@@ -45,4 +45,4 @@ returns-then-is-2 c =
     items (predecessors_in c.args.net.now c.args.b) c.loop-i.i c.predecessors-places.ensures
     (before c.predecessors_come_before.ensures c.args.book.now c.every_book_is_sound.ensures c.args.net.now c.args.b c.requires.activity c.requires.net)
     (search rules) (search rules) c.loop-i.invariant.0 c.lower_from-lowered.ensures.set)
-    (c.if-is-2.ensures refl) (c.requires.low c.if-had-2.true)
+    (c.if-is-2.ensures.same refl) (c.requires.low c.if-had-2.true)
