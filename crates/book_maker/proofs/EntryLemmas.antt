@@ -7,7 +7,6 @@ use Rattle.std.proofs.lemmas.List.{append-nil, drop_all, drop_more}
 use Rattle.tail_text.specs.Checks.{must}
 use Rattle.tail_text.specs.Reading.{refusal_at}
 use Rattle.tail_text.specs.declared.codes.TheConstants.{TWICE}
-use Rattle.tail_text.specs.declared.refusal.Refusal.{Refusal}
 use Rattle.tail_text.specs.declared.refusal.Table.{Table}
 use Rattle.tail_text.specs.inside.Joined.{joined, joined-bad, joined-good}
 use Rattle.table_records.specs.Table.{placed}

@@ -4,7 +4,7 @@
 //! those of airports, an aircraft those of types, airports and counters, an activity those of aircraft too. So one pass
 //! over each table is enough.
 
-ghost use Rattle.std.specs.Prelude.{◌≡◌, ◌+◌, ◌≤◌, ◌<◌, ◌^◌, length, map, All, None, Ok, Some, OnOk};
+ghost use Rattle.std.specs.Prelude.{◌≡◌, ◌≤◌, ◌<◌, length, map, All, None, Ok, Some, OnOk};
 ghost use Rattle.tail_book.specs.declared.limits.TheConstants.{ACTIVITY_LIMIT, AIRPORT_LIMIT, COUNTER_LIMIT, CURFEW_LIMIT, TAIL_LIMIT, TYPE_LIMIT};
 ghost use Rattle.tail_text.specs.inside.Reading.{Answers};
 ghost use Rattle.tail_text.specs.declared.refusal.Table.TheVariants.{Fleet, Rules as RulesTable, Timetable};

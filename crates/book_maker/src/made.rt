@@ -4,7 +4,7 @@
 //! Tags come before all of them, since nothing declares them. That a book keeps its order, ranges and limits is proved
 //! and not tested again: each record is good by itself, each number is the place of a name, and no name stands twice.
 
-ghost use Rattle.std.specs.Prelude.{◌≡◌, ◌≤◌, ◌<◌, ◌^◌, [], length, IfOk, OnOk};
+ghost use Rattle.std.specs.Prelude.{◌≡◌, ◌≤◌, ◌<◌, length, IfOk, OnOk};
 ghost use Rattle.tail_book.specs.declared.limits.TheConstants.{ACTIVITY_LIMIT, TAIL_LIMIT};
 ghost use Rattle.tail_text.specs.inside.Reading.{Answers};
 ghost use Rattle.fleet_rules.specs.inside.RawRules.{AreRawRules};

@@ -3,8 +3,8 @@
 //! Each number has one spelling: no sign but a minus before a negative one, and no zero in front. They are read where
 //! they stand in the text, within the limits of their kinds, and nothing is allocated.
 
-ghost use Rattle.std.specs.Prelude.{◌≡◌, ◌≤◌, ◌<◌, ◌^◌, IfSome};
-ghost use Rattle.cert_lines.specs.Words.{small, large, amount, value, negated, one_number, two_numbers, number_and_value, counters_in, counters_of};
+ghost use Rattle.std.specs.Prelude.{◌≡◌, ◌<◌};
+ghost use Rattle.cert_lines.specs.Words.{small, large, amount, value, negated, one_number, two_numbers, number_and_value, counters_in};
 ghost use Rattle.cert_lines.specs.declared.cert_line.TheConstants.{VALUE_LIMIT};
 
 use crate::cert_line::VALUE_LIMIT;

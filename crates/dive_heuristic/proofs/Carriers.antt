@@ -1,7 +1,7 @@
 -- Who may fly: where there is no hole the least number at which an activity is alive is an aircraft of the book. If no
 -- aircraft had been found, the activity would be alive for nobody, and that is a hole. Marks that closing left without
 -- a hole have none, since closing then names somebody for each activity.
-use Rattle.std.proofs.Common.{◌≡◌, ℕ, ◌<◌, ◌≤◌, inl, inr, true, false, arith, List, refl, subst}
+use Rattle.std.proofs.Common.{◌≡◌, ℕ, ◌<◌, ◌≤◌, inl, inr, true, false, arith, List, subst}
 use Rattle.std.proofs.lemmas.Bool.{both_ways, cases_lt}
 use Rattle.tail_book.specs.Seen.{BookSeen}
 use Rattle.tail_book.specs.Lookup.{activities, aircraft}

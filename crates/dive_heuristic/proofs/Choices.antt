@@ -1,11 +1,11 @@
 -- What is chosen was undecided. Its aircraft may fly it: it is in a route of it that fits, or alive for it. And no Must gives it
 -- to that aircraft: otherwise it would be alive for no other, so that no other route has it; and its own route has it, since a
 -- route that fits has all its Musts. So it would be in exactly one route.
-use Rattle.std.proofs.Common.{◌≡◌, ◌∙◌, ℕ, ℤ, ◌<◌, ◌≤◌, inl, inr, Bool, true, false, arith, List, [], ◌∷◌, length, refl, sym, subst}
-use Rattle.std.proofs.lemmas.Bool.{eqb-true, eq-eqb, or_cases, or_left, or_right, both_ways, cases_lt, cases_order, cases_Bool}
+use Rattle.std.proofs.Common.{◌≡◌, ℕ, ℤ, ◌<◌, ◌≤◌, inl, inr, true, false, arith, List, [], ◌∷◌, refl, sym, subst}
+use Rattle.std.proofs.lemmas.Bool.{eqb-true, eq-eqb, or_cases, or_left, or_right, both_ways, cases_lt, cases_order}
 use Rattle.std.proofs.lemmas.List.{get_or_past, get_or_default}
 use Rattle.std.proofs.lemmas.List.Elements.{All-contains}
-use Rattle.std.specs.Prelude.{nat_eq, ◌↔◌, ◌||◌, All, Contains, slice_index_or}
+use Rattle.std.specs.Prelude.{nat_eq, All, Contains}
 use Rattle.tail_book.specs.Seen.{BookSeen}
 use Rattle.tail_book.specs.inside.Seen.{CostTableSeen}
 use Rattle.tail_book.specs.declared.place.Place.{Place}
@@ -14,7 +14,7 @@ use Rattle.tail_book.specs.declared.flown.Flown.TheVariants.{Once}
 use Rattle.tail_book.specs.Lookup.{activities, aircraft}
 use Rattle.tail_book.specs.Numbers.{contains}
 use Rattle.tail_book.specs.Plan.{times_flown, route_of}
-use Rattle.tail_book.specs.inside.Flown.{FlownIsCount, FlownOnceIsInOneRoute, IsInOneRoute}
+use Rattle.tail_book.specs.inside.Flown.{FlownIsCount, FlownOnceIsInOneRoute}
 use Rattle.tail_book.specs.inside.Place.{IsBefore}
 use Rattle.tail_book.specs.inside.Rising.{LegalRoutesRise, IsRisingFrom}
 use Rattle.tail_book.specs.inside.Sound.{IsBook}
@@ -22,9 +22,9 @@ use Rattle.branch_marks.specs.declared.fact.Fact.{Fact}
 use Rattle.branch_marks.specs.declared.fact.Fact.TheVariants.{Must}
 use Rattle.branch_marks.specs.declared.fact.Pair.TheVariants.{Fly}
 use Rattle.branch_marks.specs.Branches.{IsUndecided}
-use Rattle.branch_marks.specs.Marks.{LetsFly, LetsGo, LetsEnd, IsAlive, IsUsable, FitsFrom, Fits}
+use Rattle.branch_marks.specs.Marks.{LetsFly, LetsGo, LetsEnd, IsAlive, FitsFrom}
 use Rattle.dive_heuristic.specs.LeastRoutes.{AreLeastRoutes, IsInOne}
-use Rattle.dive_heuristic.specs.Choice.{HasIt, NoneHasIt, IsLeastAircraft, IsCarrierOf, IsChoice}
+use Rattle.dive_heuristic.specs.Choice.{IsCarrierOf, IsChoice}
 
 module _ (book : BookSeen) (marks : List Fact) (k : ℕ) where
   -- what is in a route that fits is alive

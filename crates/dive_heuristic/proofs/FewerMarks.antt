@@ -1,8 +1,8 @@
 -- What fits under more marks fits under fewer: each fact only asks for something more. So the routes that fit become fewer, and
 -- a route of least weight stays one for as long as it fits.
-use Rattle.std.proofs.Common.{◌≡◌, ℕ, ℤ, ◌<◌, ◌≤◌, arith, List, [], ◌∷◌, ◌++◌, length, refl, sym, subst, append-nil, append_assoc, length-append}
+use Rattle.std.proofs.Common.{ℕ, ℤ, ◌≤◌, arith, List, [], ◌∷◌, ◌++◌, sym, subst, append-nil, append_assoc, length-append}
 use Rattle.std.proofs.lemmas.List.{get_or_append_left}
-use Rattle.std.specs.Prelude.{All, slice_index_or}
+use Rattle.std.specs.Prelude.{All}
 use Rattle.tail_book.specs.Seen.{BookSeen}
 use Rattle.tail_book.specs.inside.Seen.{CostTableSeen}
 use Rattle.tail_book.specs.declared.place.Place.{Place}
@@ -12,7 +12,7 @@ use Rattle.branch_marks.specs.Marks.{LetsFly, LetsGo, LetsEnd, IsAlive, IsAliveA
 use Rattle.branch_marks.specs.Weights.{weight, WeighsAtLeast}
 use Rattle.branch_marks.specs.inside.BranchTests.{undecided, FactsLeaveNoMore}
 use Rattle.dive_heuristic.specs.LeastRoutes.{IsLeastRoute, AreLeastRoutes}
-use Rattle.dive_heuristic.specs.inside.Kept.{IsLowRoute, AreLowRoutes, FitsWithFewer}
+use Rattle.dive_heuristic.specs.inside.Kept.{AreLowRoutes, FitsWithFewer}
 
 -- what is true of all elements is true of those in front
 All-front : {X : Type 0} (P : X → Type 0) (xs ys : List X) → All P (xs ++ ys) → All P xs

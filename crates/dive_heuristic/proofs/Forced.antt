@@ -2,16 +2,16 @@
 -- first steps: each adds its fact to the marks, so the marks after both lists are those that the second leads to from
 -- where the first ended. A fact that follows is not among the marks yet, by a law, and that makes its step a forced
 -- one.
-use Rattle.std.proofs.Common.{◌≡◌, ◌∙◌, ℕ, ℤ, List, [], ◌∷◌, ◌++◌, map, refl, sym, ap, subst, append_assoc, append-nil}
+use Rattle.std.proofs.Common.{◌≡◌, ◌∙◌, ℤ, List, [], ◌∷◌, ◌++◌, map, refl, sym, ap, subst, append_assoc, append-nil}
 use Rattle.std.proofs.lemmas.List.{map-append}
 use Rattle.tail_book.specs.Seen.{BookSeen}
 use Rattle.tail_book.specs.inside.Seen.{CostTableSeen}
 use Rattle.branch_marks.specs.declared.fact.Fact.{Fact}
-use Rattle.branch_marks.specs.Following.{Follows, FollowInTurn, FollowingFactsAreNew}
+use Rattle.branch_marks.specs.Following.{FollowInTurn, FollowingFactsAreNew}
 use Rattle.propagator.specs.InTurn.{WaitInTurn}
 use Rattle.dive_heuristic.specs.declared.answer.DiveStep.{DiveStep}
 use Rattle.dive_heuristic.specs.declared.answer.DiveStep.TheVariants.{Chosen, Forced}
-use Rattle.dive_heuristic.specs.Dive.{AreSteps, StepsWait, IsForced, IsChosen, fact_of, marks_after}
+use Rattle.dive_heuristic.specs.Dive.{AreSteps, StepsWait, fact_of, marks_after}
 use Rattle.dive_heuristic.specs.inside.Going.{AreForced, GoesOn}
 
 -- the facts of forced steps

@@ -2,10 +2,10 @@
 -- place. Either leaves the routes of all other aircraft as they are, so what holds of those before goes on to hold, and
 -- only the new route is looked at. And since legal routes rise and stay below the number of activities, all their
 -- numbers are of the book.
-use Rattle.std.proofs.Common.{◌≡◌, ◌∙◌, ℕ, ℤ, ◌<◌, ◌+◌, inl, inr, arith, List, [], ◌∷◌, ◌++◌, length, refl, sym, subst, set, length-set}
+use Rattle.std.proofs.Common.{◌≡◌, ◌∙◌, ℕ, ℤ, ◌<◌, ◌+◌, inl, inr, arith, List, [], ◌∷◌, ◌++◌, length, sym, subst, set, length-set}
 use Rattle.std.proofs.lemmas.Bool.{cases_order}
 use Rattle.std.proofs.lemmas.List.{get_or_append_left, get_or_push, get_or-set_same, get_or-set_other, get_or_default}
-use Rattle.std.specs.Prelude.{All, slice_index_or}
+use Rattle.std.specs.Prelude.{All}
 use Rattle.tail_book.specs.Seen.{BookSeen}
 use Rattle.tail_book.specs.inside.Seen.{CostTableSeen}
 use Rattle.tail_book.specs.declared.place.Place.TheVariants.{Carry}
@@ -16,7 +16,7 @@ use Rattle.tail_book.specs.inside.Rising.{LegalRoutesRise}
 use Rattle.tail_book.specs.inside.RouteBounds.{RisingRoutesAreBelow}
 use Rattle.tail_book.specs.inside.Sound.{IsBook}
 use Rattle.branch_marks.specs.declared.fact.Fact.{Fact}
-use Rattle.dive_heuristic.specs.LeastRoutes.{IsLeastRoute, AreLeastRoutes}
+use Rattle.dive_heuristic.specs.LeastRoutes.{IsLeastRoute}
 use Rattle.dive_heuristic.specs.inside.Kept.{IsLowRoute, AreLowRoutes}
 
 -- a number below k + 1 is k or below k

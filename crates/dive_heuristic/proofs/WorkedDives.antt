@@ -6,7 +6,6 @@ use Rattle.std.proofs.Common.{◌≡◌, ℕ, zero, suc, ℤ, pos, ◌+◌, ◌<
 use Rattle.std.proofs.lemmas.Bool.{both_ways}
 use Rattle.std.specs.Prelude.{codes}
 use Rattle.tail_book.specs.Seen.{ActivitySeen, TailSeen, AirportSeen, BookSeen}
-use Rattle.tail_book.specs.declared.rules.AircraftType.{AircraftType}
 use Rattle.tail_book.specs.Link.{is_connected}
 use Rattle.tail_book.specs.Allowed.{is_permitted}
 use Rattle.tail_book.specs.Numbers.{contains}

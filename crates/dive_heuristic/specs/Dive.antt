@@ -2,7 +2,7 @@
 use Rattle.std.specs.Prelude.{◌≡◌, ℕ, ℤ, ◌<◌, ⊤, List, [], ◌∷◌, ◌++◌, map, Contains}
 use Rattle.tail_book.specs.Seen.{BookSeen}
 use Rattle.tail_book.specs.inside.Seen.{CostTableSeen}
-use Rattle.tail_book.specs.Lookup.{activities, aircraft}
+use Rattle.tail_book.specs.Lookup.{aircraft}
 use Rattle.tail_book.specs.inside.CostTable.{plan_cost_in}
 use Rattle.tail_book.specs.Plan.{route_of, IsLegalPlan}
 use Rattle.branch_marks.specs.declared.fact.Fact.{Fact}

@@ -1,6 +1,6 @@
 //! A tally: for each activity whether routes fly it never, once, or more often. One pass over the routes makes it.
 
-ghost use Rattle.std.specs.Prelude.{◌≡◌, ◌<◌, ◌≢◌, ◌↔◌, IsTrue, All, length, replicate};
+ghost use Rattle.std.specs.Prelude.{◌≡◌, ◌<◌, All, length, replicate};
 ghost use Rattle.tail_book.specs.Plan.{times_flown};
 ghost use Rattle.tail_book.specs.declared.flown.Flown.TheVariants.{Never};
 ghost use Rattle.dive_heuristic.specs.inside.Flown.{IsTally, NotesRoute};

@@ -7,7 +7,6 @@ ghost use Rattle.std.specs.Prelude.{◌≡◌, ◌≤◌, ◌+◌, ◌-◌, leng
 ghost use Rattle.toml.specs.View.{table_view, view};
 ghost use Rattle.tail_text.specs.Checks.{look_each};
 ghost use Rattle.tail_text.specs.inside.Reading.{Answers};
-ghost use Rattle.tail_text.specs.Reading.{refusal_at};
 ghost use Rattle.tail_text.specs.declared.refusal.Stopped.TheVariants.{Refused};
 ghost use Rattle.table_records.specs.inside.NoRow.{Judges};
 ghost use Rattle.fleet_rules.specs.Entries.{Section, entries_at, entries_from, entry_in, refused, entry_table, tables_in};

@@ -3,7 +3,6 @@
 //! The text is read by `toml` in one go, and each key is then looked up by its name, so the order in which the text
 //! writes the keys does not matter. The entries of one array keep the order of the text.
 
-ghost use Rattle.std.specs.Prelude.{◌≡◌};
 ghost use Rattle.toml.specs.View.{table_view};
 ghost use Rattle.tail_text.specs.inside.Reading.{Answers};
 ghost use Rattle.fleet_rules.specs.RulesTable.{rules_in, rules_of};

@@ -3,7 +3,7 @@
 //! Each reader looks one key up, and answers code `MISSING` where it is absent. A value of another kind is refused like one of
 //! its own kind that is not good.
 
-ghost use Rattle.std.specs.Prelude.{◌≡◌, ◌≤◌, length, map, pos, ◌-ℤ◌, true, IfOk, option_map};
+ghost use Rattle.std.specs.Prelude.{◌≡◌, ◌≤◌, map, pos, ◌-ℤ◌, true, IfOk, option_map};
 ghost use Rattle.std.specs.List.{AllPass, list_any};
 ghost use Rattle.std.specs.Str.{bytes_eq};
 ghost use Rattle.toml.specs.View.{table_view, view};
@@ -14,7 +14,6 @@ ghost use Rattle.tail_text.specs.Checks.{look_each};
 ghost use Rattle.table_records.specs.inside.NameLists.{AreNames};
 ghost use Rattle.table_records.specs.inside.NoRow.{Judges};
 ghost use Rattle.toml.specs.Data.{get_member};
-ghost use Rattle.std.specs.Option.{ok_or};
 ghost use Rattle.fleet_rules.specs.TomlValues.{count_at, count_within, has_only, name_at, name_of_value, names_at, number_at, number_within, time_at, truth_at, value_at, values_of};
 
 use std::alloc::Global;

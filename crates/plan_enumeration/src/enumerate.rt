@@ -8,14 +8,14 @@
 //! At most `m` to the power of `n` assignments of `n` activities to `m` aircraft are tried. Nothing is allocated on the
 //! way. Costs and permissions come from tables that are made once; turns and counters are judged in each branch.
 
-ghost use Rattle.std.specs.Prelude.{◌≡◌, ◌<◌, ◌≤◌, ◌+◌, ◌*◌, ◌++◌, [], ◌∷◌, ℕ, List, IsTrue, ◌↔◌, IfOk, IfSome, IfNone, length, take, drop, All, ◌^◌, slice_set, slice_index_or};
+ghost use Rattle.std.specs.Prelude.{◌≡◌, ◌<◌, ◌≤◌, ◌+◌, ◌*◌, ◌++◌, [], ◌∷◌, IsTrue, ◌↔◌, IfOk, IfSome, IfNone, length, take, All, slice_index_or};
 ghost use Rattle.tail_book.specs.declared.limits.TheConstants.{LEG_COST_LIMIT};
-ghost use Rattle.tail_book.specs.Lookup.{activities, aircraft, carry_of};
+ghost use Rattle.tail_book.specs.Lookup.{activities, aircraft};
 ghost use Rattle.tail_book.specs.Counters.{step, WithinLimits};
 ghost use Rattle.tail_book.specs.inside.Fliers.{plan_by};
 ghost use Rattle.plan_enumeration.specs.inside.Assignment.{IsLegalAssignment, assignment_cost};
 ghost use Rattle.tail_book.specs.Truth.{IsTrueOutcome};
-ghost use Rattle.plan_enumeration.specs.inside.Enumeration.{Advances, AgreesBelow, HasRow, GoesOn, HasTried, IsBest, IsCounterValue, IsNoBetter, IsTrial, KeepsBest, IsPlaceBefore, IsRowBefore, next_cost, row_of, values_at, width_of, with_row};
+ghost use Rattle.plan_enumeration.specs.inside.Enumeration.{Advances, AgreesBelow, HasRow, GoesOn, HasTried, IsBest, IsCounterValue, IsNoBetter, IsTrial, KeepsBest, IsPlaceBefore, IsRowBefore, row_of, values_at, width_of, with_row};
 ghost use Rattle.plan_enumeration.specs.inside.Decided.{IsDecided};
 ghost use Rattle.plan_enumeration.specs.inside.BookTables.{AreTablesOf};
 ghost use Rattle.turn_rules.specs.inside.FreeBefore.{IsFreeBefore};

@@ -1,7 +1,7 @@
 //! The finder: one dive after the other, until one leaves nothing out, and else repairs of the fullest plan. A plan
 //! that leaves nothing out is then made cheaper: by the ladder, and where that is stuck by new starts.
 
-ghost use Rattle.std.specs.Prelude.{◌≡◌, All, IfOk, IfSome};
+ghost use Rattle.std.specs.Prelude.{All, IfOk, IfSome};
 ghost use Rattle.branch_marks.specs.Pool.{IsFittingEntry};
 ghost use Rattle.branch_marks.specs.Settled.{AreDuals};
 ghost use Rattle.branch_marks.specs.inside.MarkTables.{AreMarksOf};

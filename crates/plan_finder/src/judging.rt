@@ -1,7 +1,7 @@
 //! The judge of what was put together: only a legal plan that fits the marks is told, with its cost. All that is
 //! promised of a plan comes from this look, so whatever found the plan need not be right.
 
-ghost use Rattle.std.specs.Prelude.{◌≡◌, ◌<◌, ℕ, IfOk, IfSome, IsTrue};
+ghost use Rattle.std.specs.Prelude.{◌<◌, ℕ, IfOk, IfSome, IsTrue};
 ghost use Rattle.tail_book.specs.Lookup.{aircraft};
 ghost use Rattle.tail_book.specs.Plan.{route_of};
 ghost use Rattle.branch_marks.specs.Marks.{Fits};

@@ -5,7 +5,7 @@
 //! while the routes in it stay. The ladder ends where the plan is within less than a cost unit of the bound of the duals, where
 //! no part of it is gained on, or where the work is spent.
 
-ghost use Rattle.std.specs.Prelude.{◌≡◌, IfOk};
+ghost use Rattle.std.specs.Prelude.{IfOk};
 ghost use Rattle.branch_marks.specs.Settled.{AreDuals};
 ghost use Rattle.branch_marks.specs.inside.MarkTables.{AreMarksOf};
 ghost use Rattle.plan_finder.specs.Columns.{AreColumns};

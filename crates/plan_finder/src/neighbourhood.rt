@@ -3,7 +3,7 @@
 //! Aircraft are priced, their routes enter a pool of the neighbourhood's own, plans are looked for in it, and duals ascend.
 //! Where the bound says that nothing cheaper is there, that is the end, mostly after a few rounds.
 
-ghost use Rattle.std.specs.Prelude.{◌≡◌, ◌<◌, IfOk};
+ghost use Rattle.std.specs.Prelude.{◌<◌};
 ghost use Rattle.tail_book.specs.Lookup.{aircraft};
 ghost use Rattle.branch_marks.specs.Settled.{AreDuals};
 ghost use Rattle.branch_marks.specs.inside.MarkTables.{AreMarksOf};

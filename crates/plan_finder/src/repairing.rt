@@ -3,7 +3,7 @@
 //! One activity after the other is put in, within short stretches around it first, and then within longer ones. What
 //! comes of it is taken only where it leaves out fewer activities, so a repair never makes a plan worse in that.
 
-ghost use Rattle.std.specs.Prelude.{◌≡◌, ◌<◌, IfOk};
+ghost use Rattle.std.specs.Prelude.{◌<◌};
 ghost use Rattle.branch_marks.specs.Settled.{AreDuals};
 ghost use Rattle.branch_marks.specs.inside.MarkTables.{AreMarksOf};
 ghost use Rattle.plan_finder.specs.Columns.{AreColumns};

@@ -1,7 +1,7 @@
 //! New starts, where no part of a plan is gained on: dives over some aircraft beside the routes of the others, and dives over all
 //! of them at other temperatures. What leaves nothing out climbs the ladder, and the cheapest plan stays.
 
-ghost use Rattle.std.specs.Prelude.{◌≡◌, IfOk};
+ghost use Rattle.std.specs.Prelude.{IfOk};
 ghost use Rattle.branch_marks.specs.Settled.{AreDuals};
 ghost use Rattle.branch_marks.specs.inside.MarkTables.{AreMarksOf};
 ghost use Rattle.plan_finder.specs.Columns.{AreColumns};

@@ -1,8 +1,6 @@
 //! How far the routes of a plan stand above the lightest ones: what one aircraft flies that is far from its lightest route is worth
 //! planning again.
 
-ghost use Rattle.std.specs.Prelude.{◌≡◌};
-
 use crate::weights::Weights;
 use restricted_master::Pool;
 use std::alloc::Global;

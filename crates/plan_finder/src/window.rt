@@ -1,7 +1,6 @@
 //! Parts of a plan that are planned again to undercut its cost: a window of time for all aircraft, or the whole time for some of
 //! them.
 
-ghost use Rattle.std.specs.Prelude.{◌≡◌, IfOk};
 ghost use Rattle.branch_marks.specs.Settled.{AreDuals};
 ghost use Rattle.branch_marks.specs.inside.MarkTables.{AreMarksOf};
 ghost use Rattle.plan_finder.specs.Columns.{AreColumns};

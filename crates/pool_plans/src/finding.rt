@@ -4,7 +4,7 @@
 //! it is the audit that makes a plan legal and tells its cost. A cover that leaves activities out is no plan, and is
 //! told unjudged.
 
-ghost use Rattle.std.specs.Prelude.{◌≡◌, Some, IfOk, IfSome};
+ghost use Rattle.std.specs.Prelude.{Some, IfOk, IfSome};
 ghost use Rattle.tail_book.specs.inside.CostTable.{IsTableFor};
 ghost use Rattle.tail_book.specs.inside.Truth.{IsPlanIn};
 

@@ -2,7 +2,7 @@
 //!
 //! The list grows first, and gives the fact back where the marks have no memory for it: so both always have the same.
 
-ghost use Rattle.std.specs.Prelude.{◌≡◌, ◌++◌, ◌∷◌, [], IfOk, OnErr, OnOk};
+ghost use Rattle.std.specs.Prelude.{◌≡◌, ◌++◌, ◌∷◌, [], OnErr, OnOk};
 ghost use Rattle.branch_marks.specs.Following.{Follows, IsDead};
 ghost use Rattle.branch_marks.specs.inside.MarkTables.{AreMarksOf};
 ghost use Rattle.propagator.specs.InTurn.{WaitsForFloors, GrowInTurn};

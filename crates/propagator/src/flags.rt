@@ -2,7 +2,7 @@
 //!
 //! A byte for each activity, in one list. To go over them all costs less than to keep them in a queue.
 
-ghost use Rattle.std.specs.Prelude.{◌≡◌, ◌<◌, ◌≤◌, ℕ, List, All, [], ◌∷◌, true, false, length};
+ghost use Rattle.std.specs.Prelude.{◌≡◌, ◌<◌, ◌≤◌, ℕ, All, [], ◌∷◌, true, false, length};
 ghost use Rattle.propagator.specs.inside.Touching.{is_set, AreSetToo, AreSetFrom};
 
 use connection_net::laws::rows_are_their_places;

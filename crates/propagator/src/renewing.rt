@@ -3,7 +3,7 @@
 //! A floor that comes out as it was leaves all behind it alone. Where one is another, those of its successors are due: they
 //! have larger numbers, so their turn is still to come. And it is to be asked whether the aircraft can still go on from it.
 
-ghost use Rattle.std.specs.Prelude.{◌≡◌, ◌<◌, ◌+◌, ℕ, false, true, length};
+ghost use Rattle.std.specs.Prelude.{◌≡◌, ◌<◌, ◌+◌, ℕ, false, length};
 ghost use Rattle.tail_book.specs.Lookup.{activities, aircraft};
 ghost use Rattle.maint_counters.specs.inside.StepTable.{IsStepTableOf};
 ghost use Rattle.connection_net.specs.Net.{net_of};

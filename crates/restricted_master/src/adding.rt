@@ -10,7 +10,7 @@ ghost use Rattle.tail_book.specs.declared.place.Place.TheVariants.{Carry};
 ghost use Rattle.tail_book.specs.inside.CostTable.{IsTableFor, route_cost_in};
 ghost use Rattle.tail_book.specs.inside.Rising.{IsRisingFrom};
 ghost use Rattle.restricted_master.specs.Adding.{Adds};
-ghost use Rattle.restricted_master.specs.Pool.{aircraft_at, entry_at, route_at, IsPoolFor};
+ghost use Rattle.restricted_master.specs.Pool.{entry_at, IsPoolFor};
 ghost use Rattle.restricted_master.specs.inside.Hash.{hash_of};
 
 use crate::costing::route_cost;

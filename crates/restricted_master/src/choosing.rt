@@ -4,7 +4,7 @@
 //! all that have the activity is done with that; the routes of another one are walked too, and a route is looked into
 //! only where it is lighter than what was found before it.
 
-ghost use Rattle.std.specs.Prelude.{◌≡◌, ℕ, ◌<◌, ◌≤◌, ◌+ℤ◌, ◌^◌, ◌&&◌, if◌then◌else◌, false, None, Some, All, not, length, slice_index_or};
+ghost use Rattle.std.specs.Prelude.{◌≡◌, ℕ, ◌<◌, ◌+ℤ◌, ◌^◌, ◌&&◌, if◌then◌else◌, false, None, Some, All, not, length, slice_index_or};
 ghost use Rattle.tail_book.specs.Lookup.{activities, aircraft};
 ghost use Rattle.tail_book.specs.Numbers.{contains};
 ghost use Rattle.branch_marks.specs.Bound.{value_of};

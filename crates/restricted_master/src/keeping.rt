@@ -9,7 +9,6 @@ ghost use Rattle.branch_marks.specs.Pool.{Pooled};
 ghost use Rattle.branch_marks.specs.inside.MarkTables.{AreMarksOf};
 ghost use Rattle.restricted_master.specs.declared.entry.Entry.{Entry};
 ghost use Rattle.restricted_master.specs.Keeping.{fits_entry, KeepsFitting};
-ghost use Rattle.restricted_master.specs.Pool.{aircraft_at, entry_at};
 ghost use Rattle.restricted_master.specs.inside.Flat.{pooled_in, LiesWithin};
 
 use crate::Pool;

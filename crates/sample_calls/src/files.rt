@@ -1,7 +1,7 @@
 //! Named files: a plan that is read from one, and a report that is kept in one. Files are a parameter, so the same
 //! calls serve real files and files in memory.
 
-ghost use Rattle.std.specs.Prelude.{◌≡◌, ◌≤◌, ◌<◌, [], false, IfSome, IsErrOf, IsTrue, OnOk, unwrap_or};
+ghost use Rattle.std.specs.Prelude.{◌≡◌, ◌<◌, [], false, IfSome, IsErrOf, IsTrue, OnOk, unwrap_or};
 ghost use Rattle.tail_outside.specs.Outside.{OnlyRead, ReadHasFailed};
 ghost use Rattle.tail_outside.specs.inside.Outside.{OnlyWritten, WriteHasFailed};
 ghost use Rattle.plan_report.specs.PlanText.{plan_in};

@@ -1,4 +1,4 @@
-use Rattle.std.proofs.Common.{◌≡◌, ◌∙◌, ◌<◌, ◌≤◌, ℕ, arith, rules, sym, length, slice_index_or}
+use Rattle.std.proofs.Common.{◌≡◌, ◌∙◌, ◌<◌, ◌≤◌, arith, rules, sym, length, slice_index_or}
 use Rattle.tail_book.specs.Lookup.{activities}
 use Rattle.tail_book.specs.declared.flown.Flown.TheVariants.{Never, Once}
 use Rattle.tail_book.specs.Plan.{times_flown}

@@ -1,4 +1,4 @@
-use Rattle.std.proofs.Common.{◌≡◌, ℕ, ℤ, List, [], rules, subst}
+use Rattle.std.proofs.Common.{◌≡◌, ℤ, List, [], rules, subst}
 use Rattle.tail_book.specs.Seen.{BookSeen}
 use Rattle.tail_book.specs.inside.Seen.{CostTableSeen}
 use Rattle.branch_marks.specs.declared.fact.Fact.{Fact}

@@ -1,4 +1,4 @@
-use Rattle.std.proofs.Common.{◌≡◌, ◌+◌, ◌++◌, ◌∷◌, [], ℕ, List, rules, arith, length, subst, sym}
+use Rattle.std.proofs.Common.{◌≡◌, ◌+◌, ◌++◌, ◌∷◌, [], ℕ, List, rules, arith, subst, sym}
 use Rattle.std.proofs.lemmas.List.{length_push}
 use Rattle.dive_heuristic.specs.LeastRoutes.{IsLeastRoute}
 use Rattle.dive_heuristic.proofs.KeptRoutes.{AreLeastBelow, pushed_below}

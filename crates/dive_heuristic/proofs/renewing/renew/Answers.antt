@@ -1,4 +1,4 @@
-use Rattle.std.proofs.Common.{◌<◌, rules, arith, length}
+use Rattle.std.proofs.Common.{◌<◌, rules, arith}
 use Rattle.tail_book.specs.Lookup.{aircraft}
 use Rattle.dive_heuristic.specs.LeastRoutes.{IsLeastRoute}
 use Rattle.dive_heuristic.proofs.KeptRoutes.{set_low, set_below}

@@ -1,4 +1,4 @@
-use Rattle.std.proofs.Common.{◌≡◌, ◌<◌, ℕ, length}
+use Rattle.std.proofs.Common.{◌<◌, ℕ}
 use Rattle.tail_book.specs.Plan.{route_of}
 use Rattle.dive_heuristic.specs.LeastRoutes.{IsLeastRoute}
 use Rattle.dive_heuristic.specs.Divers.{IsDiverFor}

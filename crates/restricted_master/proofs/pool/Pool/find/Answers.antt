@@ -1,4 +1,4 @@
-use Rattle.std.proofs.Common.{◌≡◌, ◌≤◌, ◌%◌, ◌∙◌, ℕ, List, arith, ap, subst, length, rules}
+use Rattle.std.proofs.Common.{◌≡◌, ◌≤◌, ◌%◌, ◌∙◌, ℕ, List, arith, ap, subst, length}
 use Rattle.branch_marks.specs.Pool.{Pooled}
 use Rattle.restricted_master.specs.Lists.{list_at}
 use Rattle.restricted_master.specs.Seen.{PoolSeen}

@@ -1,4 +1,4 @@
-use Rattle.std.proofs.Common.{◌≡◌, ◌∙◌, ◌<◌, ◌%◌, ℕ, sym, ap, length, arith, rules}
+use Rattle.std.proofs.Common.{◌≡◌, ◌∙◌, ◌<◌, ◌%◌, ℕ, sym, ap, length, arith}
 use Rattle.restricted_master.specs.Seen.{PoolSeen}
 use Rattle.restricted_master.specs.declared.index.TheConstants.{LISTS}
 use Rattle.restricted_master.specs.inside.Flat.{pool_of}

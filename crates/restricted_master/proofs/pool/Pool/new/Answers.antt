@@ -1,6 +1,5 @@
-use Rattle.std.proofs.Common.{◌≡◌, ◌∙◌, [], List, ℕ, ap, ap₂, length, rules}
+use Rattle.std.proofs.Common.{◌∙◌, [], List, ℕ, ap, ap₂, length, rules}
 use Rattle.std.proofs.lemmas.List.{length-replicate}
-use Rattle.restricted_master.specs.Pool.{empty_pool}
 use Rattle.restricted_master.specs.declared.entry.Entry.{Entry}
 use Rattle.restricted_master.specs.declared.index.TheConstants.{LISTS}
 use Rattle.restricted_master.specs.inside.Flat.{IsFlat, pool_of}
