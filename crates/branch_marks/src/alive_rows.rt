@@ -3,7 +3,7 @@
 //! A row for each activity, a bit for each aircraft: at most four words a row. Permission is asked once, when the table
 //! is made. A Bar clears a bit, and a Must leaves its aircraft's alone, so that a question is one read.
 
-ghost use Rattle.std.specs.Prelude.{◌≡◌, ◌<◌, ◌≤◌, ◌&&◌, ◌||◌, [], nat_eq, nat_lt, IfOk};
+ghost use Rattle.std.specs.Prelude.{◌≡◌, ◌<◌, ◌&&◌, ◌||◌, [], nat_eq, nat_lt, IfOk};
 ghost use Rattle.tail_book.specs.Lookup.{activities, aircraft};
 ghost use Rattle.tail_book.specs.inside.Tests.{is_allowed};
 ghost use Rattle.turn_rules.specs.inside.PermissionTable.{ArePermissionsOf};

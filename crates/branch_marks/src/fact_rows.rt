@@ -3,7 +3,7 @@
 //! Bars and Musts stand in a row for each aircraft, Cuts in a row for each activity: so the next Must behind a place,
 //! and the Cuts behind an activity, are found in order.
 
-ghost use Rattle.std.specs.Prelude.{◌≡◌, ◌<◌, ◌||◌, nat_eq};
+ghost use Rattle.std.specs.Prelude.{◌≡◌, ◌||◌};
 ghost use Rattle.tail_book.specs.Lookup.{activities, aircraft};
 ghost use Rattle.branch_marks.specs.inside.BitRows.{AreChanged};
 ghost use Rattle.branch_marks.specs.Facts.{IsFactOf};

@@ -5,7 +5,7 @@
 //! Only the carry-in depends on the aircraft. Making it searches the bases of each counter for each activity, 4,800,000
 //! comparisons at most. A step allocates nothing.
 
-ghost use Rattle.std.specs.Prelude.{◌≡◌, ◌<◌, ◌&&◌, ◌||◌, nat_eq, false, ◌≤◌, ◌≤ℤ◌, ◌+ℤ◌, ◌-ℤ◌, ◌^◌, ◌↔◌, ℕ, IfOk, IsTrue, pos, negsuc, length, slice_index_or};
+ghost use Rattle.std.specs.Prelude.{◌≡◌, ◌<◌, ◌&&◌, ◌||◌, nat_eq, ◌≤◌, ◌≤ℤ◌, ◌+ℤ◌, ◌-ℤ◌, ◌^◌, ◌↔◌, ℕ, IfOk, IsTrue, pos, length, slice_index_or};
 ghost use Rattle.tail_book.specs.declared.limits.TheConstants.{LAST_MOMENT};
 ghost use Rattle.tail_book.specs.Lookup.{activities, aircraft, from_port, resets_of, tail_of};
 ghost use Rattle.tail_book.specs.Link.{free_from};

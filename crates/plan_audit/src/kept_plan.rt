@@ -5,7 +5,7 @@
 ghost use Rattle.std.specs.Prelude.{◌≡◌, ◌<◌, ◌++◌, ◌∷◌, [], length, map, set, replicate, slice_index_or, IfOk, All};
 ghost use Rattle.std.specs.List.{range_with_len};
 ghost use Rattle.tail_book.specs.Lookup.{aircraft};
-ghost use Rattle.plan_audit.specs.Kept.{kept, legs_met};
+ghost use Rattle.plan_audit.specs.Kept.{kept};
 ghost use Rattle.plan_audit.specs.inside.Kept.{route_in, IsLegOf};
 
 use crate::laws::legs_are_of_book;

@@ -3,7 +3,7 @@
 //! A leg costs its activity and the connection to it, so the legs cost together what their routes cost. Each leg is
 //! asked for once, so the rules are asked and no table is made.
 
-ghost use Rattle.std.specs.Prelude.{◌≡◌, ◌<◌, ◌≤◌, ◌^◌, All};
+ghost use Rattle.std.specs.Prelude.{◌≡◌, ◌<◌, ◌^◌, All};
 ghost use Rattle.tail_book.specs.Lookup.{activities, aircraft};
 ghost use Rattle.tail_book.specs.Cost.{activity_cost};
 ghost use Rattle.plan_audit.specs.inside.Kept.{IsLegOf};

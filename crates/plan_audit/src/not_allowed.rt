@@ -4,7 +4,6 @@
 //! Both are asked of each leg alone, in a pass over the legs for each, so that each list is in reading order.
 
 ghost use Rattle.std.specs.Prelude.{◌≡◌, ◌<◌, ◌++◌, IfOk, All};
-ghost use Rattle.tail_book.specs.Lookup.{activities, aircraft};
 ghost use Rattle.plan_audit.specs.inside.Kept.{IsLegOf};
 ghost use Rattle.plan_audit.specs.Rules.{not_allowed, curfews};
 

@@ -3,7 +3,7 @@
 //! Years are counted from March on, so that the leap day is the last of its year. Days and months then follow from
 //! divisions alone.
 
-ghost use Rattle.std.specs.Prelude.{◌≡◌, ◌<◌, ◌≤◌, ◌++◌, OnOk};
+ghost use Rattle.std.specs.Prelude.{◌≡◌, ◌<◌, ◌++◌, OnOk};
 ghost use Rattle.plan_picture.specs.Calendar.{date_text, day_in_month, day_of_era, day_of_year, moment_text, month_from_march, month_in_year, two_digits, year_of, year_of_era};
 
 use tail_book::Memory;

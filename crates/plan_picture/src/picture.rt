@@ -3,11 +3,10 @@
 //! All lines are made before the first is put. The kept plan and the broken rules are handed in, as an audit found them:
 //! so a picture is drawn of what was judged, and nothing is judged twice.
 
-ghost use Rattle.std.specs.Prelude.{◌≡◌, ◌<◌, ◌≤◌, ◌++◌, false, All, IfOk, OnErr, OnOk, IsErrOf, length};
-ghost use Rattle.tail_book.specs.Lookup.{activities, aircraft};
+ghost use Rattle.std.specs.Prelude.{◌≡◌, ◌<◌, ◌≤◌, ◌++◌, false, IfOk, OnErr, OnOk, IsErrOf};
+ghost use Rattle.tail_book.specs.Lookup.{aircraft};
 ghost use Rattle.tail_outside.specs.Outside.{PieceHasFailed, Takes, TakesFront};
 ghost use Rattle.plan_report.specs.Lines.{text_of};
-ghost use Rattle.plan_report.specs.inside.AuditText.{IsOfBook};
 ghost use Rattle.plan_picture.specs.Picture.{colour, day_line, day_lines, front_lines, grid_line, height_of, name_rule, name_rules, open_line, page_lines, svg_lines, title, title_line, width_of};
 ghost use Rattle.plan_picture.specs.inside.Drawable.{IsDrawable, IsNear};
 

@@ -3,7 +3,7 @@
 //! A row is its head and then its route, activity by activity, each with what is marked before it. What no route has is
 //! dealt out to eight rows in turn, so the picture grows by eight rows at most.
 
-ghost use Rattle.std.specs.Prelude.{◌≡◌, ◌<◌, ◌++◌, ◌∷◌, [], IfOk, OnOk, All, length};
+ghost use Rattle.std.specs.Prelude.{◌≡◌, ◌<◌, ◌++◌, IfOk, OnOk, All};
 ghost use Rattle.tail_book.specs.Lookup.{activities, aircraft, kind_of, tail_of, type_of};
 ghost use Rattle.tail_book.specs.inside.Place.{IsPlaceOf};
 ghost use Rattle.plan_report.specs.inside.AuditText.{IsOfBook};

@@ -3,7 +3,7 @@
 //! Both begin where the aircraft is free from the place before. The turn goes on to the earliest start that it allows,
 //! and the stop up to the next activity, with the names of the counters that it clears.
 
-ghost use Rattle.std.specs.Prelude.{◌≡◌, ◌<◌, ◌++◌, IfOk, OnOk, pos};
+ghost use Rattle.std.specs.Prelude.{◌≡◌, ◌<◌, ◌++◌, IfOk, OnOk};
 ghost use Rattle.tail_book.specs.Lookup.{activities, aircraft};
 ghost use Rattle.tail_book.specs.inside.Place.{IsPlaceOf};
 ghost use Rattle.plan_picture.specs.inside.Drawable.{IsNear};

@@ -3,7 +3,7 @@
 //! Numbers are printed as the book's names, so they have to be of the book, as those of every audit are: a law says it.
 //! All lines are made before the first is put.
 
-ghost use Rattle.std.specs.Prelude.{◌≡◌, ◌++◌, ◌<◌, ◌≤◌, false, length, map, All, IfOk, OnOk, OnErr, IsErrOf, decimal};
+ghost use Rattle.std.specs.Prelude.{◌≡◌, ◌++◌, ◌<◌, ◌≤◌, false, map, All, IfOk, OnOk, OnErr, IsErrOf, decimal};
 ghost use Rattle.tail_book.specs.Lookup.{activities, activity_of, aircraft};
 ghost use Rattle.tail_outside.specs.Outside.{PieceHasFailed, Takes, TakesFront};
 ghost use Rattle.plan_report.specs.Lines.{newline};

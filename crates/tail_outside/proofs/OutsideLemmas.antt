@@ -3,7 +3,7 @@
 -- What took a front of a piece took a front of that piece and any other behind it, and what took the whole piece took a
 -- front of it. A count of failures that rose in the last of several calls rose over all of them, since it falls in
 -- none.
-use Rattle.std.proofs.Common.{◌++◌, ◌≤◌, ◌<◌, [], sym, List, ℕ, Option, Some, None, append_assoc, arith, inl, inr}
+use Rattle.std.proofs.Common.{◌++◌, ◌≤◌, [], sym, List, ℕ, Option, Some, None, append_assoc, arith, inl, inr}
 use Rattle.std.proofs.lemmas.List.{append-nil}
 use Rattle.tail_outside.specs.Outside.{Adds, AddsFront, HasRisen, Takes, TakesFront}
 use Rattle.tail_outside.specs.Shown.{SinkShown}

@@ -3,7 +3,7 @@
 //! An object tells the bytes that it holds where it can, and counts its failures.
 //! So what a run promises of bytes and of failures can be said of any files and any sink.
 
-ghost use Rattle.std.specs.Prelude.{◌≡◌, ◌≤◌, ◌^◌, ℕ, Bool, true, false, List, [], Some, None, length, IsTrue, IfOk, IfSome, IsErr, OnOk, OnErr, IsErrOf};
+ghost use Rattle.std.specs.Prelude.{◌≡◌, ◌≤◌, ◌^◌, ℕ, true, false, List, [], Some, None, length, IsTrue, IfOk, IfSome, IsErr, OnOk, OnErr, IsErrOf};
 ghost use Rattle.tail_outside.specs.inside.Outside.{HoldsFront, IsRead, OnlyWritten, WriteHasFailed, with_piece};
 ghost use Rattle.tail_outside.specs.Outside.{OnlyRead, PieceHasFailed, ReadHasFailed, Takes, TakesFront};
 ghost use Rattle.tail_outside.specs.Shown.{FilesShown, SinkShown};

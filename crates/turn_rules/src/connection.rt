@@ -3,7 +3,7 @@
 //! Place and time are settled first, by a few reads. Only where both fit are the two activities' permissions
 //! tested, each at the cost of `allowed`.
 
-ghost use Rattle.std.specs.Prelude.{◌≡◌, ◌<◌, ◌↔◌, ◌+ℤ◌, ◌-ℤ◌, ◌≤ℤ◌, IsTrue, nat_eq, pos, negsuc, length};
+ghost use Rattle.std.specs.Prelude.{◌≡◌, ◌<◌, ◌↔◌, ◌+ℤ◌, ◌-ℤ◌, ◌≤ℤ◌, IsTrue, nat_eq, pos, length};
 ghost use Rattle.tail_book.specs.declared.limits.TheConstants.{DAY, LAST_MOMENT};
 ghost use Rattle.tail_book.specs.Lookup.{activities, aircraft, kind_of, from_port, to_port, start_of, type_turn, port_turn};
 ghost use Rattle.tail_book.specs.Numbers.{int_le};

@@ -1,5 +1,6 @@
-//! What connections cost by bands: the book's own, or those of a table. The minutes on the ground decide, by the first
-//! band that reaches them, so a cost is a walk over the bands.
+//! What connections cost by bands, the book's own or those of a table, and what an activity and the connection to it cost
+//! by a table. The minutes on the ground decide, by the first band that reaches them, so a connection's cost is a walk over
+//! the bands.
 
 ghost use Rattle.std.specs.Prelude.{◌≡◌, ◌<◌, ◌≤◌, ◌+◌, ◌*◌, ◌^◌, ℕ, All};
 ghost use Rattle.tail_book.specs.Cost.{connection_cost};

@@ -4,7 +4,7 @@
 //! table has one set of types for each activity, and a question is two reads and a shift.
 //! Making it compares each flight with each curfew: 1,600,000 comparisons at most, nearly all of an airport's number.
 
-ghost use Rattle.std.specs.Prelude.{◌≡◌, ◌<◌, ◌&&◌, ◌↔◌, ℕ, IfOk, IsTrue, length, All};
+ghost use Rattle.std.specs.Prelude.{◌≡◌, ◌<◌, ◌&&◌, ℕ, IfOk, length, All};
 ghost use Rattle.std.specs.List.{list_any};
 ghost use Rattle.tail_book.specs.Lookup.{activities, aircraft, kind_of, from_port, to_port, start_of, end_of};
 ghost use Rattle.tail_book.specs.Curfew.{covers_type, is_curfewed};

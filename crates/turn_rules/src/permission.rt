@@ -4,7 +4,7 @@
 //! Types, tags and avoided airports are lists of at most 20 numbers, which are searched from the front.
 //! The curfews come last, since they cost most (see the module `curfew`). With a table of them the cheap tests come first.
 
-ghost use Rattle.std.specs.Prelude.{◌≡◌, ◌<◌, ◌↔◌, IsTrue, not};
+ghost use Rattle.std.specs.Prelude.{◌≡◌, ◌<◌, ◌↔◌, IsTrue};
 ghost use Rattle.std.specs.List.{list_all};
 ghost use Rattle.tail_book.specs.Numbers.{contains, is_none_or};
 ghost use Rattle.tail_book.specs.Lookup.{activities, aircraft, types_of, kind_of, tags_had, tags_needed, avoided, from_port, to_port, preassigned};

@@ -1,7 +1,7 @@
 //! Whether a route fits marks: each of its links is usable, and the aircraft may end where it ends. One question for each
 //! activity and one for the end, so a few reads each, and no memory.
 
-ghost use Rattle.std.specs.Prelude.{◌≡◌, ◌<◌, ◌&&◌, ◌↔◌, IsTrue, nat_lt};
+ghost use Rattle.std.specs.Prelude.{◌≡◌, ◌<◌, ◌&&◌, ◌↔◌, IsTrue};
 ghost use Rattle.tail_book.specs.Lookup.{activities, aircraft};
 ghost use Rattle.tail_book.specs.inside.Place.{IsPlaceOf};
 ghost use Rattle.branch_marks.specs.Marks.{Fits};

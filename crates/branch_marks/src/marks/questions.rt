@@ -1,10 +1,9 @@
 //! What marks leave open to an aircraft. No question takes memory, or goes over the facts.
 
-ghost use Rattle.std.specs.Prelude.{◌≡◌, ◌<◌, ◌≤◌, ◌+◌, ◌↔◌, ◌&&◌, ℕ, true, false, IsTrue, nat_eq};
+ghost use Rattle.std.specs.Prelude.{◌≡◌, ◌<◌, ◌≤◌, ◌+◌, ◌↔◌, ◌&&◌, ℕ, true, false, IsTrue};
 ghost use Rattle.std.specs.List.{list_all, list_any};
 ghost use Rattle.tail_book.specs.Lookup.{activities, aircraft};
 ghost use Rattle.tail_book.specs.inside.Place.{IsPlaceOf};
-ghost use Rattle.tail_book.specs.Link.{is_connected};
 ghost use Rattle.branch_marks.specs.Marks.{IsAlive, IsUsable, MayEnd};
 ghost use Rattle.branch_marks.specs.inside.MarkTests.{is_alive, is_alive_at, is_usable, lets_go, may_end};
 ghost use Rattle.branch_marks.specs.inside.Named.{named_by};

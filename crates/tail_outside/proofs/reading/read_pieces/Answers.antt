@@ -1,4 +1,4 @@
-use Rattle.std.proofs.Common.{◌≡◌, ◌<◌, ◌≤◌, ◌∙◌, ◌+◌, ◌-◌, ◌++◌, IfSome, arith, rules, length, take, true, length-append, length-take-le}
+use Rattle.std.proofs.Common.{◌≡◌, ◌≤◌, ◌∙◌, ◌+◌, ◌-◌, ◌++◌, IfSome, arith, rules, length, take, true}
 use Rattle.std.specs.Result.{is_ok}
 use Rattle.tail_outside.specs.inside.Outside.{IsRead, only_read_chains}
 use Rattle.tail_outside.proofs.ReadLemmas.{read-piece, read-within}
