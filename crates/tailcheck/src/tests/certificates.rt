@@ -1,21 +1,23 @@
 //! Certificates that are accepted, and certificates that fail, each at its line.
 
-use super::fixtures::{CERT_WORDS, run_failing};
-use std::alloc::Global;
+use super::fixtures::{Case, assert_ends_so, by_certificate};
+use std::alloc::{AllocError, Global};
 use std::process::Abort;
 use std::test::Fail;
 use trial_texts::{
-    AT_ONCE, CHEAP_AND_DEAR, DEAR_TYPE, FLEET, LONGER_TURN, ONE_AT_ARLANDA, RULES, Seen, THERE,
-    THERE_AND_BACK, TIMETABLE, Typed, files_of,
+    AT_ONCE, CHEAP_AND_DEAR, DEAR_TYPE, FLEET, LONGER_TURN, ONE_AT_ARLANDA, RULES, THERE,
+    THERE_AND_BACK, TIMETABLE, Typed,
 };
 
 // A quick flight and a slow one at the same time, a cheap aircraft and a dear one.
-const SAME_TIME: Typed<'_> = Typed {
-    timetable: &[TIMETABLE, AT_ONCE],
-    fleet: &[FLEET, CHEAP_AND_DEAR],
-    rules: &[RULES, DEAR_TYPE],
-    judged: &[],
-};
+fn same_time<'a>(judged: &'a [&'a str]) -> Typed<'a> {
+    Typed {
+        timetable: &[TIMETABLE, AT_ONCE],
+        fleet: &[FLEET, CHEAP_AND_DEAR],
+        rules: &[RULES, DEAR_TYPE],
+        judged,
+    }
+}
 
 // A flight and one back, a minute too early for the aircraft's turn.
 const TOO_EARLY: Typed<'_> = Typed {
@@ -51,31 +53,49 @@ const LEAST: [&str; 14] = [
     "claim optimal 240\n",
 ];
 
-// A run over these tables and a certificate of these parts, where these reads fail.
-fn run_cert(
+// The parts of a certificate, and what is printed of it.
+type Row<'a> = (&'a [&'a str], &'a str);
+
+// Asserts that a certificate is judged so by these tables.
+fn assert_is_judged_so<'a>(
+    rt: &impl Abort,
     alloc: Global,
-    tables: Typed<'_>,
-    cert: &[&str],
-    reads: &[u64],
-    puts: &[u64],
-) -> Result<Seen, Fail> {
-    let typed = Typed {
-        judged: cert,
-        ..tables
-    };
-    run_failing(alloc, &CERT_WORDS, files_of(alloc, typed)?, reads, puts)
+    tables: Typed<'a>,
+    (judged, printed): Row<'a>,
+) -> Result<(), Fail> {
+    let status = if printed.starts_with("yes ") { 0 } else { 1 };
+    let case = by_certificate(Typed { judged, ..tables }, status, printed);
+    assert_ends_so(rt, alloc, &case)
 }
 
-// Tables, the parts of a certificate, and what is printed of it.
-type Case<'a> = (Typed<'a>, &'a [&'a str], &'a str);
-
-fn each_is_judged_so(rt: &impl Abort, alloc: Global, cases: &[Case<'_>]) -> Result<(), Fail> {
-    for (tables, cert, printed) in cases {
-        let seen = run_cert(alloc, *tables, cert, &[], &[])?;
-        let status = if printed.starts_with("yes ") { 0 } else { 1 };
-        assert!(rt; seen.is(status, printed), "{printed}");
+// Asserts that each of them is.
+fn each_is_judged_so<'a>(
+    rt: &impl Abort,
+    alloc: Global,
+    tables: Typed<'a>,
+    rows: &[Row<'a>],
+) -> Result<(), Fail> {
+    for &row in rows {
+        assert_is_judged_so(rt, alloc, tables, row)?;
     }
     Ok(())
+}
+
+// Asserts that a run over the two flights at the same time in which this read and this put fail ends so; number 0 is none.
+fn assert_fault_ends_so<'a>(
+    rt: &impl Abort,
+    alloc: Global,
+    judged: &'a [&'a str],
+    (read, put): (u64, u64),
+    status: u8,
+    printed: &'a str,
+) -> Result<(), Fail> {
+    let case = Case {
+        reads: &[read],
+        puts: &[put],
+        ..by_certificate(same_time(judged), status, printed)
+    };
+    assert_ends_so(rt, alloc, &case)
 }
 
 // The certificate with some of its lines replaced: from this line on so many by these.
@@ -105,34 +125,34 @@ fn damage_is_found_at_its_line(rt: HostRuntime) -> Result<(), Fail> {
             "no 9 Unfinished\n",
         ),
     ] {
-        let cert = changed(rt.alloc(), first, count, new)?;
-        each_is_judged_so(&rt, rt.alloc(), &[(SAME_TIME, &cert, printed)])?;
+        let mut cert = Vec::new(rt.alloc());
+        push_changed(&mut cert, first, count, new)?;
+        assert_is_judged_so(&rt, rt.alloc(), same_time(&[]), (&cert, printed))?;
     }
     Ok(())
 }
 
-// The lines with these in place of so many from this one on.
-fn changed<'a>(
-    alloc: Global,
+// Adds the certificate's lines with these in place of so many from this one on.
+fn push_changed<'a>(
+    lines: &mut Vec<&'a str>,
     first: usize,
     count: usize,
     new: &'a str,
-) -> Result<Vec<&'a str>, Fail> {
-    let (mut lines, mut number) = (Vec::new(alloc), 0usize);
-    let behind = first.saturating_add(count);
-    for line in &LEAST {
+) -> Result<(), AllocError> {
+    let (mut number, behind) = (0usize, first.saturating_add(count));
+    for &line in &LEAST {
         number = number.saturating_add(1);
         if number == first {
             lines.push(new)?;
         }
         if number < first || number >= behind {
-            lines.push(*line)?;
+            lines.push(line)?;
         }
     }
     if first > LEAST.len() {
         lines.push(new)?;
     }
-    Ok(lines)
+    Ok(())
 }
 
 // Steps, holes, stuck leaves and bounds, on tables with no legal plan and on those of the limit.
@@ -141,61 +161,65 @@ fn leaves_and_steps_are_judged(rt: HostRuntime) -> Result<(), Fail> {
     each_is_judged_so(
         &rt,
         rt.alloc(),
+        TOO_EARLY,
         &[
             (
-                TOO_EARLY,
                 &["tailcert 1 2 1 0\nbar 0 1\nhole 1\nclaim infeasible\n"],
                 "yes infeasible\n",
             ),
             (
-                TOO_EARLY,
                 &["tailcert 1 2 1 0\nbar 0 1\nmust 0 0\nhole 1\nclaim infeasible\n"],
                 "yes infeasible\n",
             ),
             (
-                TOO_EARLY,
                 &["tailcert 1 2 1 0\nbar 0 0\nhole 1\nclaim infeasible\n"],
                 "no 2 NotFollowing\n",
             ),
             (
-                TOO_EARLY,
                 &["tailcert 1 2 1 0\nbar 0 1\nbar 0 1\nclaim infeasible\n"],
                 "no 3 KnownFact\n",
             ),
             (
-                TOO_EARLY,
                 &["tailcert 1 2 1 0\nbar 0 1\nhole 0\nclaim infeasible\n"],
                 "no 3 NotAlive\n",
             ),
             (
-                TOO_EARLY,
                 &[
                     "tailcert 1 2 1 0\nsplit fly 0 1\nstuck 0\nlabel 0 60000\nhole 1\nclaim infeasible\n",
                 ],
                 "yes infeasible\n",
             ),
             (
-                TOO_EARLY,
                 &[
                     "tailcert 1 2 1 0\nsplit fly 0 1\nstuck 0\nlabel 0 60001\nhole 1\nclaim infeasible\n",
                 ],
                 "no 3 OpenCover\n",
             ),
+        ],
+    )?;
+    each_is_judged_so(
+        &rt,
+        rt.alloc(),
+        NO_AIRCRAFT,
+        &[(
+            &["tailcert 1 1 0 0\nhole 0\nclaim infeasible\n"],
+            "yes infeasible\n",
+        )],
+    )?;
+    each_is_judged_so(
+        &rt,
+        rt.alloc(),
+        same_time(&[]),
+        &[
             (
-                NO_AIRCRAFT,
-                &["tailcert 1 1 0 0\nhole 0\nclaim infeasible\n"],
-                "yes infeasible\n",
-            ),
-            (
-                SAME_TIME,
                 &[
                     "tailcert 1 2 2 0\nbound\ncover 0 0\nlabel 0 60000\nlabel 1 120000\n",
                     "cover 1 0\nlabel 0 120000\nlabel 1 240000\nclaim limit 0 -\n",
                 ],
                 "yes limit 0 -\n",
             ),
-            (SAME_TIME, &["claim infeasible\n"], "no 1 Unfinished\n"),
-            (SAME_TIME, &[], "no 1 Unfinished\n"),
+            (&["claim infeasible\n"], "no 1 Unfinished\n"),
+            (&[], "no 1 Unfinished\n"),
         ],
     )
 }
@@ -203,31 +227,37 @@ fn leaves_and_steps_are_judged(rt: HostRuntime) -> Result<(), Fail> {
 // Each file is read in two calls, the certificate's last. Where one fails nothing is printed, and where the put fails neither.
 #[test]
 fn faults_end_a_run(rt: HostRuntime) -> Result<(), Fail> {
+    let (alloc, least) = (rt.alloc(), LEAST.as_slice());
     for call in 1..9 {
-        let seen = run_cert(rt.alloc(), SAME_TIME, &LEAST, &[call], &[])?;
-        assert!(rt; seen.is(5, ""), "{call}");
+        assert_fault_ends_so(&rt, alloc, least, (call, 0), 5, "")?;
     }
-    let seen = run_cert(rt.alloc(), SAME_TIME, &LEAST, &[9], &[2])?;
-    assert!(rt; seen.is(0, "yes optimal 240\n"));
-    for cert in [LEAST.as_slice(), &["x\n"]] {
-        let seen = run_cert(rt.alloc(), SAME_TIME, cert, &[], &[1])?;
-        assert!(rt; seen.is(6, ""));
-    }
-    Ok(())
+    assert_fault_ends_so(&rt, alloc, least, (9, 2), 0, "yes optimal 240\n")?;
+    assert_fault_ends_so(&rt, alloc, least, (0, 1), 6, "")?;
+    assert_fault_ends_so(&rt, alloc, &["x\n"], (0, 1), 6, "")
+}
+
+// Asserts that a run over these aircraft that names no certificate ends so.
+fn assert_unread_ends_so<'a>(
+    rt: &impl Abort,
+    alloc: Global,
+    aircraft: &'a str,
+    status: u8,
+    printed: &'a str,
+) -> Result<(), Fail> {
+    let typed = Typed {
+        fleet: &[FLEET, aircraft],
+        ..same_time(&[])
+    };
+    let case = Case {
+        words: &["tailcheck", "t", "f", "r", "--cert", "none"],
+        ..by_certificate(typed, status, printed)
+    };
+    assert_ends_so(rt, alloc, &case)
 }
 
 // A certificate is read only where the tables are a book: one that isn't there is not missed where the fleet is refused.
 #[test]
 fn a_certificate_is_read_last(rt: HostRuntime) -> Result<(), Fail> {
-    let words = ["tailcheck", "t", "f", "r", "--cert", "none"];
-    for (fleet, status, printed) in [
-        (SAME_TIME.fleet, 5, ""),
-        ([FLEET, "A1,P,ARN\n"].as_slice(), 3, "refused 4 fleet 2\n"),
-    ] {
-        let typed = Typed { fleet, ..SAME_TIME };
-        let files = files_of(rt.alloc(), typed)?;
-        let seen = run_failing(rt.alloc(), &words, files, &[], &[])?;
-        assert!(rt; seen.is(status, printed), "{printed}");
-    }
-    Ok(())
+    assert_unread_ends_so(&rt, rt.alloc(), CHEAP_AND_DEAR, 5, "")?;
+    assert_unread_ends_so(&rt, rt.alloc(), "A1,P,ARN\n", 3, "refused 4 fleet 2\n")
 }

@@ -1,36 +1,59 @@
 //! Reads and writes that fail.
 
-use super::fixtures::{WORDS, run_failing};
+use super::fixtures::{Case, assert_ends_so, by_plan, legal_run};
+use std::alloc::Global;
+use std::process::Abort;
 use std::test::Fail;
-use trial_texts::{BROKEN, LEGAL, MISSING, NO_PLAN, files_of};
+use trial_texts::{BROKEN, LEGAL, MISSING, NO_PLAN, Typed};
+
+// Which put fails, and how a run ends.
+type PutRow<'a> = (u64, u8, &'a str);
+
+fn each_put_ends_so<'a>(
+    rt: &impl Abort,
+    alloc: Global,
+    typed: Typed<'a>,
+    rows: &[PutRow<'a>],
+) -> Result<(), Fail> {
+    for &(put, status, printed) in rows {
+        let case = Case {
+            puts: &[put],
+            ..by_plan(typed, status, printed)
+        };
+        assert_ends_so(rt, alloc, &case)?;
+    }
+    Ok(())
+}
 
 // A write that fails ends the run with what was printed before it.
 #[test]
 fn a_failed_write_ends_a_run(rt: HostRuntime) -> Result<(), Fail> {
-    for &(typed, put, status, printed) in &[
-        (LEGAL, 1, 6, ""),
-        (LEGAL, 2, 0, "legal 120\n"),
-        (BROKEN, 1, 6, ""),
-        (BROKEN, 2, 6, "broken 3\n"),
-        (BROKEN, 3, 6, "broken 3\nunknown F9\n"),
-        (BROKEN, 4, 6, "broken 3\nunknown F9\ntwice F1\n"),
-        (
-            BROKEN,
-            5,
-            1,
-            "broken 3\nunknown F9\ntwice F1\nuncovered F2\n",
-        ),
-        (NO_PLAN, 1, 6, ""),
-        (NO_PLAN, 2, 3, "refused 3 plan 1\n"),
-    ] {
-        let files = files_of(rt.alloc(), typed)?;
-        let seen = run_failing(rt.alloc(), &WORDS, files, &[], &[put])?;
-        assert!(rt; seen.is(status, printed), "{put} {printed}");
-    }
-    let files = files_of(rt.alloc(), LEGAL)?;
-    let seen = run_failing(rt.alloc(), &["tailcheck"], files, &[], &[1])?;
-    assert!(rt; seen.is(6, ""));
-    Ok(())
+    let alloc = rt.alloc();
+    each_put_ends_so(&rt, alloc, LEGAL, &[(1, 6, ""), (2, 0, "legal 120\n")])?;
+    each_put_ends_so(
+        &rt,
+        alloc,
+        BROKEN,
+        &[
+            (1, 6, ""),
+            (2, 6, "broken 3\n"),
+            (3, 6, "broken 3\nunknown F9\n"),
+            (4, 6, "broken 3\nunknown F9\ntwice F1\n"),
+            (5, 1, "broken 3\nunknown F9\ntwice F1\nuncovered F2\n"),
+        ],
+    )?;
+    each_put_ends_so(
+        &rt,
+        alloc,
+        NO_PLAN,
+        &[(1, 6, ""), (2, 3, "refused 3 plan 1\n")],
+    )?;
+    let usage = Case {
+        words: &["tailcheck"],
+        puts: &[1],
+        ..legal_run(6, "")
+    };
+    assert_ends_so(&rt, alloc, &usage)
 }
 
 // Each file is read in two calls, of which the second finds its end. Whichever of them fails, nothing is printed, also
@@ -38,26 +61,30 @@ fn a_failed_write_ends_a_run(rt: HostRuntime) -> Result<(), Fail> {
 #[test]
 fn a_failed_read_ends_a_run(rt: HostRuntime) -> Result<(), Fail> {
     for call in 1..9 {
-        for typed in [LEGAL, NO_PLAN] {
-            let files = files_of(rt.alloc(), typed)?;
-            let seen = run_failing(rt.alloc(), &WORDS, files, &[call], &[])?;
-            assert!(rt; seen.is(5, ""), "{call}");
+        for &typed in &[LEGAL, NO_PLAN] {
+            let case = Case {
+                reads: &[call],
+                ..by_plan(typed, 5, "")
+            };
+            assert_ends_so(&rt, rt.alloc(), &case)?;
         }
     }
-    let files = files_of(rt.alloc(), LEGAL)?;
-    let seen = run_failing(rt.alloc(), &WORDS, files, &[9], &[])?;
-    assert!(rt; seen.is(0, "legal 120\n"));
-    Ok(())
+    let case = Case {
+        reads: &[9],
+        ..legal_run(0, "legal 120\n")
+    };
+    assert_ends_so(&rt, rt.alloc(), &case)
 }
 
 // A file that isn't there can't be read, even where a table is bad: the plan's file is no timetable.
 #[test]
 fn a_missing_file_ends_a_run(rt: HostRuntime) -> Result<(), Fail> {
-    for (timetable, fleet, rules, plan) in MISSING {
-        let words = ["tailcheck", timetable, fleet, rules, "--plan", plan];
-        let files = files_of(rt.alloc(), LEGAL)?;
-        let seen = run_failing(rt.alloc(), &words, files, &[], &[])?;
-        assert!(rt; seen.is(5, ""), "{timetable} {fleet} {rules} {plan}");
+    for &(timetable, fleet, rules, plan) in &MISSING {
+        let case = Case {
+            words: &["tailcheck", timetable, fleet, rules, "--plan", plan],
+            ..legal_run(5, "")
+        };
+        assert_ends_so(&rt, rt.alloc(), &case)?;
     }
     Ok(())
 }

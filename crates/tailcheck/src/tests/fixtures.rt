@@ -1,57 +1,105 @@
-//! Runs on texts.
+//! Runs on texts, each with how it has to end.
 
 use crate::run::check_run;
 use std::alloc::Global;
+use std::process::Abort;
 use std::test::Fail;
 use tail_outside::{MemFile, MemFiles, MemSink};
-use trial_texts::{ONE_AT_ARLANDA, Seen, THERE_AND_BACK, Typed, files_of, files_with, words_of};
+use trial_texts::{
+    FLEET, LEGAL, ONE_AT_ARLANDA, RULES, THERE_AND_BACK, TIMETABLE, Typed, files_of, words_of,
+};
 
-/// A run over these files, where these calls of the files and of the sink fail.
-pub fn run_failing(
+/// A run: its words, the texts of its files, the calls of the files and of the sink that fail, and how it ends.
+#[derive(Clone, Copy, Debug)]
+pub struct Case<'a> {
+    pub words: &'a [&'a str],
+    pub typed: Typed<'a>,
+    pub reads: &'a [u64],
+    pub puts: &'a [u64],
+    pub status: u8,
+    pub printed: &'a str,
+}
+
+/// A run by a plan: the words name the four files, the last as a plan, and no call fails.
+pub fn by_plan<'a>(typed: Typed<'a>, status: u8, printed: &'a str) -> Case<'a> {
+    Case {
+        words: &["tailcheck", "t", "f", "r", "--plan", "p"],
+        typed,
+        reads: &[],
+        puts: &[],
+        status,
+        printed,
+    }
+}
+
+/// A run by a legal plan of two flights.
+pub fn legal_run<'a>(status: u8, printed: &'a str) -> Case<'a> {
+    by_plan(LEGAL, status, printed)
+}
+
+/// A run by a certificate: the words name the four files, the last as a certificate, and no call fails.
+pub fn by_certificate<'a>(typed: Typed<'a>, status: u8, printed: &'a str) -> Case<'a> {
+    Case {
+        words: &["tailcheck", "t", "f", "r", "--cert", "p"],
+        ..by_plan(typed, status, printed)
+    }
+}
+
+/// Records, aircraft, the rules behind the usual ones, a plan, and how a run over them ends.
+pub type Row<'a> = (&'a str, &'a str, &'a str, &'a str, u8, &'a str);
+
+/// A plan of a flight to Oslo and one back by one aircraft, and how a run over it ends.
+pub type PlanRow<'a> = (&'a str, u8, &'a str);
+
+// Whether the run over these files ends so.
+fn ran_so(alloc: Global, case: &Case<'_>, words: &[String], files: MemFiles) -> Result<bool, Fail> {
+    let mut sink = MemSink::new(alloc, Vec::from_slice(alloc, case.puts)?)?;
+    let ran = check_run(alloc, words, files, &mut sink);
+    Ok(ran.status.0 == case.status && sink.bytes() == case.printed.as_bytes())
+}
+
+/// Whether the run over these files, in place of those of its texts, ends so.
+pub fn ends_so_over(alloc: Global, case: &Case<'_>, files: Vec<MemFile>) -> Result<bool, Fail> {
+    let words = words_of(alloc, case.words)?;
+    let files = MemFiles::new(alloc, files, Vec::from_slice(alloc, case.reads)?)?;
+    ran_so(alloc, case, &words, files)
+}
+
+/// Asserts that the run ends so.
+pub fn assert_ends_so(rt: &impl Abort, alloc: Global, case: &Case<'_>) -> Result<(), Fail> {
+    let files = files_of(alloc, case.typed)?;
+    assert!(rt; ends_so_over(alloc, case, files)?, "{case:?}");
+    Ok(())
+}
+
+// Asserts that a run over this row ends so.
+fn assert_row_ends_so<'a>(
+    rt: &impl Abort,
     alloc: Global,
-    words: &[&str],
-    files: Vec<MemFile>,
-    reads: &[u64],
-    puts: &[u64],
-) -> Result<Seen, Fail> {
-    let words = words_of(alloc, words)?;
-    let files = MemFiles::new(alloc, files, Vec::from_slice(alloc, reads)?)?;
-    let mut sink = MemSink::new(alloc, Vec::from_slice(alloc, puts)?)?;
-    let ran = check_run(alloc, &words, files, &mut sink);
-    Seen::of(alloc, ran.status.0, &sink)
+    (records, aircraft, more_rules, plan, status, printed): Row<'a>,
+) -> Result<(), Fail> {
+    let typed = Typed {
+        timetable: &[TIMETABLE, records],
+        fleet: &[FLEET, aircraft],
+        rules: &[RULES, more_rules],
+        judged: &[plan],
+    };
+    assert_ends_so(rt, alloc, &by_plan(typed, status, printed))
 }
 
-/// The words that name the four files, the last as a certificate.
-pub const CERT_WORDS: [&str; 6] = ["tailcheck", "t", "f", "r", "--cert", "p"];
-
-/// The words that name the four files, the last as a plan.
-pub const WORDS: [&str; 6] = ["tailcheck", "t", "f", "r", "--plan", "p"];
-
-/// A run over these files.
-pub fn run_over(alloc: Global, files: Vec<MemFile>) -> Result<Seen, Fail> {
-    run_failing(alloc, &WORDS, files, &[], &[])
+/// Asserts that a run over each row ends so.
+pub fn each_row_ends_so(rt: &impl Abort, alloc: Global, rows: &[Row<'_>]) -> Result<(), Fail> {
+    for &row in rows {
+        assert_row_ends_so(rt, alloc, row)?;
+    }
+    Ok(())
 }
 
-/// A run over these texts.
-pub fn run_on(alloc: Global, typed: Typed<'_>) -> Result<Seen, Fail> {
-    run_over(alloc, files_of(alloc, typed)?)
-}
-
-/// A run over these records, these aircraft, the usual rules with these behind them, and this plan.
-pub fn run_with(
-    alloc: Global,
-    records: &str,
-    aircraft: &str,
-    more_rules: &str,
-    plan: &str,
-) -> Result<Seen, Fail> {
-    run_over(
-        alloc,
-        files_with(alloc, records, aircraft, more_rules, plan)?,
-    )
-}
-
-/// A run over a flight to Oslo and one back, one aircraft, the usual rules, and this plan.
-pub fn run_there_and_back(alloc: Global, plan: &str) -> Result<Seen, Fail> {
-    run_with(alloc, THERE_AND_BACK, ONE_AT_ARLANDA, "", plan)
+/// Asserts that a run over each plan ends so.
+pub fn each_plan_ends_so(rt: &impl Abort, alloc: Global, rows: &[PlanRow<'_>]) -> Result<(), Fail> {
+    for &(plan, status, printed) in rows {
+        let row = (THERE_AND_BACK, ONE_AT_ARLANDA, "", plan, status, printed);
+        assert_row_ends_so(rt, alloc, row)?;
+    }
+    Ok(())
 }

@@ -1,9 +1,10 @@
 //! A week of 97 activities and six aircraft, the one of the example tables, with the plan that was made for it by hand.
 
-use super::fixtures::run_on;
+use super::fixtures::{assert_ends_so, by_plan};
 use std::alloc::Global;
+use std::process::Abort;
 use std::test::Fail;
-use trial_texts::{FLEET, Seen, TIMETABLE, Typed, WEEK_AIRCRAFT, WEEK_RULES, week_records};
+use trial_texts::{FLEET, TIMETABLE, Typed, WEEK_AIRCRAFT, WEEK_RULES, week_records};
 
 // The route of the first aircraft, with the check between its first day and its second.
 const FIRST_ROUTE: &str =
@@ -21,38 +22,44 @@ A4: D1R1O D1R1B D1R3O D1R3B D1R5O D1R5B D2R1O D2R1B D2R3O D2R3B D2R5O D2R5B D4R1
 A5: D0R6O D0R6B D1R6O D1R6B D2R6O D2R6B D3R6O D3R6B D4R6O D4R6B D5R6O D5R6B\n\
 A6: D0R7O D0R7B D1R7O D1R7B D2R7O D2R7B D3R7O D3R7B D4R7O D4R7B D5R7O D5R7B\n";
 
-fn run_on_the_week(alloc: Global, records: &str, plan: &[&str]) -> Result<Seen, Fail> {
-    run_on(
-        alloc,
-        Typed {
-            timetable: &[TIMETABLE, records],
-            fleet: &[FLEET, WEEK_AIRCRAFT],
-            rules: &[WEEK_RULES],
-            judged: plan,
-        },
-    )
+// Asserts that a run over these records and the plan of these pieces ends so.
+fn assert_is_judged_so<'a>(
+    rt: &impl Abort,
+    alloc: Global,
+    records: &'a str,
+    judged: &'a [&'a str],
+    status: u8,
+    printed: &'a str,
+) -> Result<(), Fail> {
+    let typed = Typed {
+        timetable: &[TIMETABLE, records],
+        fleet: &[FLEET, WEEK_AIRCRAFT],
+        rules: &[WEEK_RULES],
+        judged,
+    };
+    assert_ends_so(rt, alloc, &by_plan(typed, status, printed))
 }
 
-// The plan is legal and costs 43,200 for Oslo and as much for London, whatever its first line says.
+// The plan is legal and costs 43,200 for Oslo and as much for London, whatever its first line says. Without its check the
+// first aircraft flies six legs too late.
 #[test]
-fn the_plan_of_the_week_is_legal(rt: HostRuntime) -> Result<(), Fail> {
+fn the_plan_of_the_week_is_judged(rt: HostRuntime) -> Result<(), Fail> {
     let records = week_records(rt.alloc())?;
-    for first in ["optimal 86400\n", "optimal 5\n", "limit 5 86400\n"] {
-        let seen = run_on_the_week(rt.alloc(), &records, &[first, FIRST_ROUTE, OTHER_ROUTES])?;
-        assert!(rt; seen.is(0, "legal 86400\n"), "{first}");
-    }
-    Ok(())
-}
-
-// Without its check the first aircraft flies six legs too late.
-#[test]
-fn a_check_left_out_is_told(rt: HostRuntime) -> Result<(), Fail> {
-    let plan = ["optimal 86400\n", FIRST_ROUTE_WITHOUT_CHECK, OTHER_ROUTES];
-    let records = week_records(rt.alloc())?;
-    let seen = run_on_the_week(rt.alloc(), &records, &plan)?;
-    let want = "broken 7\nuncovered G1\n\
+    for &(first, route, status, printed) in &[
+        ("optimal 86400\n", FIRST_ROUTE, 0, "legal 86400\n"),
+        ("optimal 5\n", FIRST_ROUTE, 0, "legal 86400\n"),
+        ("limit 5 86400\n", FIRST_ROUTE, 0, "legal 86400\n"),
+        (
+            "optimal 86400\n",
+            FIRST_ROUTE_WITHOUT_CHECK,
+            1,
+            "broken 7\nuncovered G1\n\
 counter A1 D5R0O chk\ncounter A1 D5R0B chk\ncounter A1 D5R2O chk\n\
-counter A1 D5R2B chk\ncounter A1 D5R4O chk\ncounter A1 D5R4B chk\n";
-    assert!(rt; seen.is(1, want));
+counter A1 D5R2B chk\ncounter A1 D5R4O chk\ncounter A1 D5R4B chk\n",
+        ),
+    ] {
+        let plan = [first, route, OTHER_ROUTES];
+        assert_is_judged_so(&rt, rt.alloc(), &records, &plan, status, printed)?;
+    }
     Ok(())
 }

@@ -1,56 +1,79 @@
 //! Words that are refused, and names that are taken in their places.
 
-use super::fixtures::run_failing;
+use super::fixtures::{Case, assert_ends_so, legal_run};
 use std::alloc::Global;
+use std::process::Abort;
 use std::test::Fail;
-use trial_texts::{LEGAL, MISPLACED, Seen, files_of};
+use trial_texts::MISPLACED;
 
-fn run_as(alloc: Global, words: &[&str]) -> Result<Seen, Fail> {
-    run_failing(alloc, words, files_of(alloc, LEGAL)?, &[], &[])
+// Asserts that a run of these words over the files of a legal plan ends so.
+fn assert_words_end_so<'a>(
+    rt: &impl Abort,
+    alloc: Global,
+    words: &'a [&'a str],
+    status: u8,
+    printed: &'a str,
+) -> Result<(), Fail> {
+    let case = Case {
+        words,
+        ..legal_run(status, printed)
+    };
+    assert_ends_so(rt, alloc, &case)
+}
+
+// Asserts that a run of each of them does.
+fn each_ends_so<'a>(
+    rt: &impl Abort,
+    alloc: Global,
+    rows: &[&'a [&'a str]],
+    status: u8,
+    printed: &'a str,
+) -> Result<(), Fail> {
+    for &words in rows {
+        assert_words_end_so(rt, alloc, words, status, printed)?;
+    }
+    Ok(())
 }
 
 // Words that do not name three tables and one file to judge by them.
 #[test]
 fn other_words_are_refused(rt: HostRuntime) -> Result<(), Fail> {
-    let rows: &[&[&str]] = &[
-        &[],
-        &["tailcheck"],
-        &["tailcheck", "t", "f", "r"],
-        &["tailcheck", "t", "f", "--plan", "p"],
-        &["tailcheck", "t", "f", "r", "x", "--plan", "p"],
-        &["tailcheck", "t", "f", "r", "--plan"],
-        &["tailcheck", "t", "f", "r", "--cert", "p", "--cert", "p"],
-        &["tailcheck", "t", "f", "r", "--plan", "p", "--cert", "p"],
-        &["tailcheck", "t", "f", "r", "--plan", "p", "--plan", "p"],
-        &["tailcheck", "t", "f", "r", "--plan", "p", "--help"],
-    ];
-    for &words in rows {
-        let seen = run_as(rt.alloc(), words)?;
-        assert!(rt;
-            seen.is(
-                2,
-                "usage: tailcheck TIMETABLE FLEET RULES (--cert FILE or --plan FILE)\n"
-            ),
-            "{words:?}"
-        );
-    }
-    Ok(())
+    each_ends_so(
+        &rt,
+        rt.alloc(),
+        &[
+            &[],
+            &["tailcheck"],
+            &["tailcheck", "t", "f", "r"],
+            &["tailcheck", "t", "f", "--plan", "p"],
+            &["tailcheck", "t", "f", "r", "x", "--plan", "p"],
+            &["tailcheck", "t", "f", "r", "--plan"],
+            &["tailcheck", "t", "f", "r", "--cert", "p", "--cert", "p"],
+            &["tailcheck", "t", "f", "r", "--plan", "p", "--cert", "p"],
+            &["tailcheck", "t", "f", "r", "--plan", "p", "--plan", "p"],
+            &["tailcheck", "t", "f", "r", "--plan", "p", "--help"],
+        ],
+        2,
+        "usage: tailcheck TIMETABLE FLEET RULES (--cert FILE or --plan FILE)\n",
+    )
 }
 
 // The option stands anywhere, and each name is that of its own file.
 #[test]
 fn names_are_taken_in_their_places(rt: HostRuntime) -> Result<(), Fail> {
-    for &words in &[
-        ["tailcheck", "t", "f", "r", "--plan", "p"],
-        ["tailcheck", "--plan", "p", "t", "f", "r"],
-    ] {
-        let seen = run_as(rt.alloc(), &words)?;
-        assert!(rt; seen.is(0, "legal 120\n"), "{words:?}");
-    }
-    for (timetable, fleet, rules, plan, printed) in MISPLACED {
+    each_ends_so(
+        &rt,
+        rt.alloc(),
+        &[
+            &["tailcheck", "t", "f", "r", "--plan", "p"],
+            &["tailcheck", "--plan", "p", "t", "f", "r"],
+        ],
+        0,
+        "legal 120\n",
+    )?;
+    for &(timetable, fleet, rules, plan, printed) in &MISPLACED {
         let words = ["tailcheck", timetable, fleet, rules, "--plan", plan];
-        let seen = run_as(rt.alloc(), &words)?;
-        assert!(rt; seen.is(3, printed), "{words:?}");
+        assert_words_end_so(&rt, rt.alloc(), &words, 3, printed)?;
     }
     Ok(())
 }
@@ -58,12 +81,14 @@ fn names_are_taken_in_their_places(rt: HostRuntime) -> Result<(), Fail> {
 // Any file can be judged as a certificate: a plan, and one of the tables.
 #[test]
 fn other_files_are_no_certificates(rt: HostRuntime) -> Result<(), Fail> {
-    for &words in &[
-        ["tailcheck", "t", "f", "r", "--cert", "p"].as_slice(),
-        &["tailcheck", "--cert", "t", "t", "f", "r"],
-    ] {
-        let seen = run_as(rt.alloc(), words)?;
-        assert!(rt; seen.is(1, "no 1 BadLine\n"), "{words:?}");
-    }
-    Ok(())
+    each_ends_so(
+        &rt,
+        rt.alloc(),
+        &[
+            &["tailcheck", "t", "f", "r", "--cert", "p"],
+            &["tailcheck", "--cert", "t", "t", "f", "r"],
+        ],
+        1,
+        "no 1 BadLine\n",
+    )
 }
