@@ -105,13 +105,16 @@ mod tests {
         Ok(check_of(alloc, &words)? == names)
     }
 
+    // The names of a timetable, a fleet, rules and a plan.
+    type Names<'a> = (&'a str, &'a str, &'a str, &'a str);
+
     // Asserts that each of the words are read as these names of three tables and a plan.
     fn each_is_read_as(
         rt: &impl Abort,
         alloc: Global,
-        rows: &[(&[&str], [&str; 4])],
+        rows: &[(&[&str], Names<'_>)],
     ) -> Result<(), Fail> {
-        for &(words, [timetable, fleet, rules, plan]) in rows {
+        for &(words, (timetable, fleet, rules, plan)) in rows {
             let names = named(timetable, fleet, rules, plan);
             assert!(rt; are_read_as(alloc, words, Some(names))?, "{words:?}");
         }
@@ -135,36 +138,36 @@ mod tests {
             &[
                 (
                     &["tailcheck", "t", "f", "r", "--plan", "p"],
-                    ["t", "f", "r", "p"],
+                    ("t", "f", "r", "p"),
                 ),
                 (
                     &["tailcheck", "--plan", "p", "t", "f", "r"],
-                    ["t", "f", "r", "p"],
+                    ("t", "f", "r", "p"),
                 ),
                 (
                     &["tailcheck", "t", "--plan", "p", "f", "r"],
-                    ["t", "f", "r", "p"],
+                    ("t", "f", "r", "p"),
                 ),
                 (
                     &["tailcheck", "t", "f", "--plan", "p", "r"],
-                    ["t", "f", "r", "p"],
+                    ("t", "f", "r", "p"),
                 ),
                 (
                     &["tailcheck", "t", "f", "r", "--plan=p"],
-                    ["t", "f", "r", "p"],
+                    ("t", "f", "r", "p"),
                 ),
                 (
                     &["tailcheck", "t", "--plan=p", "f", "r"],
-                    ["t", "f", "r", "p"],
+                    ("t", "f", "r", "p"),
                 ),
                 (
                     &["tailcheck", "x", "x", "x", "--plan", "x"],
-                    ["x", "x", "x", "x"],
+                    ("x", "x", "x", "x"),
                 ),
-                (&["", "t", "f", "r", "--plan", "p"], ["t", "f", "r", "p"]),
+                (&["", "t", "f", "r", "--plan", "p"], ("t", "f", "r", "p")),
                 (
                     &["--plan=p", "t", "f", "r", "--plan", "q"],
-                    ["t", "f", "r", "q"],
+                    ("t", "f", "r", "q"),
                 ),
             ],
         )
@@ -196,42 +199,42 @@ mod tests {
             &rt,
             rt.alloc(),
             &[
-                (&["tailcheck", "", "", "", "--plan", ""], ["", "", "", ""]),
+                (&["tailcheck", "", "", "", "--plan", ""], ("", "", "", "")),
                 (
                     &["tailcheck", "t", "f", "r", "--plan="],
-                    ["t", "f", "r", ""],
+                    ("t", "f", "r", ""),
                 ),
                 (
                     &["tailcheck", "-", "f", "-", "--plan", "-"],
-                    ["-", "f", "-", "-"],
+                    ("-", "f", "-", "-"),
                 ),
                 (
                     &["tailcheck", "t", "f", "r", "--plan=-x"],
-                    ["t", "f", "r", "-x"],
+                    ("t", "f", "r", "-x"),
                 ),
                 (
                     &["tailcheck", "t", "f", "r", "--plan==p"],
-                    ["t", "f", "r", "=p"],
+                    ("t", "f", "r", "=p"),
                 ),
                 (
                     &["tailcheck", "help", "a b", "r=1", "--plan", "p q"],
-                    ["help", "a b", "r=1", "p q"],
+                    ("help", "a b", "r=1", "p q"),
                 ),
                 (
                     &["tailcheck", "tåg", "flyg", "regler", "--plan", "år"],
-                    ["tåg", "flyg", "regler", "år"],
+                    ("tåg", "flyg", "regler", "år"),
                 ),
                 (
                     &["tailcheck", "--plan", "p", "--", "-t", "--plan", "-"],
-                    ["-t", "--plan", "-", "p"],
+                    ("-t", "--plan", "-", "p"),
                 ),
                 (
                     &["tailcheck", "t", "--plan", "p", "--", "--", "--help"],
-                    ["t", "--", "--help", "p"],
+                    ("t", "--", "--help", "p"),
                 ),
                 (
                     &["tailcheck", "t", "f", "r", "--plan", "p", "--"],
-                    ["t", "f", "r", "p"],
+                    ("t", "f", "r", "p"),
                 ),
             ],
         )
