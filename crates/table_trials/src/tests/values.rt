@@ -5,79 +5,80 @@ use std::test::Fail;
 use tail_book::Memory;
 use tail_text::{Bad, Line, Parts, clock, name, number, stamp};
 
-// The first and the last moment, leap days, and texts that miss the grammar by one thing.
-#[test]
-fn stamps_are_minutes_since_1970(rt: HostRuntime) {
-    for &(text, want) in &[
-        ("1970-01-01T00:00", Ok(0)),
-        ("2000-02-29T00:00", Ok(15_863_040)),
-        ("2025-03-03T06:00", Ok(29_016_360)),
-        ("2199-12-31T23:59", Ok(120_968_639)),
-        ("2100-02-29T00:00", Err(Bad)),
-        ("2200-01-01T00:00", Err(Bad)),
-        ("1969-12-31T23:59", Err(Bad)),
-        ("2025-03-03T24:00", Err(Bad)),
-        ("2025-3-03T06:00", Err(Bad)),
-    ] {
-        assert!(rt; stamp(text.as_bytes()) == want, "at {text}");
-    }
+// What a text is read as: a moment, a time of day, a number up to the most that is allowed, or a name.
+#[derive(Clone, Copy)]
+enum Value {
+    Moment(Result<i64, Bad>),
+    Clock(Result<i64, Bad>),
+    Number(u64, Result<u64, Bad>),
+    Name(bool),
 }
 
-// The ends of a day; an hour and a minute past them; and texts that miss the grammar by one thing.
-#[test]
-fn clocks_are_minutes_since_midnight(rt: HostRuntime) {
-    for &(text, want) in &[
-        ("00:00", Ok(0)),
-        ("09:05", Ok(545)),
-        ("23:59", Ok(1439)),
-        ("24:00", Err(Bad)),
-        ("12:60", Err(Bad)),
-        ("9:05", Err(Bad)),
-        ("09-05", Err(Bad)),
-        ("09:05 ", Err(Bad)),
-    ] {
-        assert!(rt; clock(text.as_bytes()) == want, "at {text}");
-    }
-}
-
-// The most that is allowed and one more, no digits, and a zero in front of others.
-#[test]
-fn numbers_have_no_leading_zero(rt: HostRuntime) {
-    for &(text, max, want) in &[
-        ("9", 9, Ok(9)),
-        ("0", 9, Ok(0)),
-        ("18446744073709551615", u64::MAX, Ok(u64::MAX)),
-        ("18446744073709551616", u64::MAX, Err(Bad)),
-        ("10", 9, Err(Bad)),
-        ("007", 9, Err(Bad)),
-        ("", 9, Err(Bad)),
-        ("-1", 9, Err(Bad)),
-    ] {
-        assert!(rt; number(text.as_bytes(), max) == want, "at {text}");
+fn is_read(text: &[u8], value: Value) -> bool {
+    match value {
+        Value::Moment(want) => stamp(text) == want,
+        Value::Clock(want) => clock(text) == want,
+        Value::Number(max, want) => number(text, max) == want,
+        Value::Name(good) => is_told(text, good),
     }
 }
 
 // Whether a text is read as a name, where it is one, and else refused.
-fn is_told(text: &str, good: bool) -> bool {
-    match name(text.as_bytes()) {
-        Ok(found) => good && found.as_bytes() == text.as_bytes(),
+fn is_told(text: &[u8], good: bool) -> bool {
+    match name(text) {
+        Ok(found) => good && found.as_bytes() == text,
         Err(Bad) => !good,
     }
 }
 
-// Sixteen and seventeen letters, and what may stand first or later.
+const VALUES: &[(&str, Value)] = &[
+    // The first and the last moment, leap days, and texts that miss the grammar by one thing.
+    ("1970-01-01T00:00", Value::Moment(Ok(0))),
+    ("2000-02-29T00:00", Value::Moment(Ok(15_863_040))),
+    ("2025-03-03T06:00", Value::Moment(Ok(29_016_360))),
+    ("2199-12-31T23:59", Value::Moment(Ok(120_968_639))),
+    ("2100-02-29T00:00", Value::Moment(Err(Bad))),
+    ("2200-01-01T00:00", Value::Moment(Err(Bad))),
+    ("1969-12-31T23:59", Value::Moment(Err(Bad))),
+    ("2025-03-03T24:00", Value::Moment(Err(Bad))),
+    ("2025-3-03T06:00", Value::Moment(Err(Bad))),
+    // The ends of a day; an hour and a minute past them; and texts that miss the grammar by one thing.
+    ("00:00", Value::Clock(Ok(0))),
+    ("09:05", Value::Clock(Ok(545))),
+    ("23:59", Value::Clock(Ok(1439))),
+    ("24:00", Value::Clock(Err(Bad))),
+    ("12:60", Value::Clock(Err(Bad))),
+    ("9:05", Value::Clock(Err(Bad))),
+    ("09-05", Value::Clock(Err(Bad))),
+    ("09:05 ", Value::Clock(Err(Bad))),
+    // The most that is allowed and one more, no digits, and a zero in front of others.
+    ("9", Value::Number(9, Ok(9))),
+    ("0", Value::Number(9, Ok(0))),
+    (
+        "18446744073709551615",
+        Value::Number(u64::MAX, Ok(u64::MAX)),
+    ),
+    ("18446744073709551616", Value::Number(u64::MAX, Err(Bad))),
+    ("10", Value::Number(9, Err(Bad))),
+    ("007", Value::Number(9, Err(Bad))),
+    ("", Value::Number(9, Err(Bad))),
+    ("-1", Value::Number(9, Err(Bad))),
+    // Sixteen and seventeen letters, and what may stand first or later.
+    ("A", Value::Name(true)),
+    ("7-b_C", Value::Name(true)),
+    ("ABCDEFGHIJKLMNOP", Value::Name(true)),
+    ("ABCDEFGHIJKLMNOPQ", Value::Name(false)),
+    ("", Value::Name(false)),
+    ("-A", Value::Name(false)),
+    ("A B", Value::Name(false)),
+];
+
+// Moments are minutes since 1970, times of day minutes since midnight; numbers have no leading zero, and names one to
+// sixteen bytes.
 #[test]
-fn names_have_one_to_sixteen_bytes(rt: HostRuntime) {
-    for &(text, good) in &[
-        ("A", true),
-        ("7-b_C", true),
-        ("ABCDEFGHIJKLMNOP", true),
-        ("ABCDEFGHIJKLMNOPQ", false),
-        ("", false),
-        ("-A", false),
-        ("A B", false),
-    ] {
-        assert!(rt; is_told(text, good), "at {text}");
+fn values_are_read_by_their_grammars(rt: HostRuntime) {
+    for &(text, value) in VALUES {
+        assert!(rt; is_read(text.as_bytes(), value), "at {text}");
     }
 }
 
