@@ -166,88 +166,100 @@ fn records_come_one_after_the_other(rt: HostRuntime) -> Result<(), Fail> {
 }
 
 // How many names a field has, or the code of its refusal.
-fn count_of(alloc: Global, field: &str) -> Result<usize, u8> {
-    match names(alloc, field.as_bytes()) {
+fn count_of(alloc: Global, field: &[u8]) -> Result<usize, u8> {
+    match names(alloc, field) {
         Ok(names) => Ok(names.len()),
         Err(NoRow::Code(code)) => Err(code),
         Err(NoRow::Memory) => Err(0),
     }
 }
 
-#[test]
-fn names_stand_between_single_spaces(rt: HostRuntime) {
-    for &(field, want) in &[
-        ("", Ok(0)),
-        ("A320", Ok(1)),
-        ("A320 B738", Ok(2)),
-        ("a b c d e f g h i j k l m n o p q r s t", Ok(20)),
-        (" A320", Err(5)),
-        ("A320 ", Err(5)),
-        ("A320  B738", Err(5)),
-        ("A320 -", Err(5)),
-        ("a b c d e f g h i j k l m n o p q r s t u", Err(10)),
-        ("a b c d e f g h i j k l m n o p q r s t u -", Err(5)),
-    ] {
-        assert!(rt; count_of(rt.alloc(), field) == want, "{field}");
-    }
-}
-
-#[test]
-fn numbers_have_no_zero_in_front(rt: HostRuntime) {
-    for &(field, want) in &[
-        ("0", Ok(0)),
-        ("7", Ok(7)),
-        ("300", Ok(300)),
-        ("301", Err(9)),
-        ("18446744073709551616", Err(9)),
-        ("", Err(9)),
-        ("00", Err(9)),
-        ("007", Err(9)),
-        ("-1", Err(9)),
-        ("+1", Err(9)),
-        ("1.5", Err(9)),
-        (" 1", Err(9)),
-    ] {
-        assert!(rt; number_in(field.as_bytes(), 300) == want, "{field}");
-    }
-    assert!(rt;
-        number_in(b"18446744073709551615", 18_446_744_073_709_551_615)
-            == Ok(18_446_744_073_709_551_615)
-    );
-}
-
-// Whether a field is read as a name, where it is one, and else refused.
-fn is_told(field: &str, is_name: bool) -> bool {
-    match name_in(field.as_bytes()) {
-        Ok(name) => is_name && name.as_bytes() == field.as_bytes(),
+// Whether a field is read as a name, where it is one, and else refused; the same where a name may be missing, and then an
+// empty field names nobody.
+fn is_named(field: &[u8], is_name: bool) -> bool {
+    let name = match name_in(field) {
+        Ok(name) => is_name && name.as_bytes() == field,
         Err(code) => !is_name && code == 5,
-    }
-}
-
-// The same where a name may be missing: an empty field names nobody.
-fn is_told_or_missing(field: &str, is_name: bool) -> bool {
-    match optional_name_in(field.as_bytes()) {
+    };
+    let optional = match optional_name_in(field) {
         Ok(Some(_)) => is_name,
         Ok(None) => field.is_empty(),
         Err(code) => !is_name && !field.is_empty() && code == 5,
+    };
+    name && optional
+}
+
+// What a field is read as, or the code of its refusal: so many names, a number up to the most that is allowed, a moment, or
+// a name.
+#[derive(Clone, Copy)]
+enum Value {
+    Names(Result<usize, u8>),
+    Number(u64, Result<u64, u8>),
+    Moment(Result<i64, u8>),
+    Name(bool),
+}
+
+fn is_read(alloc: Global, field: &[u8], value: Value) -> bool {
+    match value {
+        Value::Names(want) => count_of(alloc, field) == want,
+        Value::Number(most, want) => number_in(field, most) == want,
+        Value::Moment(want) => stamp_in(field) == want,
+        Value::Name(is_name) => is_named(field, is_name),
     }
 }
 
+const FIELDS: &[(&str, Value)] = &[
+    // Names stand between single spaces.
+    ("", Value::Names(Ok(0))),
+    ("A320", Value::Names(Ok(1))),
+    ("A320 B738", Value::Names(Ok(2))),
+    (
+        "a b c d e f g h i j k l m n o p q r s t",
+        Value::Names(Ok(20)),
+    ),
+    (" A320", Value::Names(Err(5))),
+    ("A320 ", Value::Names(Err(5))),
+    ("A320  B738", Value::Names(Err(5))),
+    ("A320 -", Value::Names(Err(5))),
+    (
+        "a b c d e f g h i j k l m n o p q r s t u",
+        Value::Names(Err(10)),
+    ),
+    (
+        "a b c d e f g h i j k l m n o p q r s t u -",
+        Value::Names(Err(5)),
+    ),
+    // Numbers have no zero in front.
+    ("0", Value::Number(300, Ok(0))),
+    ("7", Value::Number(300, Ok(7))),
+    ("300", Value::Number(300, Ok(300))),
+    ("301", Value::Number(300, Err(9))),
+    ("18446744073709551616", Value::Number(300, Err(9))),
+    ("", Value::Number(300, Err(9))),
+    ("00", Value::Number(300, Err(9))),
+    ("007", Value::Number(300, Err(9))),
+    ("-1", Value::Number(300, Err(9))),
+    ("+1", Value::Number(300, Err(9))),
+    ("1.5", Value::Number(300, Err(9))),
+    (" 1", Value::Number(300, Err(9))),
+    (
+        "18446744073709551615",
+        Value::Number(u64::MAX, Ok(u64::MAX)),
+    ),
+    // Names have one to sixteen bytes, and moments are minutes since 1970.
+    ("LN-ABC", Value::Name(true)),
+    ("ABCDEFGHIJKLMNOP", Value::Name(true)),
+    ("ABCDEFGHIJKLMNOPQ", Value::Name(false)),
+    ("-", Value::Name(false)),
+    ("A B", Value::Name(false)),
+    ("", Value::Name(false)),
+    ("1970-01-02T00:01", Value::Moment(Ok(1441))),
+    ("2025-03-01T24:00", Value::Moment(Err(6))),
+];
+
 #[test]
-fn fields_hold_names_and_moments(rt: HostRuntime) {
-    for &(field, is_name) in &[
-        ("LN-ABC", true),
-        ("ABCDEFGHIJKLMNOP", true),
-        ("ABCDEFGHIJKLMNOPQ", false),
-        ("-", false),
-        ("A B", false),
-        ("", false),
-    ] {
-        assert!(rt;
-            is_told(field, is_name) && is_told_or_missing(field, is_name),
-            "{field}"
-        );
+fn fields_are_read_by_their_grammars(rt: HostRuntime) {
+    for &(field, value) in FIELDS {
+        assert!(rt; is_read(rt.alloc(), field.as_bytes(), value), "{field}");
     }
-    assert!(rt; stamp_in(b"1970-01-02T00:01") == Ok(1441));
-    assert!(rt; stamp_in(b"2025-03-01T24:00") == Err(6));
 }
