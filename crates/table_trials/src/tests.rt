@@ -7,6 +7,7 @@ mod record_texts;
 mod records;
 mod rules_files;
 mod seeds;
+mod shown;
 mod timetables;
 mod values;
-mod wanted;
+mod whole_tables;

@@ -1,10 +1,9 @@
-//! Tables of records as texts: so many good ones, a good one before one of which some fields are others, and texts that
-//! end in several ways.
+//! Tables of records as texts: a good record before one of which some fields are others, and so many good records before
+//! an end.
 
 use fleet_rules::read_fleet;
 use std::alloc::{AllocError, Global};
 use std::process::Abort;
-use std::test::Fail;
 use tail_text::{Stopped, Table};
 use timetable_reader::read_timetable;
 
@@ -19,6 +18,15 @@ pub struct Form {
     pub record: &'static str,
     pub usual: &'static [(&'static str, &'static str)],
 }
+
+// A field, and what a record is told with each of these texts in it.
+pub type FieldTexts = (&'static str, &'static [(&'static str, Told)]);
+
+// Two fields, each before the text in it, and what a record is told with them.
+pub type Pair = (&'static str, &'static str, &'static str, &'static str, Told);
+
+// A number of good records, what stands behind them, and what the table is told.
+pub type End = (usize, &'static str, Told);
 
 // The code and the place of a refusal of this table; zeros where it is another's or memory is wanting.
 pub fn refusal_of(table: Table, stopped: Stopped) -> (u8, u64) {
@@ -78,82 +86,52 @@ fn push_changed(
     table.push('\n')
 }
 
-fn is_change_told(
-    alloc: Global,
-    form: &Form,
-    changes: &[(&str, &str)],
-    want: Told,
-) -> Result<bool, Fail> {
+// The table of so many good records and this end.
+fn push_ended(table: &mut String, form: &Form, count: usize, end: &str) -> Result<(), AllocError> {
+    push_good(table, form, count)?;
+    table.push_str(end)
+}
+
+fn is_change_told(alloc: Global, form: &Form, changes: &[(&str, &str)], want: Told) -> bool {
     let mut table = String::new(alloc);
-    push_changed(&mut table, form, changes)?;
-    Ok(told(alloc, form.table, table.as_bytes()) == want)
+    push_changed(&mut table, form, changes).is_ok()
+        && told(alloc, form.table, table.as_bytes()) == want
+}
+
+fn is_end_told(alloc: Global, form: &Form, count: usize, end: &str, want: Told) -> bool {
+    let mut table = String::new(alloc);
+    push_ended(&mut table, form, count, end).is_ok()
+        && told(alloc, form.table, table.as_bytes()) == want
 }
 
 // Asks that a record with each of these texts in each of these fields is told so.
-pub fn each_field_is_told(
-    rt: &impl Abort,
-    alloc: Global,
-    form: &Form,
-    rows: &[(&str, &[(&str, Told)])],
-) -> Result<(), Fail> {
+pub fn each_field_is_told(rt: &impl Abort, alloc: Global, form: &Form, rows: &[FieldTexts]) {
     for &(field, texts) in rows {
         for &(text, want) in texts {
             assert!(rt;
-                is_change_told(alloc, form, &[(field, text)], want)?,
+                is_change_told(alloc, form, &[(field, text)], want),
                 "{field} {text}"
             );
         }
     }
-    Ok(())
 }
 
 // Asks that a record with each of these two fields in place of its own is told so.
-pub fn each_pair_is_told(
-    rt: &impl Abort,
-    alloc: Global,
-    form: &Form,
-    rows: &[(&str, &str, &str, &str, Told)],
-) -> Result<(), Fail> {
+pub fn each_pair_is_told(rt: &impl Abort, alloc: Global, form: &Form, rows: &[Pair]) {
     for &(first, text, second, other, want) in rows {
         assert!(rt;
-            is_change_told(alloc, form, &[(first, text), (second, other)], want)?,
+            is_change_told(alloc, form, &[(first, text), (second, other)], want),
             "{first} {text} {second} {other}"
         );
     }
-    Ok(())
-}
-
-fn is_end_told(
-    alloc: Global,
-    form: &Form,
-    count: usize,
-    end: &str,
-    want: Told,
-) -> Result<bool, Fail> {
-    let mut table = String::new(alloc);
-    push_good(&mut table, form, count)?;
-    table.push_str(end)?;
-    Ok(told(alloc, form.table, table.as_bytes()) == want)
 }
 
 // Asks that so many good records with each of these ends behind them are told so.
-pub fn each_end_is_told(
-    rt: &impl Abort,
-    alloc: Global,
-    form: &Form,
-    count: usize,
-    ends: &[(&str, Told)],
-) -> Result<(), Fail> {
-    for &(end, want) in ends {
-        assert!(rt; is_end_told(alloc, form, count, end, want)?, "{end}");
-    }
-    Ok(())
-}
-
-// Asks that each of these texts is told so.
-pub fn each_text_is_told(rt: &impl Abort, alloc: Global, table: Table, rows: &[(&[u8], Told)]) {
-    for row in 0..rows.len() {
-        let (text, want) = rows[row];
-        assert!(rt; told(alloc, table, text) == want, "row {row}");
+pub fn each_end_is_told(rt: &impl Abort, alloc: Global, form: &Form, ends: &[End]) {
+    for &(count, end, want) in ends {
+        assert!(rt;
+            is_end_told(alloc, form, count, end, want),
+            "{count} and {end}"
+        );
     }
 }

@@ -1,17 +1,14 @@
-//! Tables of rules read whole: every key of every entry, the order of refusals, the limits, and a good table.
+//! Tables of rules: every key of every entry, the order of refusals, and the limits.
 
 use crate::tests::record_texts::refusal_of;
-use crate::tests::wanted::{are_names, is_airport, is_type};
-use fleet_rules::{RawCounter, RawCurfew, RawRules, read_rules};
+use fleet_rules::{RawRules, read_rules};
 use std::alloc::{AllocError, Global};
-use std::test::Fail;
-use tail_book::{AircraftType, Airport, Band, CounterKind};
 use tail_text::Table;
 
 // How many entries each key has, or the code and the place of the refusal.
-type Told = Result<[usize; 5], (u8, u64)>;
+pub type Told = Result<[usize; 5], (u8, u64)>;
 
-fn told(alloc: Global, text: &[u8]) -> Told {
+pub fn rules_told(alloc: Global, text: &[u8]) -> Told {
     match read_rules(alloc, text) {
         Ok(rules) => Ok(sizes(&rules)),
         Err(stopped) => Err(refusal_of(Table::Rules, stopped)),
@@ -79,21 +76,15 @@ fn push_entry(text: &mut String, key: &str, name: &str, value: &str) -> Result<(
 
 // Whether a table of one entry, with one key of it changed, or left out where the value is empty, is refused with this
 // code; with 0 it is good.
-fn is_told(
-    alloc: Global,
-    key: &str,
-    name: &str,
-    value: &str,
-    code: u8,
-) -> Result<bool, AllocError> {
+fn is_told(alloc: Global, key: &str, name: &str, value: &str, code: u8) -> bool {
     let mut text = String::new(alloc);
-    push_entry(&mut text, key, name, value)?;
-    Ok(told(alloc, text.as_bytes()) == wanted(key, code))
+    push_entry(&mut text, key, name, value).is_ok()
+        && rules_told(alloc, text.as_bytes()) == wanted(key, code)
 }
 
 // Each key absent, of each other kind, and beside its range or its grammar.
 #[test]
-fn each_key_is_there_and_has_its_kind(rt: HostRuntime) -> Result<(), Fail> {
+fn each_key_is_there_and_has_its_kind(rt: HostRuntime) {
     for &(key, name, kind, code) in &[
         ("type", "name", "string", 5),
         ("type", "rate", "integer", 9),
@@ -127,17 +118,16 @@ fn each_key_is_there_and_has_its_kind(rt: HostRuntime) -> Result<(), Fail> {
         ] {
             let code = if value.is_empty() { 15 } else { code };
             assert!(rt;
-                other == kind || is_told(rt.alloc(), key, name, value, code)?,
+                other == kind || is_told(rt.alloc(), key, name, value, code),
                 "{key} with {name} = {value}"
             );
         }
     }
-    Ok(())
 }
 
 // Each range and each grammar at its ends and one beside them; 0 stands for a good entry.
 #[test]
-fn ranges_end_where_they_say(rt: HostRuntime) -> Result<(), Fail> {
+fn ranges_end_where_they_say(rt: HostRuntime) {
     for &(key, name, value, code) in &[
         ("type", "name", "\"ABCDEFGHIJKLMNOP\"", 0),
         ("type", "name", "\"ABCDEFGHIJKLMNOPQ\"", 5),
@@ -209,11 +199,10 @@ fn ranges_end_where_they_say(rt: HostRuntime) -> Result<(), Fail> {
         ("band", "cost", "1000001", 9),
     ] {
         assert!(rt;
-            is_told(rt.alloc(), key, name, value, code)?,
+            is_told(rt.alloc(), key, name, value, code),
             "{key} with {name} = {value}"
         );
     }
-    Ok(())
 }
 
 // One entry of this key and none of the others.
@@ -236,57 +225,7 @@ fn wanted(key: &str, code: u8) -> Told {
     }
 }
 
-// A counter of this kind and this limit.
-fn counter_of(alloc: Global, kind: &str, limit: &str) -> Result<String, AllocError> {
-    format!(in alloc;
-        "[[counter]]\nname = \"c\"\nbases = []\nstop = 60\nkind = \"{kind}\"\nlimit = {limit}"
-    )
-}
-
-// What is kept as the limit, in minutes or landings, or the code of a table of one counter.
-fn limit_kept(alloc: Global, text: &str) -> Result<i64, u8> {
-    match read_rules(alloc, text.as_bytes()) {
-        Ok(rules) => Ok(first_limit(&rules.counters)),
-        Err(stopped) => Err(refusal_of(Table::Rules, stopped).0),
-    }
-}
-
-fn first_limit(counters: &[RawCounter]) -> i64 {
-    match counters {
-        [counter] => counter.limit,
-        _ => 0,
-    }
-}
-
-// Days have a limit of their own, and are kept as minutes.
-#[test]
-fn limits_of_days_are_kept_in_minutes(rt: HostRuntime) -> Result<(), Fail> {
-    for &(kind, limit, want) in &[
-        ("days", "0", Err(9)),
-        ("days", "1", Ok(1440)),
-        ("days", "10000", Ok(14_400_000)),
-        ("days", "10001", Err(9)),
-        ("minutes", "10001", Ok(10_001)),
-        ("landings", "10000000", Ok(10_000_000)),
-        ("landings", "10000001", Err(9)),
-    ] {
-        let text = counter_of(rt.alloc(), kind, limit)?;
-        assert!(rt; limit_kept(rt.alloc(), &text) == want, "{limit} {kind}");
-    }
-    Ok(())
-}
-
-// An array of so many good names and one more.
-fn push_names(array: &mut String, count: usize, last: &str) -> Result<(), AllocError> {
-    array.push_str("[")?;
-    for _ in 0..count {
-        array.push_str("\"A\", ")?;
-    }
-    array.push_str(last)?;
-    array.push_str("]")
-}
-
-// Whether an entry with such an array is refused with this code; with 0 it is good.
+// Whether an entry with an array of so many good names and one more is refused with this code; with 0 it is good.
 fn is_list_told(
     alloc: Global,
     key: &str,
@@ -295,14 +234,14 @@ fn is_list_told(
     last: &str,
     code: u8,
 ) -> Result<bool, AllocError> {
-    let mut array = String::new(alloc);
-    push_names(&mut array, count, last)?;
-    is_told(alloc, key, name, array.as_str(), code)
+    let names = "\"A\", ".repeat(alloc, count)?;
+    let array = format!(in alloc; "[{names}{last}]")?;
+    Ok(is_told(alloc, key, name, &array, code))
 }
 
 // Only good names are counted.
 #[test]
-fn lists_of_names_have_a_limit(rt: HostRuntime) -> Result<(), Fail> {
+fn lists_of_names_have_a_limit(rt: HostRuntime) {
     for &(key, name, count, last, code) in &[
         ("curfew", "types", 20, "", 0),
         ("curfew", "types", 20, "\"A\"", 10),
@@ -312,47 +251,40 @@ fn lists_of_names_have_a_limit(rt: HostRuntime) -> Result<(), Fail> {
         ("counter", "bases", 201, "5", 5),
     ] {
         assert!(rt;
-            is_list_told(rt.alloc(), key, name, count, last, code)?,
+            is_list_told(rt.alloc(), key, name, count, last, code).unwrap_or(false),
             "{count} {name} and {last}"
         );
     }
-    Ok(())
 }
 
-// So many good entries.
-fn push_entries(text: &mut String, key: &str, count: usize) -> Result<(), AllocError> {
-    for _ in 0..count {
-        push_entry(text, key, "", "")?;
+// As many good entries of each key as there may be.
+fn push_all(text: &mut String) -> Result<(), AllocError> {
+    for &(key, count) in &[
+        ("type", 20),
+        ("airport", 200),
+        ("curfew", 400),
+        ("counter", 6),
+        ("band", 8),
+    ] {
+        for _ in 0..count {
+            push_entry(text, key, "", "")?;
+        }
     }
     Ok(())
 }
 
-// As many entries as there may be.
-fn push_all(text: &mut String) -> Result<(), AllocError> {
-    push_entries(text, "type", 20)?;
-    push_entries(text, "airport", 200)?;
-    push_entries(text, "curfew", 400)?;
-    push_entries(text, "counter", 6)?;
-    push_entries(text, "band", 8)
-}
-
 // Whether one entry more, which is not looked at, is refused at this place.
-fn is_one_too_many(
-    alloc: Global,
-    text: &mut String,
-    key: &str,
-    place: u64,
-) -> Result<bool, AllocError> {
-    push_entry(text, key, "speed", "1")?;
-    Ok(told(alloc, text.as_bytes()) == Err((10, place)))
+fn is_one_too_many(alloc: Global, text: &mut String, key: &str, place: u64) -> bool {
+    push_entry(text, key, "speed", "1").is_ok()
+        && rules_told(alloc, text.as_bytes()) == Err((10, place))
 }
 
 // As many entries as there may be, and then one more.
 #[test]
-fn each_key_has_a_limit_of_entries(rt: HostRuntime) -> Result<(), Fail> {
+fn each_key_has_a_limit_of_entries(rt: HostRuntime) {
     let mut text = String::new(rt.alloc());
-    push_all(&mut text)?;
-    assert!(rt; told(rt.alloc(), text.as_bytes()) == Ok([20, 200, 400, 6, 8]));
+    assert!(rt; push_all(&mut text).is_ok());
+    assert!(rt; rules_told(rt.alloc(), text.as_bytes()) == Ok([20, 200, 400, 6, 8]));
     for &(key, place) in &[
         ("band", 635),
         ("counter", 627),
@@ -360,12 +292,8 @@ fn each_key_has_a_limit_of_entries(rt: HostRuntime) -> Result<(), Fail> {
         ("airport", 221),
         ("type", 21),
     ] {
-        assert!(rt;
-            is_one_too_many(rt.alloc(), &mut text, key, place)?,
-            "{key}"
-        );
+        assert!(rt; is_one_too_many(rt.alloc(), &mut text, key, place), "{key}");
     }
-    Ok(())
 }
 
 // Whole texts: what TOML makes of them, the keys of the table, and the order in which entries are looked at.
@@ -449,176 +377,28 @@ fn rules_are_read_up_to_their_first_refusal(rt: HostRuntime) {
             Err((14, 1)),
         ),
     ] {
-        assert!(rt; told(rt.alloc(), text.as_bytes()) == want, "{text}");
+        assert!(rt; rules_told(rt.alloc(), text.as_bytes()) == want, "{text}");
     }
 }
 
-// A key `band` with so many arrays in one another.
-fn push_nested(text: &mut String, deep: usize) -> Result<(), AllocError> {
-    text.push_str("band = ")?;
-    for _ in 0..deep {
-        text.push_str("[")?;
-    }
-    for _ in 0..deep {
-        text.push_str("]")?;
-    }
-    Ok(())
-}
-
+// Whether a key `band` with so many arrays in one another is told so.
 fn is_nested_told(alloc: Global, deep: usize, want: Told) -> Result<bool, AllocError> {
-    let mut text = String::new(alloc);
-    push_nested(&mut text, deep)?;
-    Ok(told(alloc, text.as_bytes()) == want)
+    let (begun, ended) = ("[".repeat(alloc, deep)?, "]".repeat(alloc, deep)?);
+    let text = format!(in alloc; "band = {begun}{ended}")?;
+    Ok(rules_told(alloc, text.as_bytes()) == want)
 }
 
 // A text that nests deeper than TOML is read here is refused as a whole.
 #[test]
-fn texts_nest_at_most_80_deep(rt: HostRuntime) -> Result<(), Fail> {
+fn texts_nest_at_most_80_deep(rt: HostRuntime) {
     for &(deep, want) in &[
         (1, Ok([0, 0, 0, 0, 0])),
         (80, Err((4, 0))),
         (81, Err((13, 0))),
     ] {
-        assert!(rt; is_nested_told(rt.alloc(), deep, want)?, "{deep}");
-    }
-    Ok(())
-}
-
-// The size and the bytes come before what is written.
-#[test]
-fn rules_have_a_size_and_are_text(rt: HostRuntime) -> Result<(), Fail> {
-    let large = vec![in rt.alloc(); 255; 16_777_217]?;
-    assert!(rt; told(rt.alloc(), large.as_slice()) == Err((1, 0)));
-    assert!(rt; told(rt.alloc(), b"[[type\xff") == Err((2, 0)));
-    Ok(())
-}
-
-// Rules with entries of each key, which the text writes in another order.
-const EACH_KEY: &str = "
-[[band]]
-upto = 59
-cost = 0
-[[band]]
-upto = 10000000
-cost = 500
-[[counter]]
-name = 'chk'
-kind = 'days'
-limit = 2
-bases = ['ARN', 'OSL']
-stop = 480
-[[counter]]
-name = 'ldg'
-kind = 'landings'
-limit = 300
-bases = []
-stop = 60
-[[counter]]
-name = 'fh'
-kind = 'minutes'
-limit = 6000
-bases = ['OSL']
-stop = 90
-[[curfew]]
-airport = 'ARN'
-from = '23:00'
-to = '06:30'
-types = ['P']
-start = false
-landing = true
-[[airport]]
-name = 'ARN'
-offset = 60
-turn = 20
-[[airport]]
-name = 'JFK'
-offset = -300
-turn = 45
-[[type]]
-name = 'P'
-rate = 7
-turn = 30
-";
-
-// Entries keep the order of the text within their key.
-#[test]
-fn entries_have_the_values_of_their_keys(rt: HostRuntime) {
-    let wrong = match read_rules(rt.alloc(), EACH_KEY.as_bytes()) {
-        Ok(rules) => wrong_of(&rules),
-        Err(_) => "refused",
-    };
-    assert!(rt; wrong.is_empty(), "{wrong}");
-}
-
-// What is wrong of those rules; nothing is empty.
-fn wrong_of(rules: &RawRules) -> &'static str {
-    if !are_types(&rules.kinds) {
-        "types"
-    } else if !are_airports(&rules.airports) {
-        "airports"
-    } else if !are_curfews(&rules.curfews) {
-        "curfews"
-    } else if !are_counters(&rules.counters) {
-        "counters"
-    } else if !are_bands(&rules.bands) {
-        "bands"
-    } else {
-        ""
-    }
-}
-
-fn are_types(kinds: &[AircraftType]) -> bool {
-    match kinds {
-        [p] => is_type(p, "P", 7, 30),
-        _ => false,
-    }
-}
-
-fn are_airports(airports: &[Airport]) -> bool {
-    match airports {
-        [arn, jfk] => is_airport(arn, "ARN", 60, 20) && is_airport(jfk, "JFK", -300, 45),
-        _ => false,
-    }
-}
-
-fn are_curfews(curfews: &[RawCurfew]) -> bool {
-    match curfews {
-        [night] => {
-            night.airport.as_bytes() == b"ARN".as_slice()
-                && (night.from, night.to) == (1380, 390)
-                && are_names(&night.types, &["P"])
-                && (night.starts, night.landings) == (false, true)
-        }
-        _ => false,
-    }
-}
-
-fn are_counters(counters: &[RawCounter]) -> bool {
-    match counters {
-        [chk, ldg, fh] => {
-            is_counter(chk, "chk", CounterKind::Days, 2880, 480)
-                && are_names(&chk.bases, &["ARN", "OSL"])
-                && is_counter(ldg, "ldg", CounterKind::Landings, 300, 60)
-                && are_names(&ldg.bases, &[])
-                && is_counter(fh, "fh", CounterKind::Minutes, 6000, 90)
-                && are_names(&fh.bases, &["OSL"])
-        }
-        _ => false,
-    }
-}
-
-fn is_counter(counter: &RawCounter, name: &str, kind: CounterKind, limit: i64, stop: i64) -> bool {
-    counter.name.as_bytes() == name.as_bytes()
-        && counter.kind == kind
-        && counter.limit == limit
-        && counter.stop == stop
-}
-
-fn are_bands(bands: &[Band]) -> bool {
-    match bands {
-        [low, high] => {
-            (low.upto, low.cost) == (59, 0) && (high.upto, high.cost) == (10_000_000, 500)
-        }
-        _ => false,
+        assert!(rt;
+            is_nested_told(rt.alloc(), deep, want).unwrap_or(false),
+            "{deep}"
+        );
     }
 }
