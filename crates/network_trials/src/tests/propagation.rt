@@ -142,166 +142,190 @@ fn closed(alloc: Global, book: &Book, facts: &[Fact]) -> Result<(Vec<Fact>, Clos
     Ok((list, answer))
 }
 
-// Whether just these facts are added to marks of a book with some, in this order, with this answer.
-fn adds(
-    alloc: Global,
-    book: Book,
-    facts: &[Fact],
-    want: &[Fact],
-    told: Closed,
-) -> Result<bool, Fail> {
+// A small book: of flights to and fro from these minutes on, with a turn, or with two hours to fly; of two flights at the same
+// time; or of two ways and one back, for two aircraft or for three.
+#[derive(Clone, Copy)]
+enum Kind {
+    Turning(i64, &'static [i64]),
+    Counting(&'static [i64]),
+    SideBySide,
+    TwoWays,
+    TwoWaysForThree,
+}
+
+fn book_of(alloc: Global, kind: Kind) -> Result<Book, Fail> {
+    match kind {
+        Kind::Turning(turn, starts) => turning(alloc, turn, starts),
+        Kind::Counting(starts) => counting(alloc, starts),
+        Kind::SideBySide => side_by_side(alloc),
+        Kind::TwoWays => two_ways(alloc),
+        Kind::TwoWaysForThree => two_ways_for_three(alloc),
+    }
+}
+
+// What is added to marks: just these facts, in this order; this fact first; or anything.
+#[derive(Clone, Copy)]
+enum Added {
+    Just(&'static [Fact]),
+    First(Fact),
+    Anything,
+}
+
+fn is_added(list: &[Fact], added: Added) -> bool {
+    match added {
+        Added::Just(facts) => list == facts,
+        Added::First(fact) => list.first().copied() == Some(fact),
+        Added::Anything => true,
+    }
+}
+
+// What a row is about, a book, facts, what is added to marks of the book with them, and the answer.
+type Follow = (&'static str, Kind, &'static [Fact], Added, Closed);
+
+fn follows(alloc: Global, row: &Follow) -> Result<bool, Fail> {
+    let &(_, kind, facts, added, told) = row;
+    let book = book_of(alloc, kind)?;
     let (list, answer) = closed(alloc, &book, facts)?;
-    Ok(list.as_slice() == want && answer == told)
+    Ok(is_added(&list, added) && answer == told)
 }
 
-// Whether this fact is the first that is added to marks of a book with some, with this answer.
-fn adds_first(
-    alloc: Global,
-    book: Book,
-    facts: &[Fact],
-    want: Fact,
-    told: Closed,
-) -> Result<bool, Fail> {
-    let (list, answer) = closed(alloc, &book, facts)?;
-    Ok(list.first().copied() == Some(want) && answer == told)
-}
+const FOLLOWS: &[Follow] = &[
+    // The second of two flights leaves a minute before the turn ends: it is dead on arrival, and that is found before the
+    // only carrier is given the first; so the second has nobody.
+    (
+        "floors come before carriers",
+        Kind::Turning(31, &[360, 450]),
+        &[],
+        Added::Just(&[Fact::Bar(0, 1), Fact::Must(0, 0)]),
+        Closed::Hole(1),
+    ),
+    // A minute later nothing is dead.
+    (
+        "turns that fit leave both",
+        Kind::Turning(30, &[360, 450]),
+        &[],
+        Added::Just(&[Fact::Must(0, 0), Fact::Must(0, 1)]),
+        Closed::Fixed,
+    ),
+    // With the first flight a Must, the third comes after three hours in the air: dead on arrival, where the stop at the base
+    // is a minute too short to clear the counter.
+    (
+        "short stops clear no floors",
+        Kind::Counting(&[360, 450, 569, 660]),
+        &[Fact::Must(0, 0)],
+        Added::First(Fact::Bar(0, 2)),
+        Closed::Hole(2),
+    ),
+    // And not where it is long enough.
+    (
+        "stops at bases clear floors",
+        Kind::Counting(&[360, 450, 570, 660]),
+        &[Fact::Must(0, 0)],
+        Added::Just(&[Fact::Must(0, 1), Fact::Must(0, 2), Fact::Must(0, 3)]),
+        Closed::Fixed,
+    ),
+    // Of two flights at the same time the second is a Must: the first is a dead end.
+    (
+        "ends are dead where more must come",
+        Kind::SideBySide,
+        &[Fact::Must(0, 1)],
+        Added::First(Fact::Bar(0, 0)),
+        Closed::Hole(0),
+    ),
+    // Where the first is a Must, the second cannot be reached.
+    (
+        "nothing comes beside a must",
+        Kind::SideBySide,
+        &[Fact::Must(0, 0)],
+        Added::First(Fact::Bar(0, 1)),
+        Closed::Hole(1),
+    ),
+    // Without a Must neither is a dead end, since the aircraft may end there.
+    (
+        "ends are free without a must",
+        Kind::SideBySide,
+        &[],
+        Added::First(Fact::Must(0, 0)),
+        Closed::Hole(1),
+    ),
+    // Back after the hour's flight passes the limit, and after that of half an hour it does not: so the one connection is cut,
+    // for both aircraft.
+    (
+        "connections that nobody can use are cut",
+        Kind::TwoWays,
+        &[],
+        Added::Just(&[Fact::Cut(0, 2)]),
+        Closed::Fixed,
+    ),
+    // After the long way only the first aircraft comes back. Where it may not, its floor is still the least of all, but the
+    // connection is dead.
+    (
+        "one comes back",
+        Kind::TwoWaysForThree,
+        &[],
+        Added::Just(&[]),
+        Closed::Fixed,
+    ),
+    (
+        "the least floor may be of one that stays",
+        Kind::TwoWaysForThree,
+        &[Fact::Bar(0, 2)],
+        Added::Just(&[Fact::Cut(0, 2)]),
+        Closed::Fixed,
+    ),
+    // It is cut once.
+    (
+        "connections are cut once",
+        Kind::TwoWays,
+        &[Fact::Cut(0, 2)],
+        Added::Just(&[]),
+        Closed::Fixed,
+    ),
+    // Where one aircraft must fly the long one, it cannot come back: the way back is dead for it before the other flight is,
+    // since the last come first.
+    (
+        "the last dead come first",
+        Kind::TwoWays,
+        &[Fact::Must(0, 0)],
+        Added::Just(&[
+            Fact::Bar(0, 2),
+            Fact::Bar(0, 1),
+            Fact::Must(1, 1),
+            Fact::Must(1, 2),
+        ]),
+        Closed::Fixed,
+    ),
+    // Two flights of four have nobody: the least is told.
+    (
+        "the least hole is told",
+        Kind::Turning(40, &[360, 450, 560, 700]),
+        &[],
+        Added::Anything,
+        Closed::Hole(1),
+    ),
+    // Also where it is the first.
+    (
+        "the first hole is told",
+        Kind::Turning(40, &[360, 450, 560, 700]),
+        &[Fact::Bar(0, 0)],
+        Added::Anything,
+        Closed::Hole(0),
+    ),
+    // And where others were barred before.
+    (
+        "holes of later bars are not told",
+        Kind::Turning(40, &[360, 450, 560, 700]),
+        &[Fact::Bar(0, 3), Fact::Bar(0, 2)],
+        Added::Anything,
+        Closed::Hole(1),
+    ),
+];
 
-// Whether this is the answer for marks of a book with some facts.
-fn tells(alloc: Global, book: Book, facts: &[Fact], told: Closed) -> Result<bool, Fail> {
-    let (_, answer) = closed(alloc, &book, facts)?;
-    Ok(answer == told)
-}
-
-// The second of two flights leaves a minute before the turn ends: it is dead on arrival, and that is found before the
-// only carrier is given the first; so the second has nobody.
 #[test]
-fn floors_come_before_carriers(rt: HostRuntime) -> Result<(), Fail> {
-    let book = turning(rt.alloc(), 31, &[360, 450])?;
-    let want = [Fact::Bar(0, 1), Fact::Must(0, 0)];
-    assert!(rt; adds(rt.alloc(), book, &[], &want, Closed::Hole(1))?);
-    Ok(())
-}
-
-// A minute later nothing is dead.
-#[test]
-fn turns_that_fit_leave_both(rt: HostRuntime) -> Result<(), Fail> {
-    let book = turning(rt.alloc(), 30, &[360, 450])?;
-    let want = [Fact::Must(0, 0), Fact::Must(0, 1)];
-    assert!(rt; adds(rt.alloc(), book, &[], &want, Closed::Fixed)?);
-    Ok(())
-}
-
-// With the first flight a Must, the third comes after three hours in the air: dead on arrival, where the stop at the base
-// is a minute too short to clear the counter.
-#[test]
-fn short_stops_clear_no_floors(rt: HostRuntime) -> Result<(), Fail> {
-    let book = counting(rt.alloc(), &[360, 450, 569, 660])?;
-    let (facts, want) = ([Fact::Must(0, 0)], Fact::Bar(0, 2));
-    assert!(rt; adds_first(rt.alloc(), book, &facts, want, Closed::Hole(2))?);
-    Ok(())
-}
-
-// And not where it is long enough.
-#[test]
-fn stops_at_bases_clear_floors(rt: HostRuntime) -> Result<(), Fail> {
-    let book = counting(rt.alloc(), &[360, 450, 570, 660])?;
-    let want = [Fact::Must(0, 1), Fact::Must(0, 2), Fact::Must(0, 3)];
-    assert!(rt; adds(rt.alloc(), book, &[Fact::Must(0, 0)], &want, Closed::Fixed)?);
-    Ok(())
-}
-
-// Of two flights at the same time the second is a Must: the first is a dead end.
-#[test]
-fn ends_are_dead_where_more_must_come(rt: HostRuntime) -> Result<(), Fail> {
-    let book = side_by_side(rt.alloc())?;
-    let (facts, want) = ([Fact::Must(0, 1)], Fact::Bar(0, 0));
-    assert!(rt; adds_first(rt.alloc(), book, &facts, want, Closed::Hole(0))?);
-    Ok(())
-}
-
-// Where the first is a Must, the second cannot be reached.
-#[test]
-fn nothing_comes_beside_a_must(rt: HostRuntime) -> Result<(), Fail> {
-    let book = side_by_side(rt.alloc())?;
-    let (facts, want) = ([Fact::Must(0, 0)], Fact::Bar(0, 1));
-    assert!(rt; adds_first(rt.alloc(), book, &facts, want, Closed::Hole(1))?);
-    Ok(())
-}
-
-// Without a Must neither is a dead end, since the aircraft may end there.
-#[test]
-fn ends_are_free_without_a_must(rt: HostRuntime) -> Result<(), Fail> {
-    let book = side_by_side(rt.alloc())?;
-    assert!(rt; adds_first(rt.alloc(), book, &[], Fact::Must(0, 0), Closed::Hole(1))?);
-    Ok(())
-}
-
-// Back after the hour's flight passes the limit, and after that of half an hour it does not: so the one connection is cut,
-// for both aircraft.
-#[test]
-fn connections_that_nobody_can_use_are_cut(rt: HostRuntime) -> Result<(), Fail> {
-    let book = two_ways(rt.alloc())?;
-    assert!(rt; adds(rt.alloc(), book, &[], &[Fact::Cut(0, 2)], Closed::Fixed)?);
-    Ok(())
-}
-
-// After the long way only the first aircraft comes back. Where it may not, its floor is still the least of all, but the
-// connection is dead.
-#[test]
-fn the_least_floor_may_be_of_one_that_stays(rt: HostRuntime) -> Result<(), Fail> {
-    let book = two_ways_for_three(rt.alloc())?;
-    assert!(rt; adds(rt.alloc(), book, &[], &[], Closed::Fixed)?);
-    let again = two_ways_for_three(rt.alloc())?;
-    let (facts, want) = ([Fact::Bar(0, 2)], [Fact::Cut(0, 2)]);
-    assert!(rt; adds(rt.alloc(), again, &facts, &want, Closed::Fixed)?);
-    Ok(())
-}
-
-// It is cut once.
-#[test]
-fn connections_are_cut_once(rt: HostRuntime) -> Result<(), Fail> {
-    let book = two_ways(rt.alloc())?;
-    assert!(rt; adds(rt.alloc(), book, &[Fact::Cut(0, 2)], &[], Closed::Fixed)?);
-    Ok(())
-}
-
-// Where one aircraft must fly the long one, it cannot come back: the way back is dead for it before the other flight is,
-// since the last come first.
-#[test]
-fn the_last_dead_come_first(rt: HostRuntime) -> Result<(), Fail> {
-    let book = two_ways(rt.alloc())?;
-    let want = [
-        Fact::Bar(0, 2),
-        Fact::Bar(0, 1),
-        Fact::Must(1, 1),
-        Fact::Must(1, 2),
-    ];
-    assert!(rt; adds(rt.alloc(), book, &[Fact::Must(0, 0)], &want, Closed::Fixed)?);
-    Ok(())
-}
-
-// Two flights of four have nobody: the least is told.
-#[test]
-fn the_least_hole_is_told(rt: HostRuntime) -> Result<(), Fail> {
-    let book = turning(rt.alloc(), 40, &[360, 450, 560, 700])?;
-    assert!(rt; tells(rt.alloc(), book, &[], Closed::Hole(1))?);
-    Ok(())
-}
-
-// Also where it is the first.
-#[test]
-fn the_first_hole_is_told(rt: HostRuntime) -> Result<(), Fail> {
-    let book = turning(rt.alloc(), 40, &[360, 450, 560, 700])?;
-    assert!(rt; tells(rt.alloc(), book, &[Fact::Bar(0, 0)], Closed::Hole(0))?);
-    Ok(())
-}
-
-// And where others were barred before.
-#[test]
-fn holes_of_later_bars_are_not_told(rt: HostRuntime) -> Result<(), Fail> {
-    let book = turning(rt.alloc(), 40, &[360, 450, 560, 700])?;
-    let facts = [Fact::Bar(0, 3), Fact::Bar(0, 2)];
-    assert!(rt; tells(rt.alloc(), book, &facts, Closed::Hole(1))?);
+fn rules_are_followed_in_order(rt: HostRuntime) -> Result<(), Fail> {
+    for row in FOLLOWS {
+        assert!(rt; follows(rt.alloc(), row)?, "{}", row.0);
+    }
     Ok(())
 }
 
@@ -318,16 +342,10 @@ fn grows_at_end(alloc: Global, again: bool) -> Result<bool, Fail> {
     )
 }
 
-// What a list has already stays at its front.
+// What a list has already stays at its front. A second call adds nothing, and answers the same.
 #[test]
 fn lists_grow_at_their_end(rt: HostRuntime) -> Result<(), Fail> {
     assert!(rt; grows_at_end(rt.alloc(), false)?);
-    Ok(())
-}
-
-// A second call adds nothing, and answers the same.
-#[test]
-fn shut_marks_stay_as_they_are(rt: HostRuntime) -> Result<(), Fail> {
     assert!(rt; grows_at_end(rt.alloc(), true)?);
     Ok(())
 }
