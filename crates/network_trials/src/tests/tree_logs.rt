@@ -4,6 +4,7 @@ ghost use Rattle.std.specs.Prelude.{All};
 ghost use Rattle.branch_marks.specs.Events.{IsNotable};
 
 use branch_marks::*;
+use std::process::Abort;
 use std::test::Fail;
 
 // A node with two steps that is split: a hole in its first branch, and a bound in its second.
@@ -27,27 +28,38 @@ fn tree() -> [Event; 9]
     ]
 }
 
-// The log holds what it was told so far after each event, and the events come back as they were told.
-#[test]
-fn events_are_kept_in_order(rt: HostRuntime) -> Result<(), Fail> {
-    let mut log = MemTree::new(rt.alloc())?;
-    let due = tree();
+// Asks that a log holds what it was told so far after each event, and that the events come back as they were told.
+fn are_kept(rt: &impl Abort, log: &mut MemTree, due: &[Event]) -> Result<(), LogFail>
+    requires { All IsNotable due.now }
+{
     for i in 0..due.len() {
         assert!(rt; log.events().len() == i, "before event {i}");
         log.note(&due[i])?;
     }
-    assert!(rt; log.events() == due.as_slice());
+    assert!(rt; log.events() == due);
     Ok(())
 }
 
-// A log that keeps nothing is told the same, and always answers.
 #[test]
-fn nothing_is_kept(rt: HostRuntime) -> Result<(), Fail> {
+fn events_are_kept_in_order(rt: HostRuntime) -> Result<(), Fail> {
+    let mut log = MemTree::new(rt.alloc())?;
+    are_kept(&rt, &mut log, &tree())?;
+    Ok(())
+}
+
+// Asks that a log that keeps nothing is told the same, and always answers.
+fn are_told(rt: &impl Abort, due: &[Event])
+    requires { All IsNotable due.now }
+{
     let mut log = NoLog;
-    for event in &tree() {
+    for event in due {
         assert!(rt; log.note(event) == Ok(()));
     }
-    Ok(())
+}
+
+#[test]
+fn nothing_is_kept(rt: HostRuntime) {
+    are_told(&rt, &tree());
 }
 
 // Rows are equal where their numbers are, whatever stands past their end.
