@@ -1,13 +1,12 @@
-//! Trials of the search: small books of every kind by chance, as the texts of three tables. Its tests search them, beside the
-//! enumeration, and search books that make it branch. Only tests call it.
+//! Trials of the search: small books of every kind by chance, as the texts of three tables, are searched beside the
+//! enumeration, and so are books that make the search branch. It has nothing but tests.
 #![tactic(auto)]
 
+#[cfg(test)]
 mod chance;
+#[cfg(test)]
 mod moments;
+#[cfg(test)]
 mod tables;
-
-pub use chance::tables_by_chance;
-pub use tables::Tables;
-
 #[cfg(test)]
 mod tests;

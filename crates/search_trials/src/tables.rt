@@ -3,7 +3,7 @@
 use std::alloc::Global;
 
 /// The timetable, the fleet and the rules, as a planner types them.
-#[derive(Debug, Drop)]
+#[derive(Drop)]
 pub struct Tables {
     pub timetable: String,
     pub fleet: String,

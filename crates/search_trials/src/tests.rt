@@ -1,8 +1,6 @@
 //! Searches of small books: beside the enumeration, at each number of nodes, and told to logs that fail; and what the nodes
 //! of a search come to.
 
-ghost use Rattle.tail_book.specs.inside.CostTable.{IsTableFor};
-
 mod beside;
 mod branching;
 mod certificates;
@@ -12,19 +10,34 @@ mod lone_flight;
 mod nodes;
 mod worked;
 
+use crate::chance::tables_by_chance;
 use book_maker::read_book;
 use branch_marks::{Event, LogFail, Row, TreeLog};
-use plan_audit::audit_plan;
+use dice::Dice;
 use std::alloc::Global;
-use std::test::Fail;
 use tail_book::*;
 
 // A log that keeps so many events, and whose writes fail then.
-#[derive(Debug, Drop)]
+#[derive(Drop)]
 struct Failing {
     room: usize,
     events: Vec<Event>,
     faults: u64,
+}
+
+impl Failing {
+    fn new(alloc: Global, room: usize) -> Failing {
+        Failing {
+            room,
+            events: Vec::new(alloc),
+            faults: 0,
+        }
+    }
+
+    // Whether it was told exactly so many of these events, the first ones, and failed once.
+    fn has_front(&self, whole: &[Event], room: usize) -> bool {
+        whole.starts_with(&self.events) && self.events.len() == room && self.faults == 1
+    }
 }
 
 impl TreeLog for Failing {
@@ -67,7 +80,7 @@ fn label(at: u32, weight: i64) -> Event {
 }
 
 // The book of the texts of a timetable, a fleet and rules.
-fn book_of(alloc: Global, texts: &[&str; 3]) -> Result<Book, Fail> {
+fn book_of(alloc: Global, texts: &[&str; 3]) -> Option<Book> {
     let [timetable, fleet, rules] = texts;
     match read_book(
         alloc,
@@ -75,8 +88,16 @@ fn book_of(alloc: Global, texts: &[&str; 3]) -> Result<Book, Fail> {
         fleet.as_bytes(),
         rules.as_bytes(),
     ) {
-        Ok(book) => Ok(book),
-        Err(_) => Err(Fail::new("no book")),
+        Ok(book) => Some(book),
+        Err(_) => None,
+    }
+}
+
+// The next book by chance.
+fn book_by_chance(alloc: Global, dice: &mut Dice) -> Option<Book> {
+    match tables_by_chance(alloc, dice) {
+        Ok(tables) => book_of(alloc, &[&tables.timetable, &tables.fleet, &tables.rules]),
+        Err(_) => None,
     }
 }
 
@@ -94,15 +115,11 @@ fn nodes_in(events: &[Event]) -> u64 {
     nodes
 }
 
-// Whether this is a legal plan of this cost.
-fn costs_so(
-    alloc: Global,
-    book: &Book,
-    table: &CostTable,
-    plan: &Plan,
-    cost: u64,
-) -> Result<bool, Memory>
-    requires { IsTableFor book.now table.now }
-{
-    Ok(audit_plan(alloc, book, table, plan)? == Some(cost))
+// Whether an outcome claims this, and counted no node at a limit.
+fn claims(outcome: &Outcome, claim: Claim) -> bool {
+    claim_of(outcome) == claim
+        && matches!(
+            outcome,
+            Outcome::Infeasible | Outcome::Optimal(_, _) | Outcome::Above { nodes: 0, .. }
+        )
 }

@@ -1,50 +1,82 @@
 //! Certificates of books by chance: what a search writes while it runs is accepted, for what it answers.
 
-use super::book_of;
-use crate::tables_by_chance;
+ghost use Rattle.std.specs.Prelude.{◌≡◌};
+ghost use Rattle.tail_book.specs.inside.CostTable.{costs_of};
+
+use super::book_by_chance;
 use branch_tree::Limit;
 use cert_checker::{Verdict, judge};
 use certified_search::{Certified, certified_search};
 use dice::Dice;
 use std::alloc::Global;
-use std::test::Fail;
 use tail_book::*;
 use tail_outside::MemSink;
 
-// What a search within the limit claims, and the verdict on what it wrote.
-fn judged(alloc: Global, book: &Book, limit: Limit) -> Result<Option<(Claim, Verdict)>, Fail> {
-    let table = CostTable::of(alloc, book)?;
-    let sink = MemSink::new(alloc, Vec::new(alloc))?;
-    let Certified { found, sink } = certified_search(alloc, book, &table, limit, sink);
-    match found {
-        Ok(outcome) => Ok(Some((claim_of(&outcome), judge(alloc, book, sink.bytes())?))),
-        Err(_) => Ok(None),
+// Whether what was written is accepted for what was found.
+fn is_accepted(alloc: Global, book: &Book, written: &Certified<MemSink>) -> bool {
+    match &written.found {
+        Ok(outcome) => {
+            judge(alloc, book, written.sink.bytes()) == Ok(Verdict::Yes(claim_of(outcome)))
+        }
+        Err(_) => false,
     }
 }
 
-// Three hundred books, each without a limit and at a few.
-#[test]
-fn certificates_are_accepted(rt: HostRuntime) -> Result<(), Fail> {
-    let mut dice = Dice::new(29);
-    for turn in 0..300u32 {
-        let tables = tables_by_chance(rt.alloc(), &mut dice)?;
-        let book = book_of(
-            rt.alloc(),
-            &[&tables.timetable, &tables.fleet, &tables.rules],
-        )?;
-        for limit in [
-            Limit::Free,
-            Limit::Nodes(0),
-            Limit::Nodes(1),
-            Limit::Nodes(3),
-        ] {
-            match judged(rt.alloc(), &book, limit)? {
-                Some((claim, verdict)) => {
-                    assert_eq!(rt; verdict, Verdict::Yes(claim), "book {turn}")
-                }
-                None => assert!(rt; false, "book {turn}"),
-            }
+// Whether a search within the limit writes what is accepted.
+fn writes_so(alloc: Global, book: &Book, table: &CostTable, limit: Limit) -> bool
+    requires { table.now ≡ costs_of book.now }
+{
+    match MemSink::new(alloc, Vec::new(alloc)) {
+        Ok(sink) => {
+            let written = certified_search(alloc, book, table, limit, sink);
+            is_accepted(alloc, book, &written)
+        }
+        Err(_) => false,
+    }
+}
+
+// Without a limit, and at a few.
+const LIMITS: [Limit; 4] = [
+    Limit::Free,
+    Limit::Nodes(0),
+    Limit::Nodes(1),
+    Limit::Nodes(3),
+];
+
+// The number of the first limit at which another thing is written, if there is one.
+fn first_wrong(alloc: Global, book: &Book, table: &CostTable) -> Option<usize>
+    requires { table.now ≡ costs_of book.now }
+{
+    for number in 0..LIMITS.len() {
+        if !writes_so(alloc, book, table, LIMITS[number]) {
+            return Some(number);
         }
     }
-    Ok(())
+    None
+}
+
+// The same by the book's own costs.
+fn first_wrong_of(alloc: Global, book: &Book) -> Option<usize> {
+    match CostTable::of(alloc, book) {
+        Ok(table) => first_wrong(alloc, book, &table),
+        Err(_) => Some(0),
+    }
+}
+
+// The same of the next book.
+fn next_wrong(alloc: Global, dice: &mut Dice) -> Option<usize> {
+    match book_by_chance(alloc, dice) {
+        Some(book) => first_wrong_of(alloc, &book),
+        None => Some(0),
+    }
+}
+
+// Three hundred books.
+#[test]
+fn certificates_are_accepted(rt: HostRuntime) {
+    let mut dice = Dice::new(29);
+    for turn in 0..300u32 {
+        let wrong = next_wrong(rt.alloc(), &mut dice);
+        assert!(rt; wrong.is_none(), "book {turn}, limit {wrong:?}");
+    }
 }

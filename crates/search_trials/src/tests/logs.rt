@@ -8,7 +8,6 @@ use branch_marks::{Event, MemTree};
 use branch_tree::{Limit, Stop, search};
 use std::alloc::Global;
 use std::process::Abort;
-use std::test::Fail;
 use tail_book::*;
 use trial_books::costs;
 
@@ -23,72 +22,85 @@ fn stops_behind(
 ) -> bool
     requires { IsTableFor book.now table.now }
 {
-    let mut log = Failing {
-        room,
-        events: Vec::new(alloc),
-        faults: 0,
-    };
+    let mut log = Failing::new(alloc, room);
     let outcome = search(alloc, book, table, limit, &mut log);
-    matches!(&outcome, Err(Stop::Log))
-        && whole.starts_with(&log.events)
-        && log.events.len() == room
-        && log.faults == 1
+    matches!(&outcome, Err(Stop::Log)) && log.has_front(whole, room)
 }
 
-// At which event a search with a failing log does not stop as it has to, if there is one.
-fn first_wrong(
+// At which of these events a search with a failing log does not stop as it has to, if there is one.
+fn first_passed(
     alloc: Global,
     book: &Book,
     table: &CostTable,
     limit: Limit,
-) -> Result<Option<usize>, Fail>
+    whole: &[Event],
+) -> Option<usize>
     requires { IsTableFor book.now table.now }
 {
-    let mut whole = MemTree::new(alloc)?;
-    if search(alloc, book, table, limit, &mut whole).is_err() {
-        return Ok(Some(0));
-    }
-    for room in 0..whole.events().len() {
-        if !stops_behind(alloc, book, table, limit, whole.events(), room) {
-            return Ok(Some(room));
+    for room in 0..whole.len() {
+        if !stops_behind(alloc, book, table, limit, whole, room) {
+            return Some(room);
         }
     }
-    Ok(None)
+    None
+}
+
+// The same of all events that the search tells; the first where it does not end.
+fn first_wrong_by(alloc: Global, book: &Book, table: &CostTable, limit: Limit) -> Option<usize>
+    requires { IsTableFor book.now table.now }
+{
+    match MemTree::new(alloc) {
+        Ok(mut whole) => {
+            if search(alloc, book, table, limit, &mut whole).is_ok() {
+                first_passed(alloc, book, table, limit, whole.events())
+            } else {
+                Some(0)
+            }
+        }
+        Err(_) => Some(0),
+    }
+}
+
+// The same by the book's own costs.
+fn first_wrong(alloc: Global, book: &Book, limit: Limit) -> Option<usize> {
+    match costs(alloc, book) {
+        Ok(table) => first_wrong_by(alloc, book, &table, limit),
+        Err(_) => Some(0),
+    }
+}
+
+fn first_wrong_of(alloc: Global, texts: &[&str; 3], limit: Limit) -> Option<usize> {
+    match book_of(alloc, texts) {
+        Some(book) => first_wrong(alloc, &book, limit),
+        None => Some(0),
+    }
 }
 
 // Asks that the searches of these books stop where their logs fail.
-fn each_stops(
-    rt: &impl Abort,
-    alloc: Global,
-    books: &[([&str; 3], Option<u64>)],
-    limit: Limit,
-) -> Result<(), Fail> {
-    for (texts, _) in books {
-        let book = book_of(alloc, texts)?;
-        let table = costs(alloc, &book)?;
-        let wrong = first_wrong(alloc, &book, &table, limit)?;
-        assert_eq!(rt; wrong, None, "{texts:?}");
+fn each_stops(rt: &impl Abort, alloc: Global, books: &[([&str; 3], Option<u64>)], limit: Limit) {
+    for (number, (texts, _)) in books.iter().enumerate() {
+        let wrong = first_wrong_of(alloc, texts, limit);
+        assert!(rt; wrong.is_none(), "book {number} of these, event {wrong:?}");
     }
-    Ok(())
 }
 
 #[test]
-fn failing_logs_have_a_front(rt: HostRuntime) -> Result<(), Fail> {
-    each_stops(&rt, rt.alloc(), &BRANCHING[..5], Limit::Free)
+fn failing_logs_have_a_front(rt: HostRuntime) {
+    each_stops(&rt, rt.alloc(), &BRANCHING[..5], Limit::Free);
 }
 
 #[test]
-fn failing_logs_of_other_books_have_a_front(rt: HostRuntime) -> Result<(), Fail> {
-    each_stops(&rt, rt.alloc(), &BRANCHING[5..], Limit::Free)
+fn failing_logs_of_other_books_have_a_front(rt: HostRuntime) {
+    each_stops(&rt, rt.alloc(), &BRANCHING[5..], Limit::Free);
 }
 
 // At a limit that leaves places open.
 #[test]
-fn failing_logs_at_a_limit_have_a_front(rt: HostRuntime) -> Result<(), Fail> {
-    each_stops(&rt, rt.alloc(), &BRANCHING[..5], Limit::Nodes(2))
+fn failing_logs_at_a_limit_have_a_front(rt: HostRuntime) {
+    each_stops(&rt, rt.alloc(), &BRANCHING[..5], Limit::Nodes(2));
 }
 
 #[test]
-fn failing_logs_of_other_books_at_a_limit_have_a_front(rt: HostRuntime) -> Result<(), Fail> {
-    each_stops(&rt, rt.alloc(), &BRANCHING[5..], Limit::Nodes(2))
+fn failing_logs_of_other_books_at_a_limit_have_a_front(rt: HostRuntime) {
+    each_stops(&rt, rt.alloc(), &BRANCHING[5..], Limit::Nodes(2));
 }

@@ -1,55 +1,102 @@
 //! Certificates in memory of a book of one flight, for which there is no aircraft: without a limit, at a limit of no nodes, and
 //! where a write fails.
 
+ghost use Rattle.std.specs.Prelude.{◌≡◌};
+ghost use Rattle.tail_book.specs.inside.CostTable.{costs_of};
+
+use super::claims;
 use branch_tree::{Limit, Stop};
-use certified_search::certified_search;
+use certified_search::{Certified, certified_search};
 use std::alloc::Global;
 use std::test::Fail;
-use tail_book::{CostTable, Outcome};
+use tail_book::*;
 use tail_outside::MemSink;
 use trial_books::{flight, plain_book};
 
-// What a search of that book answers, and what a sink took of whose calls these fail.
-fn run(
-    alloc: Global,
+// A search of that book within a limit, with a sink whose calls of these numbers fail: what it claims, or why it stops, and
+// what the sink took.
+struct Case {
+    name: &'static str,
     limit: Limit,
-    failing: Vec<u64>,
-) -> Result<(Result<Outcome, Stop>, MemSink), Fail> {
-    let book = plain_book(alloc, &[flight((0, 1), (360, 420))], &[], 30)?;
-    let table = CostTable::of(alloc, &book)?;
-    let sink = MemSink::new(alloc, failing)?;
-    let done = certified_search(alloc, &book, &table, limit, sink);
-    Ok((done.found, done.sink))
+    failing: &'static [u64],
+    found: Result<Claim, Stop>,
+    taken: &'static [u8],
 }
 
-// Nobody may fly the flight.
-#[test]
-fn a_hole_is_certified(rt: HostRuntime) -> Result<(), Fail> {
-    let alloc = rt.alloc();
-    let (found, sink) = run(alloc, Limit::Free, Vec::new(alloc))?;
-    assert!(rt; matches!(found, Ok(Outcome::Infeasible)));
-    assert!(rt; sink.bytes() == b"tailcert 1 1 0 0\nhole 0\nclaim infeasible\n".as_slice());
-    Ok(())
+// Nobody may fly the flight. Where no node may be counted the root is only priced, and nobody's routes bound anything. The
+// first write is the header, the second all the rest.
+const CASES: [Case; 4] = [
+    Case {
+        name: "a hole is certified",
+        limit: Limit::Free,
+        failing: &[],
+        found: Ok(Claim::Infeasible),
+        taken: b"tailcert 1 1 0 0\nhole 0\nclaim infeasible\n",
+    },
+    Case {
+        name: "a bound is certified",
+        limit: Limit::Nodes(0),
+        failing: &[],
+        found: Ok(Claim::Limit { low: 0, high: None }),
+        taken: b"tailcert 1 1 0 0\nbound\nclaim limit 0 -\n",
+    },
+    Case {
+        name: "a failed header stops",
+        limit: Limit::Free,
+        failing: &[1],
+        found: Err(Stop::Log),
+        taken: b"",
+    },
+    Case {
+        name: "a failed write stops",
+        limit: Limit::Free,
+        failing: &[2],
+        found: Err(Stop::Log),
+        taken: b"tailcert 1 1 0 0\n",
+    },
+];
+
+fn is_found(found: &Result<Outcome, Stop>, want: Result<Claim, Stop>) -> bool {
+    match (found, want) {
+        (Ok(outcome), Ok(claim)) => claims(outcome, claim),
+        (Err(stop), Err(due)) => *stop == due,
+        _ => false,
+    }
 }
 
-// Where no node may be counted the root is only priced, and nobody's routes bound anything.
-#[test]
-fn a_bound_is_certified(rt: HostRuntime) -> Result<(), Fail> {
-    let alloc = rt.alloc();
-    let (found, sink) = run(alloc, Limit::Nodes(0), Vec::new(alloc))?;
-    assert!(rt; matches!(found, Ok(Outcome::Above { low: 0, nodes: 0 })));
-    assert!(rt; sink.bytes() == b"tailcert 1 1 0 0\nbound\nclaim limit 0 -\n".as_slice());
-    Ok(())
+fn is_so(done: &Certified<MemSink>, case: &Case) -> bool {
+    is_found(&done.found, case.found) && done.sink.bytes() == case.taken
 }
 
-// The first write is the header, the second all the rest.
+fn sink_of(alloc: Global, failing: &[u64]) -> Result<MemSink, Memory> {
+    MemSink::new(alloc, failing.to_vec(alloc)?)
+}
+
+fn writes_so(alloc: Global, book: &Book, table: &CostTable, case: &Case) -> bool
+    requires { table.now ≡ costs_of book.now }
+{
+    match sink_of(alloc, case.failing) {
+        Ok(sink) => {
+            let done = certified_search(alloc, book, table, case.limit, sink);
+            is_so(&done, case)
+        }
+        Err(_) => false,
+    }
+}
+
+// The same by the book's own costs.
+fn is_written(alloc: Global, book: &Book, case: &Case) -> bool {
+    match CostTable::of(alloc, book) {
+        Ok(table) => writes_so(alloc, book, &table, case),
+        Err(_) => false,
+    }
+}
+
 #[test]
-fn a_failed_write_stops(rt: HostRuntime) -> Result<(), Fail> {
-    let alloc = rt.alloc();
-    for (call, taken) in [(1, b"".as_slice()), (2, b"tailcert 1 1 0 0\n".as_slice())] {
-        let (found, sink) = run(alloc, Limit::Free, vec![in alloc; call]?)?;
-        assert!(rt; matches!(found, Err(Stop::Log)));
-        assert!(rt; sink.bytes() == taken);
+fn a_lone_flight_is_certified(rt: HostRuntime) -> Result<(), Fail> {
+    let book = plain_book(rt.alloc(), &[flight((0, 1), (360, 420))], &[], 30)?;
+    for case in &CASES {
+        assert!(rt; is_written(rt.alloc(), &book, case), "{}", case.name);
     }
     Ok(())
 }

@@ -1,79 +1,59 @@
-//! A book of two flights, whose leaves are worked by hand: what pricing them comes to, what a log is told, and what it was
-//! told where it fails. Bounds and open places, each beside its ends.
+//! A book of two flights, whose nodes are worked by hand: what pricing them as leaves comes to, what a log is told, and what it
+//! was told where it fails. Bounds and open places, each beside its ends.
 
-ghost use Rattle.std.specs.Prelude.{IfOk};
-ghost use Rattle.tail_book.specs.inside.CostTable.{IsTableFor};
-ghost use Rattle.branch_marks.specs.Settled.{AreDuals};
-ghost use Rattle.branch_marks.specs.inside.MarkTables.{AreMarksOf};
-
+mod answers;
 mod memory;
 mod steps;
 
 use super::{Failing, label};
-use branch_marks::{Event, Fact, Marks, MemTree, Pair, TreeLog};
-use branch_tree::{Best, NodePricer, OpenNodes, PricedLeaf, Stop, bound_below, passes, price_leaf};
-use connection_net::Net;
+use answers::{Answer, Asked, End, ask, two_flights};
+use branch_marks::{Event, Fact, MemTree, Pair};
+use branch_tree::{Best, OpenNode, OpenNodes, Stop, bound_below, passes};
 use std::alloc::Global;
 use std::test::Fail;
 use tail_book::*;
-use trial_books::{are_duals, costs, duals_of, marks, there_and_back};
 
-// The book of two flights, for an aircraft that costs 60 an hour and one that costs 120.
-fn two_flights(alloc: Global) -> Result<Book, Fail> {
-    there_and_back(alloc, &[0, 1], 30)
-}
-
-// Prices and notes the leaf of these marks under these duals.
-fn leaf_of<L: TreeLog>(
+// What a node of these facts answers under duals of this value, and whether exactly these events were told.
+fn told(
     alloc: Global,
-    book: &Book,
-    table: &CostTable,
-    marks: &Marks,
-    duals: &Duals,
-    log: &mut L,
-) -> Result<Result<PricedLeaf, Stop>, Fail>
-    requires table { IsTableFor book.now table.now }
-    requires marks { AreMarksOf book.now marks.now }
-    requires duals { AreDuals table.now book.now duals.now.values }
-    ensures { IfOk result (λ _. AreDuals table.now book.now duals.now.values) }
-{
-    let net = Net::new(alloc, book)?;
-    let mut prices = NodePricer::new(alloc, book, table)?;
-    let leaf = price_leaf(alloc, book, table, &net, marks, duals, &mut prices, log);
-    Ok(leaf)
-}
-
-// The same with marks of these facts; nothing where the duals are not in the box.
-fn leaf_under<L: TreeLog>(
-    alloc: Global,
-    book: &Book,
-    table: &CostTable,
     facts: &[Fact],
-    duals: &Duals,
-    log: &mut L,
-) -> Result<Option<Result<PricedLeaf, Stop>>, Fail>
-    requires { IsTableFor book.now table.now }
-    ensures { IfOk result (λ _. IsTableFor book.now table.now) }
-{
-    if !are_duals(book, table, duals) {
-        return Ok(None);
+    dual: i64,
+    asked: Asked,
+    due: &[Event],
+) -> Result<(Answer, bool), Fail> {
+    let mut log = MemTree::new(alloc)?;
+    let answer = ask(alloc, facts, dual, asked, &mut log)?;
+    Ok((answer, log.events() == due))
+}
+
+// Whether a log that fails behind so many of these events stops it there, and was told those before.
+fn stops_behind(
+    alloc: Global,
+    facts: &[Fact],
+    dual: i64,
+    asked: Asked,
+    due: &[Event],
+    room: usize,
+) -> Result<bool, Fail> {
+    let mut log = Failing::new(alloc, room);
+    let answer = ask(alloc, facts, dual, asked, &mut log)?;
+    Ok(matches!(answer.first, End::Stopped(Stop::Log)) && log.has_front(due, room))
+}
+
+// At which of these events a log that fails does not stop it as it has to, if there is one.
+fn first_passed(
+    alloc: Global,
+    facts: &[Fact],
+    dual: i64,
+    asked: Asked,
+    due: &[Event],
+) -> Result<Option<usize>, Fail> {
+    for room in 0..due.len() {
+        if !stops_behind(alloc, facts, dual, asked, due, room)? {
+            return Ok(Some(room));
+        }
     }
-    let marks = marks(alloc, book, facts)?;
-    let leaf = leaf_of(alloc, book, table, &marks, duals, log)?;
-    Ok(Some(leaf))
-}
-
-// The same of the book of two flights, by its own costs.
-fn priced<L: TreeLog>(
-    alloc: Global,
-    facts: &[Fact],
-    duals: &[i64],
-    log: &mut L,
-) -> Result<Option<Result<PricedLeaf, Stop>>, Fail> {
-    let book = two_flights(alloc)?;
-    let table = costs(alloc, &book)?;
-    let duals = duals_of(alloc, duals)?;
-    leaf_under(alloc, &book, &table, facts, &duals, log)
+    Ok(None)
 }
 
 // With duals of 70 each, what the first aircraft flies for 60 an hour weighs 10 less than nothing, and then 20; what the
@@ -94,79 +74,99 @@ fn bound() -> [Event; 9] {
 
 #[test]
 fn bound_is_told(rt: HostRuntime) -> Result<(), Fail> {
-    let mut log = MemTree::new(rt.alloc())?;
-    let leaf = priced(rt.alloc(), &[], &[70_000, 70_000], &mut log)?;
-    assert_eq!(rt; leaf, Some(Ok(PricedLeaf::Bounded(120_000))));
-    assert_eq!(rt; log.events(), bound().as_slice());
+    let (answer, is_told) = told(rt.alloc(), &[], 70_000, Asked::Leaf, &bound())?;
+    assert!(rt; matches!(answer.first, End::Bounded(120_000)));
+    assert!(rt; is_told);
     Ok(())
 }
 
 // The first aircraft has to fly back, and may not come there from the first flight: its label there is told, under duals of 0.
 #[test]
 fn stuck_is_told(rt: HostRuntime) -> Result<(), Fail> {
-    let mut log = MemTree::new(rt.alloc())?;
     let facts = [Fact::Must(0, 1), Fact::Cut(0, 1)];
-    let leaf = priced(rt.alloc(), &facts, &[70_000, 70_000], &mut log)?;
-    assert_eq!(rt; leaf, Some(Ok(PricedLeaf::Stuck)));
-    assert_eq!(rt;
-        log.events(),
-        [Event::Stuck(0), label(0, 60_000)].as_slice()
-    );
+    let due = [Event::Stuck(0), label(0, 60_000)];
+    let (answer, is_told) = told(rt.alloc(), &facts, 70_000, Asked::Leaf, &due)?;
+    assert!(rt; matches!(answer.first, End::Stuck));
+    assert!(rt; is_told);
     Ok(())
 }
 
 // A log that fails at an event was told those before it.
 #[test]
 fn failing_logs_have_a_front(rt: HostRuntime) -> Result<(), Fail> {
-    let due = bound();
-    for room in 0..due.len() {
-        let mut log = Failing {
-            room,
-            events: Vec::new(rt.alloc()),
-            faults: 0,
-        };
-        let leaf = priced(rt.alloc(), &[], &[70_000, 70_000], &mut log)?;
-        assert_eq!(rt; leaf, Some(Err(Stop::Log)), "at event {room}");
-        assert_eq!(rt; log.events.as_slice(), &due[..room], "at event {room}");
-        assert_eq!(rt; log.faults, 1);
-    }
+    let passed = first_passed(rt.alloc(), &[], 70_000, Asked::Leaf, &bound())?;
+    assert!(rt; passed.is_none(), "at event {passed:?}");
     Ok(())
+}
+
+// A sum, a target, and the bound that leaves a plan below it, if there is one.
+const TARGETS: [(i128, u64, Option<u64>); 7] = [
+    (119_001, 120, None),
+    (119_000, 120, Some(119)),
+    (118_500, 120, Some(119)),
+    (118_000, 120, Some(118)),
+    (-5, 1, Some(0)),
+    (-5, 0, None),
+    (1, 1, None),
+];
+
+fn reaches_so(sum: i128, target: u64, below: Option<u64>) -> bool {
+    bound_below(sum, target) == below && passes(sum, target) == below.is_none()
 }
 
 // A bound reaches a target where it passes what a plan of one unit less comes to, and every bound reaches 0.
 #[test]
 fn bounds_reach_targets(rt: HostRuntime) {
-    for (sum, target, want) in [
-        (119_001, 120, None),
-        (119_000, 120, Some(119)),
-        (118_500, 120, Some(119)),
-        (118_000, 120, Some(118)),
-        (-5, 1, Some(0)),
-        (-5, 0, None),
-        (1, 1, None),
-    ] {
-        assert_eq!(rt; bound_below(sum, target), want, "{sum} and {target}");
-        assert_eq!(rt; passes(sum, target), want.is_none(), "{sum} and {target}");
+    for &(sum, target, below) in &TARGETS {
+        assert!(rt; reaches_so(sum, target, below), "{sum} and {target}");
     }
 }
 
-// Before a plan is known, one more than any plan costs is to be undercut.
+// Whether no plan is known at first, and one more than any plan costs is to be undercut.
+fn starts_above_all(table: &CostTable) -> bool {
+    let best = Best::none(table);
+    best.plan.is_none() && best.target == table.greatest_cost() + 1
+}
+
+fn first_target_is_so(alloc: Global, book: &Book) -> bool {
+    match CostTable::of(alloc, book) {
+        Ok(table) => starts_above_all(&table),
+        Err(_) => false,
+    }
+}
+
 #[test]
 fn first_target_is_above_all(rt: HostRuntime) -> Result<(), Fail> {
     let book = two_flights(rt.alloc())?;
-    let table = CostTable::of(rt.alloc(), &book)?;
-    let best = Best::none(&table);
-    assert!(rt; best.plan.is_none());
-    assert_eq!(rt; best.target, table.greatest_cost() + 1);
+    assert!(rt; first_target_is_so(rt.alloc(), &book));
     Ok(())
 }
 
-// Takes the root, and puts the branches of its split there. Whether it had no facts, and zeros for duals.
-fn split_root(alloc: Global, places: &mut OpenNodes) -> Result<bool, Fail> {
-    let root = places.pop().ok_or("no root")?;
-    let here = &root;
-    places.push_branches(alloc, &[Fact::Bar(1, 0)], &here.duals, Pair::Fly(0, 1))?;
-    Ok(here.facts.is_empty() && here.duals.values.as_slice() == [0i64, 0].as_slice())
+fn root_places(alloc: Global) -> Result<OpenNodes, Fail> {
+    let book = two_flights(alloc)?;
+    Ok(OpenNodes::with_root(alloc, &book)?)
+}
+
+// Whether a place has no facts, and zeros for duals.
+fn is_bare(place: &OpenNode) -> bool {
+    place.facts.is_empty() && place.duals.values.as_slice() == [0i64, 0].as_slice()
+}
+
+// Puts the branches of the root's split there. Whether the root is bare.
+fn split(alloc: Global, places: &mut OpenNodes, root: &OpenNode) -> bool {
+    let facts = [Fact::Bar(1, 0)];
+    is_bare(root)
+        && places
+            .push_branches(alloc, &facts, &root.duals, Pair::Fly(0, 1))
+            .is_ok()
+}
+
+// Takes the root, and puts the branches of its split there. Whether it was bare.
+fn split_root(alloc: Global, places: &mut OpenNodes) -> bool {
+    match places.pop() {
+        Some(root) => split(alloc, places, &root),
+        None => false,
+    }
 }
 
 // Takes the next place. Whether it has these facts.
@@ -180,12 +180,10 @@ fn comes_next(places: &mut OpenNodes, facts: &[Fact]) -> bool {
 // The root, and then the two branches of its split, the first one first.
 #[test]
 fn places_come_first_branch_first(rt: HostRuntime) -> Result<(), Fail> {
-    let book = two_flights(rt.alloc())?;
-    let mut places = OpenNodes::with_root(rt.alloc(), &book)?;
-    assert!(rt; split_root(rt.alloc(), &mut places)?);
-    for want in [Fact::Must(0, 1), Fact::Bar(0, 1)] {
-        assert!(rt; comes_next(&mut places, &[Fact::Bar(1, 0), want]));
-    }
+    let mut places = root_places(rt.alloc())?;
+    assert!(rt; split_root(rt.alloc(), &mut places));
+    assert!(rt; comes_next(&mut places, &[Fact::Bar(1, 0), Fact::Must(0, 1)]));
+    assert!(rt; comes_next(&mut places, &[Fact::Bar(1, 0), Fact::Bar(0, 1)]));
     assert!(rt; places.pop().is_none());
     Ok(())
 }

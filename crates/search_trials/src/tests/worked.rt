@@ -1,10 +1,11 @@
 //! Searches of books that are known by hand, with all that they tell.
 
-use super::{book_of, label};
+ghost use Rattle.tail_book.specs.inside.CostTable.{IsTableFor};
+
+use super::{book_of, claims, label};
 use branch_marks::{Event, MemTree};
 use branch_tree::{Limit, search};
 use std::alloc::Global;
-use std::test::Fail;
 use tail_book::*;
 use trial_books::costs;
 
@@ -26,46 +27,83 @@ const RULES: &str = "[[type]]\nname = \"P\"\nrate = 1\nturn = 30\n\
 [[airport]]\nname = \"ARN\"\noffset = 60\nturn = 20\n\
 [[airport]]\nname = \"OSL\"\noffset = 60\nturn = 20\n";
 
-// Searches the flights under a limit, and tells the log.
-fn searched(
+// Whether a search by this table claims this.
+fn is_claimed_by(
     alloc: Global,
-    timetable: &str,
-    fleet: &str,
+    book: &Book,
+    table: &CostTable,
     limit: Limit,
+    claim: Claim,
     log: &mut MemTree,
-) -> Result<Outcome, Fail> {
-    let book = book_of(alloc, &[timetable, fleet, RULES])?;
-    let table = costs(alloc, &book)?;
-    match search(alloc, &book, &table, limit, log) {
-        Ok(outcome) => Ok(outcome),
-        Err(_) => Err(Fail::new("no outcome")),
+) -> bool
+    requires { IsTableFor book.now table.now }
+{
+    match search(alloc, book, table, limit, log) {
+        Ok(outcome) => claims(&outcome, claim),
+        Err(_) => false,
+    }
+}
+
+// The same by the book's own costs.
+fn is_claimed(alloc: Global, book: &Book, limit: Limit, claim: Claim, log: &mut MemTree) -> bool {
+    match costs(alloc, book) {
+        Ok(table) => is_claimed_by(alloc, book, &table, limit, claim, log),
+        Err(_) => false,
+    }
+}
+
+// The same of these flights and aircraft.
+fn is_claimed_of(
+    alloc: Global,
+    texts: &[&str; 3],
+    limit: Limit,
+    claim: Claim,
+    log: &mut MemTree,
+) -> bool {
+    match book_of(alloc, texts) {
+        Some(book) => is_claimed(alloc, &book, limit, claim, log),
+        None => false,
+    }
+}
+
+// Whether these events were told, if it is asked for them.
+fn are_told(log: &MemTree, told: Option<&[Event]>) -> bool {
+    match told {
+        Some(events) => log.events() == events,
+        None => true,
+    }
+}
+
+// Whether a search claims this and tells this.
+fn is_searched(
+    alloc: Global,
+    texts: &[&str; 3],
+    limit: Limit,
+    claim: Claim,
+    told: Option<&[Event]>,
+) -> bool {
+    match MemTree::new(alloc) {
+        Ok(mut log) => {
+            is_claimed_of(alloc, texts, limit, claim, &mut log) && are_told(&log, told)
+        }
+        Err(_) => false,
     }
 }
 
 // The root is a hole, and nothing else is told.
 #[test]
-fn nobody_flies(rt: HostRuntime) -> Result<(), Fail> {
-    for limit in [Limit::Free, Limit::Nodes(1), Limit::Nodes(u64::MAX)] {
-        let mut log = MemTree::new(rt.alloc())?;
-        let outcome = searched(rt.alloc(), ONE_FLIGHT, NOBODY, limit, &mut log)?;
-        assert!(rt; matches!(outcome, Outcome::Infeasible));
-        assert_eq!(rt; log.events(), [Event::Hole(0)].as_slice());
+fn nobody_flies(rt: HostRuntime) {
+    let texts = [ONE_FLIGHT, NOBODY, RULES];
+    let told = [Event::Hole(0)];
+    for limit in &[Limit::Free, Limit::Nodes(1), Limit::Nodes(u64::MAX)] {
+        let is_so = is_searched(rt.alloc(), &texts, *limit, Claim::Infeasible, Some(&told));
+        assert!(rt; is_so, "{limit:?}");
     }
-    Ok(())
 }
 
 // The root is priced with zeros, and each aircraft might fly either for what it costs.
 #[test]
-fn no_node_is_counted(rt: HostRuntime) -> Result<(), Fail> {
-    let mut log = MemTree::new(rt.alloc())?;
-    let outcome = searched(
-        rt.alloc(),
-        AT_ONCE,
-        CHEAP_AND_DEAR,
-        Limit::Nodes(0),
-        &mut log,
-    )?;
-    assert!(rt; matches!(outcome, Outcome::Above { low: 0, nodes: 0 }));
+fn no_node_is_counted(rt: HostRuntime) {
     let told = [
         Event::Bound,
         Event::Cover(0, 0),
@@ -75,17 +113,17 @@ fn no_node_is_counted(rt: HostRuntime) -> Result<(), Fail> {
         label(0, 120_000),
         label(1, 240_000),
     ];
-    assert_eq!(rt; log.events(), told.as_slice());
-    Ok(())
+    let texts = [AT_ONCE, CHEAP_AND_DEAR, RULES];
+    let claim = Claim::Limit { low: 0, high: None };
+    assert!(rt; is_searched(rt.alloc(), &texts, Limit::Nodes(0), claim, Some(&told)));
 }
 
 // With four undecided pairs no tree has more than 31 nodes. The cheap aircraft has to fly the longer flight.
 #[test]
-fn cheap_aircraft_flies_longer(rt: HostRuntime) -> Result<(), Fail> {
-    for limit in [Limit::Free, Limit::Nodes(31), Limit::Nodes(u64::MAX)] {
-        let mut log = MemTree::new(rt.alloc())?;
-        let outcome = searched(rt.alloc(), AT_ONCE, CHEAP_AND_DEAR, limit, &mut log)?;
-        assert!(rt; matches!(outcome, Outcome::Optimal(_, 240)));
+fn cheap_aircraft_flies_longer(rt: HostRuntime) {
+    let texts = [AT_ONCE, CHEAP_AND_DEAR, RULES];
+    for limit in &[Limit::Free, Limit::Nodes(31), Limit::Nodes(u64::MAX)] {
+        let is_so = is_searched(rt.alloc(), &texts, *limit, Claim::Optimal(240), None);
+        assert!(rt; is_so, "{limit:?}");
     }
-    Ok(())
 }
