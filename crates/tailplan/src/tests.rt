@@ -22,17 +22,44 @@ use book_maker::read_book;
 use std::alloc::Global;
 use std::process::Abort;
 use std::test::Fail;
-use tail_book::Book;
+use tail_book::{Book, Memory};
 use tail_outside::{MemFile, MemFiles, MemSink};
 use trial_texts::{
-    FLEET, ONE_AT_ARLANDA, RULES, Seen, THERE_AND_BACK, TIMETABLE, table_files, text_of, words_of,
+    FLEET, ONE_AT_ARLANDA, RULES, Seen, THERE_AND_BACK, TIMETABLE, file_of, table_files, text_of,
+    words_of,
 };
 
 const WORDS: [&str; 4] = ["tailplan", "t", "f", "r"];
 
 const USAGE: &str = "usage: tailplan TIMETABLE FLEET RULES [--nodes N] [--cert FILE]\n";
 
+/// A run: its words, the pieces of its tables, the calls of the files and of the sink that fail, and the status and the text
+/// that it ends with.
+#[derive(Clone, Copy)]
+struct Run<'a> {
+    words: &'a [&'a str],
+    timetable: &'a [&'a str],
+    fleet: &'a [&'a str],
+    rules: &'a [&'a str],
+    calls: &'a [u64],
+    puts: &'a [u64],
+    status: u8,
+    printed: &'a str,
+}
+
 // Two flights and one aircraft, under the usual rules.
+const USUAL: Run<'_> = Run {
+    words: &WORDS,
+    timetable: &[TIMETABLE, THERE_AND_BACK],
+    fleet: &[FLEET, ONE_AT_ARLANDA],
+    rules: &[RULES],
+    calls: &[],
+    puts: &[],
+    status: 0,
+    printed: "optimal 120\nA1: F1 F2\n",
+};
+
+// The files of its tables.
 fn usual_files(alloc: Global) -> Result<Vec<MemFile>, Fail> {
     table_files(
         alloc,
@@ -40,6 +67,28 @@ fn usual_files(alloc: Global) -> Result<Vec<MemFile>, Fail> {
         &[FLEET, ONE_AT_ARLANDA],
         &[RULES],
     )
+}
+
+// Adds a file of this name.
+fn push_file(
+    alloc: Global,
+    files: &mut Vec<MemFile>,
+    name: &str,
+    bytes: Vec<u8>,
+) -> Result<(), Fail> {
+    let file = file_of(alloc, name, bytes)?;
+    Ok(files.push(file)?)
+}
+
+// Adds a file of this name, of these pieces.
+fn push_text(
+    alloc: Global,
+    files: &mut Vec<MemFile>,
+    name: &str,
+    pieces: &[&str],
+) -> Result<(), Fail> {
+    let bytes = text_of(alloc, pieces)?;
+    push_file(alloc, files, name, bytes)
 }
 
 // The book of the texts of three tables.
@@ -58,81 +107,107 @@ fn book_of(
     }
 }
 
-// A run over these files, where these calls of the files and of the sink fail.
-fn run_failing(
+// What is seen of a run by these words over these files, where these calls of the sink fail.
+fn seen_by(alloc: Global, words: &[String], files: MemFiles, puts: &[u64]) -> Result<Seen, Memory> {
+    let puts = Vec::from_slice(alloc, puts)?;
+    let mut sink = MemSink::new(alloc, puts)?;
+    let status = solve_run(alloc, words, files, &mut sink).status;
+    let printed = sink.bytes().to_vec(alloc)?;
+    Ok(Seen {
+        status: status.0,
+        printed,
+    })
+}
+
+// The same of a run over these files, of whose calls these fail.
+fn seen_over(
     alloc: Global,
     words: &[&str],
     files: Vec<MemFile>,
     calls: &[u64],
     puts: &[u64],
 ) -> Result<Seen, Fail> {
+    let calls = Vec::from_slice(alloc, calls)?;
+    let files = MemFiles::new(alloc, files, calls)?;
     let words = words_of(alloc, words)?;
-    let files = MemFiles::new(alloc, files, Vec::from_slice(alloc, calls)?)?;
-    let mut sink = MemSink::new(alloc, Vec::from_slice(alloc, puts)?)?;
-    let ran = solve_run(alloc, &words, files, &mut sink);
-    Seen::of(alloc, ran.status.0, &sink)
+    Ok(seen_by(alloc, &words, files, puts)?)
 }
 
-// A run over these files, in which nothing fails.
-fn run_over(alloc: Global, words: &[&str], files: Vec<MemFile>) -> Result<Seen, Fail> {
-    run_failing(alloc, words, files, &[], &[])
-}
-
-// A run over the texts of three tables.
-fn run_on(alloc: Global, timetable: &[&str], fleet: &[&str], rules: &[&str]) -> Result<Seen, Fail> {
-    run_with(alloc, &WORDS, timetable, fleet, rules)
-}
-
-// The same by these words.
-fn run_with(
+// Whether a run over these files, in which nothing fails, ends so.
+fn ends_over(
     alloc: Global,
     words: &[&str],
-    timetable: &[&str],
-    fleet: &[&str],
-    rules: &[&str],
-) -> Result<Seen, Fail> {
-    run_over(alloc, words, table_files(alloc, timetable, fleet, rules)?)
-}
-
-// Whether a run over these records, these aircraft, and the usual rules with these behind them ends so.
-fn ends_so(
-    alloc: Global,
-    records: &str,
-    aircraft: &str,
-    more_rules: &str,
+    files: Vec<MemFile>,
     status: u8,
     printed: &str,
 ) -> Result<bool, Fail> {
-    let seen = run_on(
-        alloc,
-        &[TIMETABLE, records],
-        &[FLEET, aircraft],
-        &[RULES, more_rules],
-    )?;
+    let seen = seen_over(alloc, words, files, &[], &[])?;
     Ok(seen.is(status, printed))
 }
 
-// The same, under these rules alone.
-fn ends_under(
+// Whether a run over the usual files, of whose calls this one fails, and this one of the sink, ends so.
+fn ends_failing(
     alloc: Global,
-    records: &str,
-    aircraft: &str,
-    rules: &str,
-    status: u8,
-    printed: &str,
+    words: &[&str],
+    call: u64,
+    put: u64,
+    ended: (u8, &str),
 ) -> Result<bool, Fail> {
-    let seen = run_on(alloc, &[TIMETABLE, records], &[FLEET, aircraft], &[rules])?;
-    Ok(seen.is(status, printed))
+    let files = usual_files(alloc)?;
+    let seen = seen_over(alloc, words, files, &[call], &[put])?;
+    Ok(seen.is(ended.0, ended.1))
+}
+
+// What is seen of a run.
+fn seen_of(alloc: Global, run: &Run<'_>) -> Result<Seen, Fail> {
+    let files = table_files(alloc, run.timetable, run.fleet, run.rules)?;
+    seen_over(alloc, run.words, files, run.calls, run.puts)
+}
+
+// Whether it ends so.
+fn ends_so(alloc: Global, run: &Run<'_>) -> Result<bool, Fail> {
+    let seen = seen_of(alloc, run)?;
+    Ok(seen.is(run.status, run.printed))
+}
+
+// Each run ends so.
+fn each_run_ends_so(rt: &impl Abort, alloc: Global, runs: &[Run<'_>]) -> Result<(), Fail> {
+    for (row, run) in runs.iter().enumerate() {
+        assert!(rt; ends_so(alloc, run)?, "row {row}");
+    }
+    Ok(())
 }
 
 // A run's records of the timetable, its aircraft and its rules, and the status and the text that it ends with.
 type Case<'a> = (&'a str, &'a str, &'a str, u8, &'a str);
 
-// Each run ends so, over the usual rules with these behind them.
-fn each_ends_so(rt: &impl Abort, alloc: Global, cases: &[Case<'_>]) -> Result<(), Fail> {
-    for (records, aircraft, rules, status, printed) in cases {
-        let ends = ends_so(alloc, records, aircraft, rules, *status, printed)?;
-        assert!(rt; ends, "{records}{aircraft}{rules}");
+// Whether a run ends so, with these rules before its own.
+fn case_ends_so<'a>(alloc: Global, before: &'a str, case: &Case<'a>) -> Result<bool, Fail> {
+    let &(records, aircraft, rules, status, printed) = case;
+    let files = table_files(
+        alloc,
+        &[TIMETABLE, records],
+        &[FLEET, aircraft],
+        &[before, rules],
+    )?;
+    ends_over(alloc, &WORDS, files, status, printed)
+}
+
+// Each run of these tables ends so, with these rules before its own.
+fn each_ends_so<'a>(
+    rt: &impl Abort,
+    alloc: Global,
+    before: &'a str,
+    tables: &[&[Case<'a>]],
+) -> Result<(), Fail> {
+    for &cases in tables {
+        for case in cases {
+            let (records, aircraft, rules, _, _) = case;
+            assert!(rt;
+                case_ends_so(alloc, before, case)?,
+                "{records}{aircraft}{rules}"
+            );
+        }
     }
     Ok(())
 }

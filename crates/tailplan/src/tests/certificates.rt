@@ -2,10 +2,11 @@
 
 use super::*;
 use cert_checker::{Verdict, judge};
+use run_frame::Ran;
 use tail_book::Claim;
 use trial_texts::{
     AT_ONCE, CHEAP_AND_DEAR, DEAR_TYPE, LONGER_TURN, THERE, THREE_LANDINGS, TWO_AT_ARLANDA,
-    WITH_A_STOP, file_of,
+    WITH_A_STOP,
 };
 
 /// How a run ended, what it printed, and what the certificate's file holds then.
@@ -15,40 +16,60 @@ pub struct Left {
     pub cert: Vec<u8>,
 }
 
-/// The run by these words over these files, of whose calls these fail.
+// What a run left.
+fn left_in(alloc: Global, ran: &Ran<MemFiles>, sink: &MemSink) -> Result<Left, Fail> {
+    let cert = ran.files.bytes("c").unwrap_or(b"gone".as_slice());
+    let cert = cert.to_vec(alloc)?;
+    let seen = Seen::of(alloc, ran.status.0, sink)?;
+    Ok(Left { seen, cert })
+}
+
+// What a run by these words over these files leaves.
+fn left_of(alloc: Global, words: &[String], files: MemFiles) -> Result<Left, Fail> {
+    let mut sink = MemSink::new(alloc, Vec::new(alloc))?;
+    let ran = solve_run(alloc, words, files, &mut sink);
+    left_in(alloc, &ran, &sink)
+}
+
+/// The same, where these calls of the files fail.
 pub fn left_by(
     alloc: Global,
     words: &[&str],
     files: Vec<MemFile>,
-    failing: Vec<u64>,
+    failing: &[u64],
 ) -> Result<Left, Fail> {
-    let words = words_of(alloc, words)?;
+    let failing = Vec::from_slice(alloc, failing)?;
     let files = MemFiles::new(alloc, files, failing)?;
-    let mut sink = MemSink::new(alloc, Vec::new(alloc))?;
-    let ran = solve_run(alloc, &words, files, &mut sink);
-    let seen = Seen::of(alloc, ran.status.0, &sink)?;
-    let cert = ran.files.bytes("c").unwrap_or(b"gone".as_slice());
-    Ok(Left {
-        seen,
-        cert: cert.to_vec(alloc)?,
-    })
+    let words = words_of(alloc, words)?;
+    left_of(alloc, &words, files)
 }
 
-/// The files of these tables, with a longer file under the certificate's name.
-pub fn files_with_old(
-    alloc: Global,
-    records: &str,
-    aircraft: &str,
-    more_rules: &str,
-) -> Result<Vec<MemFile>, Fail> {
+/// A run's words, its records, its aircraft and the rules behind the usual ones.
+#[derive(Clone, Copy)]
+pub struct Asked<'a> {
+    pub words: &'a [&'a str],
+    pub records: &'a str,
+    pub aircraft: &'a str,
+    pub rules: &'a str,
+}
+
+// The files of its tables, with a longer file under the certificate's name.
+fn files_with_old(alloc: Global, asked: &Asked<'_>) -> Result<Vec<MemFile>, Fail> {
+    let old = vec![in alloc; b'x'; 4_000]?;
     let mut files = table_files(
         alloc,
-        &[TIMETABLE, records],
-        &[FLEET, aircraft],
-        &[RULES, more_rules],
+        &[TIMETABLE, asked.records],
+        &[FLEET, asked.aircraft],
+        &[RULES, asked.rules],
     )?;
-    files.push(file_of(alloc, "c", vec![in alloc; b'x'; 4_000]?)?)?;
+    push_file(alloc, &mut files, "c", old)?;
     Ok(files)
+}
+
+/// What it leaves over these, where these calls of the files fail.
+pub fn left_over_old(alloc: Global, asked: &Asked<'_>, failing: &[u64]) -> Result<Left, Fail> {
+    let files = files_with_old(alloc, asked)?;
+    left_by(alloc, asked.words, files, failing)
 }
 
 /// The words that ask for a certificate, with a limit of no nodes behind them or not.
@@ -56,33 +77,47 @@ pub const CERTIFIED: &[&str] = &["tailplan", "t", "f", "r", "--cert", "c"];
 
 pub const BOUNDED: &[&str] = &["tailplan", "t", "f", "r", "--cert", "c", "--nodes", "0"];
 
-// No aircraft; a turn a minute short, which leaves the second flight to nobody; and a bound of nothing.
+/// Two flights at once, of which the dear aircraft flies one.
+pub const CROSSED: Asked<'_> = Asked {
+    words: CERTIFIED,
+    records: AT_ONCE,
+    aircraft: CHEAP_AND_DEAR,
+    rules: DEAR_TYPE,
+};
+
+/// The same, where no node is counted.
+pub const LIMITED: Asked<'_> = Asked {
+    words: BOUNDED,
+    ..CROSSED
+};
+
+// A flight that nobody is there to fly.
+const UNFLOWN: Asked<'_> = Asked {
+    words: CERTIFIED,
+    records: THERE,
+    aircraft: "",
+    rules: "",
+};
+
+// Whether a run ends with this status and writes this certificate.
+fn is_written(alloc: Global, asked: &Asked<'_>, status: u8, cert: &str) -> Result<bool, Fail> {
+    let left = left_over_old(alloc, asked, &[])?;
+    Ok(left.seen.status == status && left.cert.as_slice() == cert.as_bytes())
+}
+
+// No aircraft, and a bound of nothing.
 #[test]
 fn certificates_are_written(rt: HostRuntime) -> Result<(), Fail> {
-    let alloc = rt.alloc();
-    for &(words, records, aircraft, rules, status, cert) in &[
+    for (asked, status, cert) in &[
+        (UNFLOWN, 1, "tailcert 1 1 0 0\nhole 0\nclaim infeasible\n"),
         (
-            CERTIFIED,
-            THERE,
-            "",
-            "",
-            1,
-            "tailcert 1 1 0 0\nhole 0\nclaim infeasible\n",
-        ),
-        (
-            BOUNDED,
-            AT_ONCE,
-            CHEAP_AND_DEAR,
-            DEAR_TYPE,
+            LIMITED,
             4,
             "tailcert 1 2 2 0\nbound\ncover 0 0\nlabel 0 60000\nlabel 1 120000\ncover 1 0\n\
 label 0 120000\nlabel 1 240000\nclaim limit 0 -\n",
         ),
     ] {
-        let files = files_with_old(alloc, records, aircraft, rules)?;
-        let left = left_by(alloc, words, files, Vec::new(alloc))?;
-        assert!(rt; left.seen.status == status);
-        assert!(rt; left.cert.as_slice() == cert.as_bytes());
+        assert!(rt; is_written(rt.alloc(), asked, *status, cert)?, "{cert}");
     }
     Ok(())
 }
@@ -90,32 +125,51 @@ label 0 120000\nlabel 1 240000\nclaim limit 0 -\n",
 // A turn of 31 minutes where there are 30: the steps are told, and then the hole.
 #[test]
 fn steps_are_written(rt: HostRuntime) -> Result<(), Fail> {
-    let alloc = rt.alloc();
     let files = table_files(
-        alloc,
+        rt.alloc(),
         &[TIMETABLE, THERE_AND_BACK],
         &[FLEET, ONE_AT_ARLANDA],
         &[LONGER_TURN],
     )?;
-    let left = left_by(alloc, CERTIFIED, files, Vec::new(alloc))?;
-    assert!(rt; left.seen.is(1, "infeasible\n"));
-    let cert = "tailcert 1 2 1 0\nbar 0 1\nmust 0 0\nhole 1\nclaim infeasible\n";
-    assert!(rt; left.cert.as_slice() == cert.as_bytes());
+    let left = left_by(rt.alloc(), CERTIFIED, files, &[])?;
+    let cert = b"tailcert 1 2 1 0\nbar 0 1\nmust 0 0\nhole 1\nclaim infeasible\n".as_slice();
+    assert!(rt;
+        left.seen.is(1, "infeasible\n") && left.cert.as_slice() == cert,
+        "{left:?}"
+    );
     Ok(())
+}
+
+// Whether a run ends with this status and leaves the file as it was.
+fn is_untouched(alloc: Global, asked: &Asked<'_>, status: u8) -> Result<bool, Fail> {
+    let left = left_over_old(alloc, asked, &[])?;
+    Ok(left.seen.status == status && left.cert.len() == 4_000)
 }
 
 // Where the words or a table are refused the file is as it was.
 #[test]
 fn refusals_leave_the_file(rt: HostRuntime) -> Result<(), Fail> {
-    let alloc = rt.alloc();
-    for (words, records, status) in [
-        (CERTIFIED, "F1,flight,ARN\n", 3),
-        (&["tailplan", "t", "f", "--cert", "c"], THERE, 2),
+    for (asked, status) in &[
+        (
+            Asked {
+                words: CERTIFIED,
+                records: "F1,flight,ARN\n",
+                aircraft: ONE_AT_ARLANDA,
+                rules: "",
+            },
+            3,
+        ),
+        (
+            Asked {
+                words: &["tailplan", "t", "f", "--cert", "c"],
+                records: THERE,
+                aircraft: ONE_AT_ARLANDA,
+                rules: "",
+            },
+            2,
+        ),
     ] {
-        let files = files_with_old(alloc, records, ONE_AT_ARLANDA, "")?;
-        let left = left_by(alloc, words, files, Vec::new(alloc))?;
-        assert!(rt; left.seen.status == status);
-        assert!(rt; left.cert.len() == 4_000);
+        assert!(rt; is_untouched(rt.alloc(), asked, *status)?, "{status}");
     }
     Ok(())
 }
@@ -135,25 +189,44 @@ fn ends_as_it_may(left: &Left, whole: &Left) -> bool {
     }
 }
 
+// Whether a run of which this call fails ends as it may, with a failed read where it is one of the first six.
+fn call_leaves_a_front(
+    alloc: Global,
+    asked: &Asked<'_>,
+    call: u64,
+    whole: &Left,
+) -> Result<bool, Fail> {
+    let left = left_over_old(alloc, asked, &[call])?;
+    Ok(ends_as_it_may(&left, whole) && (left.seen.status == 5) == (call < 7))
+}
+
+fn calls_leave_a_front(rt: &impl Abort, alloc: Global, asked: &Asked<'_>) -> Result<(), Fail> {
+    let whole = left_over_old(alloc, asked, &[])?;
+    for call in 1..13 {
+        assert!(rt; call_leaves_a_front(alloc, asked, call, &whole)?, "{call}");
+    }
+    Ok(())
+}
+
 // Each call of the files fails in turn: six reads, and then the writes.
 #[test]
 fn failed_calls_leave_a_front(rt: HostRuntime) -> Result<(), Fail> {
-    let alloc = rt.alloc();
-    for &(words, records, aircraft, rules) in &[
-        (CERTIFIED, THERE, "", ""),
-        (CERTIFIED, AT_ONCE, CHEAP_AND_DEAR, DEAR_TYPE),
-        (BOUNDED, AT_ONCE, CHEAP_AND_DEAR, DEAR_TYPE),
-    ] {
-        let files = files_with_old(alloc, records, aircraft, rules)?;
-        let whole = left_by(alloc, words, files, Vec::new(alloc))?;
-        for call in 1..13 {
-            let files = files_with_old(alloc, records, aircraft, rules)?;
-            let left = left_by(alloc, words, files, vec![in alloc; call]?)?;
-            assert!(rt; ends_as_it_may(&left, &whole), "{call}");
-            assert!(rt; (left.seen.status == 5) == (call < 7), "{call}");
-        }
+    for asked in &[UNFLOWN, CROSSED, LIMITED] {
+        calls_leave_a_front(&rt, rt.alloc(), asked)?;
     }
     Ok(())
+}
+
+/// What the checker says of a text as a certificate of the texts of three tables.
+pub fn judged(
+    alloc: Global,
+    timetable: &[&str],
+    fleet: &[&str],
+    rules: &[&str],
+    cert: &[u8],
+) -> Result<Verdict, Fail> {
+    let book = book_of(alloc, timetable, fleet, rules)?;
+    Ok(judge(alloc, &book, cert)?)
 }
 
 /// The verdict on the certificate that is left by a run over these texts.
@@ -163,10 +236,9 @@ pub fn verdict_on(
     fleet: &[&str],
     rules: &[&str],
 ) -> Result<Verdict, Fail> {
-    let book = book_of(alloc, &[TIMETABLE, records], fleet, rules)?;
     let files = table_files(alloc, &[TIMETABLE, records], fleet, rules)?;
-    let left = left_by(alloc, CERTIFIED, files, Vec::new(alloc))?;
-    Ok(judge(alloc, &book, &left.cert)?)
+    let left = left_by(alloc, CERTIFIED, files, &[])?;
+    judged(alloc, &[TIMETABLE, records], fleet, rules, &left.cert)
 }
 
 // What is written is accepted: a plan of least cost, one in which a dear arrival survives, and that there is none.
@@ -183,7 +255,7 @@ fn certificates_are_accepted(rt: HostRuntime) -> Result<(), Fail> {
         (THERE_AND_BACK, "", "", Claim::Infeasible),
     ] {
         let verdict = verdict_on(rt.alloc(), records, &[FLEET, aircraft], &[RULES, rules])?;
-        assert_eq!(rt; verdict, Verdict::Yes(claim));
+        assert!(rt; verdict == Verdict::Yes(claim), "{claim:?}");
     }
     Ok(())
 }

@@ -1,11 +1,28 @@
 //! Least plans: what is flown by whom, in which order, and what is printed of it.
 
-use super::ends_so;
+use super::{Case, Run, USUAL, each_ends_so, each_run_ends_so};
 use std::test::Fail;
 use trial_texts::{
-    AT_ONCE, CHEAP_AND_DEAR, DEAR_TYPE, ONE_AT_ARLANDA, ONE_EACH, THERE, THERE_AND_BACK,
-    TWO_AT_ARLANDA,
+    AT_ONCE, CHEAP_AND_DEAR, DEAR_TYPE, FLEET, ONE_AT_ARLANDA, ONE_EACH, RULES, THERE,
+    THERE_AND_BACK, TIMETABLE, TWO_AT_ARLANDA,
 };
+
+#[test]
+fn least_plans_are_printed(rt: HostRuntime) -> Result<(), Fail> {
+    each_ends_so(
+        &rt,
+        rt.alloc(),
+        RULES,
+        &[
+            AMPLE_MEMORY,
+            NOT_GREEDY,
+            EMPTY,
+            ORDERS,
+            ONE_FOR_ALL,
+            TOO_MANY,
+        ],
+    )
+}
 
 // Ten flights over Arlanda, with half an hour between each two.
 const TEN_AT_ARLANDA: &str = "F0,flight,ARN,ARN,2025-03-03T06:00,2025-03-03T07:00,,,,\n\
@@ -20,177 +37,164 @@ F8,flight,ARN,ARN,2025-03-03T18:00,2025-03-03T19:00,,,,\n\
 F9,flight,ARN,ARN,2025-03-03T19:30,2025-03-03T20:30,,,,\n";
 
 // Where memory doesn't run out, a run has an answer.
-#[test]
-fn answers_with_ample_memory(rt: HostRuntime) -> Result<(), Fail> {
-    let ends = ends_so(
-        rt.alloc(),
-        THERE_AND_BACK,
+const AMPLE_MEMORY: &[Case<'_>] = &[(
+    THERE_AND_BACK,
+    ONE_AT_ARLANDA,
+    "",
+    0,
+    "optimal 120\nA1: F1 F2\n",
+)];
+
+// Two flights at once: the cheap aircraft has to fly the longer one, though it stands first and could take the shorter.
+const NOT_GREEDY: &[Case<'_>] = &[(
+    AT_ONCE,
+    CHEAP_AND_DEAR,
+    DEAR_TYPE,
+    0,
+    "optimal 240\nA1: F2\nA2: F1\n",
+)];
+
+// Nothing to fly, and nobody to fly it.
+const EMPTY: &[Case<'_>] = &[
+    ("", TWO_AT_ARLANDA, "", 0, "optimal 0\nA1:\nA2:\n"),
+    ("", "", "", 0, "optimal 0\n"),
+    (THERE, "", "", 1, "infeasible\n"),
+];
+
+// Activities are numbered by start and then by id, whatever the order of their table; the fleet keeps its order.
+const ORDERS: &[Case<'_>] = &[
+    (
+        ONE_EACH,
+        TWO_AT_ARLANDA,
+        "",
+        0,
+        "optimal 120\nA1: FB\nA2: FA\n",
+    ),
+    (
+        "F3,flight,ARN,OSL,2025-03-03T09:00,2025-03-03T11:00,,,,\n\
+F1,flight,ARN,OSL,2025-03-03T06:00,2025-03-03T07:00,,,,\n\
+F2,flight,OSL,ARN,2025-03-03T07:30,2025-03-03T08:30,,,,\n",
         ONE_AT_ARLANDA,
         "",
         0,
-        "optimal 120\nA1: F1 F2\n",
-    )?;
-    assert!(rt; ends);
-    Ok(())
-}
-
-// Two flights at once: the cheap aircraft has to fly the longer one, though it stands first and could take the shorter.
-#[test]
-fn greedy_is_not_least(rt: HostRuntime) -> Result<(), Fail> {
-    let ends = ends_so(
-        rt.alloc(),
-        AT_ONCE,
-        CHEAP_AND_DEAR,
-        DEAR_TYPE,
-        0,
-        "optimal 240\nA1: F2\nA2: F1\n",
-    )?;
-    assert!(rt; ends);
-    Ok(())
-}
-
-// Nothing to fly, and nobody to fly it.
-#[test]
-fn empty_tables_have_answers(rt: HostRuntime) -> Result<(), Fail> {
-    for &(records, aircraft, status, printed) in &[
-        ("", TWO_AT_ARLANDA, 0, "optimal 0\nA1:\nA2:\n"),
-        ("", "", 0, "optimal 0\n"),
-        (THERE, "", 1, "infeasible\n"),
-    ] {
-        let ends = ends_so(rt.alloc(), records, aircraft, "", status, printed)?;
-        assert!(rt; ends, "{printed}");
-    }
-    Ok(())
-}
-
-// Activities are numbered by start and then by id, whatever the order of their table; the fleet keeps its order.
-#[test]
-fn the_order_of_a_table_is_free(rt: HostRuntime) -> Result<(), Fail> {
-    for &(records, aircraft, printed) in &[
-        (ONE_EACH, TWO_AT_ARLANDA, "optimal 120\nA1: FB\nA2: FA\n"),
-        (
-            "F3,flight,ARN,OSL,2025-03-03T09:00,2025-03-03T11:00,,,,\n\
-F1,flight,ARN,OSL,2025-03-03T06:00,2025-03-03T07:00,,,,\n\
-F2,flight,OSL,ARN,2025-03-03T07:30,2025-03-03T08:30,,,,\n",
-            ONE_AT_ARLANDA,
-            "optimal 240\nA1: F1 F2 F3\n",
-        ),
-        (
-            THERE,
-            "B,P,OSL,2025-03-03T05:00,0,,,\nA,P,ARN,2025-03-03T05:00,0,,,\n",
-            "optimal 60\nB:\nA: F1\n",
-        ),
-    ] {
-        let ends = ends_so(rt.alloc(), records, aircraft, "", 0, printed)?;
-        assert!(rt; ends, "{printed}");
-    }
-    Ok(())
-}
-
-// Any of the four may fly each of the ten.
-#[test]
-fn the_aircraft_without_a_dear_start_flies_all(rt: HostRuntime) -> Result<(), Fail> {
-    let ends = ends_so(
-        rt.alloc(),
-        TEN_AT_ARLANDA,
-        "A1,P,ARN,2025-03-03T05:00,3,,,\nA2,P,ARN,2025-03-03T05:00,2,,,\n\
-A3,P,ARN,2025-03-03T05:00,1,,,\nA4,P,ARN,2025-03-03T05:00,4,,,\n",
+        "optimal 240\nA1: F1 F2 F3\n",
+    ),
+    (
+        THERE,
+        "B,P,OSL,2025-03-03T05:00,0,,,\nA,P,ARN,2025-03-03T05:00,0,,,\n",
         "",
         0,
-        "optimal 610\nA1:\nA2:\nA3: F0 F1 F2 F3 F4 F5 F6 F7 F8 F9\nA4:\n",
-    )?;
-    assert!(rt; ends);
-    Ok(())
-}
+        "optimal 60\nB:\nA: F1\n",
+    ),
+];
+
+// Any of the four may fly each of the ten.
+const ONE_FOR_ALL: &[Case<'_>] = &[(
+    TEN_AT_ARLANDA,
+    "A1,P,ARN,2025-03-03T05:00,3,,,\nA2,P,ARN,2025-03-03T05:00,2,,,\n\
+A3,P,ARN,2025-03-03T05:00,1,,,\nA4,P,ARN,2025-03-03T05:00,4,,,\n",
+    "",
+    0,
+    "optimal 610\nA1:\nA2:\nA3: F0 F1 F2 F3 F4 F5 F6 F7 F8 F9\nA4:\n",
+)];
 
 // An eleventh flight and a fifth aircraft: one flies them all.
 #[test]
 fn five_aircraft_and_eleven_flights_are_planned(rt: HostRuntime) -> Result<(), Fail> {
-    let mut records = String::from_str(rt.alloc(), TEN_AT_ARLANDA)?;
-    records.push_str("FA,flight,ARN,ARN,2025-03-03T21:00,2025-03-03T22:00,,,,\n")?;
-    let ends = ends_so(
-        rt.alloc(),
-        &records,
-        "A1,P,ARN,2025-03-03T05:00,3,,,\nA2,P,ARN,2025-03-03T05:00,2,,,\n\
+    let runs: &[Run<'_>] = &[Run {
+        timetable: &[
+            TIMETABLE,
+            TEN_AT_ARLANDA,
+            "FA,flight,ARN,ARN,2025-03-03T21:00,2025-03-03T22:00,,,,\n",
+        ],
+        fleet: &[
+            FLEET,
+            "A1,P,ARN,2025-03-03T05:00,3,,,\nA2,P,ARN,2025-03-03T05:00,2,,,\n\
 A3,P,ARN,2025-03-03T05:00,1,,,\nA4,P,ARN,2025-03-03T05:00,4,,,\nA5,P,ARN,2025-03-03T05:00,5,,,\n",
-        "",
-        0,
-        "optimal 671\nA1:\nA2:\nA3: F0 F1 F2 F3 F4 F5 F6 F7 F8 F9 FA\nA4:\nA5:\n",
-    )?;
-    assert!(rt; ends);
-    Ok(())
+        ],
+        printed: "optimal 671\nA1:\nA2:\nA3: F0 F1 F2 F3 F4 F5 F6 F7 F8 F9 FA\nA4:\nA5:\n",
+        ..USUAL
+    }];
+    each_run_ends_so(&rt, rt.alloc(), runs)
 }
 
-// Eleven flights at once leave no plan for one aircraft.
-#[test]
-fn eleven_flights_at_once_need_more_than_one(rt: HostRuntime) -> Result<(), Fail> {
-    let mut records = String::new(rt.alloc());
-    for name in [
-        "F0", "F1", "F2", "F3", "F4", "F5", "F6", "F7", "F8", "F9", "FA",
-    ] {
-        records.push_str(name)?;
-        records.push_str(",flight,ARN,OSL,2025-03-03T06:00,2025-03-03T07:00,,,,\n")?;
-    }
-    let ends = ends_so(rt.alloc(), &records, ONE_AT_ARLANDA, "", 1, "infeasible\n")?;
-    assert!(rt; ends);
-    Ok(())
-}
+// Eleven flights at one moment.
+const ELEVEN_AT_ONCE: &str = "F0,flight,ARN,OSL,2025-03-03T06:00,2025-03-03T07:00,,,,\n\
+F1,flight,ARN,OSL,2025-03-03T06:00,2025-03-03T07:00,,,,\n\
+F2,flight,ARN,OSL,2025-03-03T06:00,2025-03-03T07:00,,,,\n\
+F3,flight,ARN,OSL,2025-03-03T06:00,2025-03-03T07:00,,,,\n\
+F4,flight,ARN,OSL,2025-03-03T06:00,2025-03-03T07:00,,,,\n\
+F5,flight,ARN,OSL,2025-03-03T06:00,2025-03-03T07:00,,,,\n\
+F6,flight,ARN,OSL,2025-03-03T06:00,2025-03-03T07:00,,,,\n\
+F7,flight,ARN,OSL,2025-03-03T06:00,2025-03-03T07:00,,,,\n\
+F8,flight,ARN,OSL,2025-03-03T06:00,2025-03-03T07:00,,,,\n\
+F9,flight,ARN,OSL,2025-03-03T06:00,2025-03-03T07:00,,,,\n\
+FA,flight,ARN,OSL,2025-03-03T06:00,2025-03-03T07:00,,,,\n";
+
+// They leave no plan for one aircraft.
+const TOO_MANY: &[Case<'_>] = &[(ELEVEN_AT_ONCE, ONE_AT_ARLANDA, "", 1, "infeasible\n")];
 
 // A leap day, and the last minute that a table can name.
 #[test]
 fn the_calendar_has_these_moments(rt: HostRuntime) -> Result<(), Fail> {
-    for &(records, aircraft, status, printed) in &[
-        (
-            "F1,flight,ARN,OSL,2000-02-29T00:00,2000-02-29T01:00,,,,\n",
-            "A1,P,ARN,2000-02-28T23:59,0,,,\n",
-            0,
-            "optimal 60\nA1: F1\n",
-        ),
-        (
-            "F1,flight,ARN,OSL,1970-01-01T00:00,1970-01-01T00:01,,,,\n",
-            "A1,P,ARN,1970-01-01T00:00,0,,,\n",
-            0,
-            "optimal 1\nA1: F1\n",
-        ),
-        (
-            "F1,flight,ARN,OSL,2199-12-30T23:59,2199-12-31T23:59,,,,\n",
-            "A1,P,ARN,2199-12-30T23:59,0,,,\n",
-            0,
-            "optimal 1440\nA1: F1\n",
-        ),
-        (
-            "F1,flight,ARN,OSL,2100-02-28T23:00,2100-02-29T00:00,,,,\n",
-            ONE_AT_ARLANDA,
-            3,
-            "refused 6 timetable 2\n",
-        ),
-        (
-            "F1,flight,ARN,OSL,2025-03-03T23:00,2025-03-03T24:00,,,,\n",
-            ONE_AT_ARLANDA,
-            3,
-            "refused 6 timetable 2\n",
-        ),
-        (
-            "F1,flight,ARN,OSL,2025-3-03T06:00,2025-03-03T07:00,,,,\n",
-            ONE_AT_ARLANDA,
-            3,
-            "refused 6 timetable 2\n",
-        ),
-        (
-            THERE,
-            "A1,P,ARN,1969-12-31T23:59,0,,,\n",
-            3,
-            "refused 6 fleet 2\n",
-        ),
-        (
-            THERE,
-            "A1,P,ARN,2200-01-01T00:00,0,,,\n",
-            3,
-            "refused 6 fleet 2\n",
-        ),
-    ] {
-        let ends = ends_so(rt.alloc(), records, aircraft, "", status, printed)?;
-        assert!(rt; ends, "{records}{aircraft}");
-    }
-    Ok(())
+    each_ends_so(&rt, rt.alloc(), RULES, &[MOMENTS])
 }
+
+const MOMENTS: &[Case<'_>] = &[
+    (
+        "F1,flight,ARN,OSL,2000-02-29T00:00,2000-02-29T01:00,,,,\n",
+        "A1,P,ARN,2000-02-28T23:59,0,,,\n",
+        "",
+        0,
+        "optimal 60\nA1: F1\n",
+    ),
+    (
+        "F1,flight,ARN,OSL,1970-01-01T00:00,1970-01-01T00:01,,,,\n",
+        "A1,P,ARN,1970-01-01T00:00,0,,,\n",
+        "",
+        0,
+        "optimal 1\nA1: F1\n",
+    ),
+    (
+        "F1,flight,ARN,OSL,2199-12-30T23:59,2199-12-31T23:59,,,,\n",
+        "A1,P,ARN,2199-12-30T23:59,0,,,\n",
+        "",
+        0,
+        "optimal 1440\nA1: F1\n",
+    ),
+    (
+        "F1,flight,ARN,OSL,2100-02-28T23:00,2100-02-29T00:00,,,,\n",
+        ONE_AT_ARLANDA,
+        "",
+        3,
+        "refused 6 timetable 2\n",
+    ),
+    (
+        "F1,flight,ARN,OSL,2025-03-03T23:00,2025-03-03T24:00,,,,\n",
+        ONE_AT_ARLANDA,
+        "",
+        3,
+        "refused 6 timetable 2\n",
+    ),
+    (
+        "F1,flight,ARN,OSL,2025-3-03T06:00,2025-03-03T07:00,,,,\n",
+        ONE_AT_ARLANDA,
+        "",
+        3,
+        "refused 6 timetable 2\n",
+    ),
+    (
+        THERE,
+        "A1,P,ARN,1969-12-31T23:59,0,,,\n",
+        "",
+        3,
+        "refused 6 fleet 2\n",
+    ),
+    (
+        THERE,
+        "A1,P,ARN,2200-01-01T00:00,0,,,\n",
+        "",
+        3,
+        "refused 6 fleet 2\n",
+    ),
+];

@@ -1,7 +1,8 @@
 //! Trials: the tables of a seed, planned, certified and judged in memory.
 
-use super::{USAGE, book_of, run_failing, run_over, usual_files};
-use crate::run::solve_run;
+use super::{
+    Run, USAGE, USUAL, book_of, each_run_ends_so, ends_failing, ends_over, push_text, seen_by,
+};
 use crate::trial::{Checker, Judge, Tried, is_accepted, run_trial};
 use branch_tree::Limit;
 use cert_checker::{Verdict, judge};
@@ -11,22 +12,25 @@ use std::alloc::Global;
 use std::process::Abort;
 use std::test::Fail;
 use tail_book::{Book, Claim, CostTable, Memory, Outcome};
-use tail_outside::{MemFiles, MemSink};
-use trial_texts::{
-    FLEET, ONE_AT_ARLANDA, RULES, Seen, THERE_AND_BACK, TIMETABLE, file_of, text_of,
-};
+use tail_outside::{MemFile, MemFiles, MemSink};
+use trial_texts::{FLEET, ONE_AT_ARLANDA, RULES, Seen, THERE_AND_BACK, TIMETABLE};
+
+const TRIAL: &[&str] = &["tailplan", "trial", "1"];
 
 const PRINTED: &str = "trial 1 activities 120 aircraft 8\noptimal 21418\ncheck yes\n";
 
-// The trial of a seed, with no file there.
-fn trial_of(alloc: Global, seed: &str) -> Result<Seen, Fail> {
-    run_over(alloc, &["tailplan", "trial", seed], Vec::new(alloc))
+// Whether the trial of a seed, with no file there, finds this cost.
+fn costs_so(alloc: Global, seed: &str, cost: &str) -> Result<bool, Fail> {
+    let due = format!(in alloc;
+        "trial {seed} activities 120 aircraft 8\noptimal {cost}\ncheck yes\n"
+    )?;
+    let words = ["tailplan", "trial", seed];
+    ends_over(alloc, &words, Vec::new(alloc), 0, &due)
 }
 
 // The costs are sums that another program made, which draws as the definition says and plans nothing.
 #[test]
 fn trials_cost_what_was_made(rt: HostRuntime) -> Result<(), Fail> {
-    let alloc = rt.alloc();
     for &(seed, cost) in &[
         ("0", "21737"),
         ("1", "21418"),
@@ -49,13 +53,7 @@ fn trials_cost_what_was_made(rt: HostRuntime) -> Result<(), Fail> {
         ("18", "21180"),
         ("19", "20832"),
     ] {
-        let size = " activities 120 aircraft 8\noptimal ";
-        let due = text_of(alloc, &["trial ", seed, size, cost, "\ncheck yes\n"])?;
-        let seen = trial_of(alloc, seed)?;
-        assert!(rt;
-            seen.status == 0 && seen.printed.as_slice() == due.as_slice(),
-            "{seed}"
-        );
+        assert!(rt; costs_so(rt.alloc(), seed, cost)?, "{seed}");
     }
     Ok(())
 }
@@ -63,33 +61,31 @@ fn trials_cost_what_was_made(rt: HostRuntime) -> Result<(), Fail> {
 // Each line is one call, and a write that fails ends the trial. No file is touched: the first call of one would fail.
 #[test]
 fn a_failed_write_ends_a_trial(rt: HostRuntime) -> Result<(), Fail> {
-    for &(put, status, printed) in &[
-        (1, 6, ""),
-        (2, 6, "trial 1 activities 120 aircraft 8\n"),
-        (3, 6, "trial 1 activities 120 aircraft 8\noptimal 21418\n"),
-        (4, 0, PRINTED),
+    for &(put, ended) in &[
+        (1, (6, "")),
+        (2, (6, "trial 1 activities 120 aircraft 8\n")),
+        (3, (6, "trial 1 activities 120 aircraft 8\noptimal 21418\n")),
+        (4, (0, PRINTED)),
     ] {
-        let (words, files) = (["tailplan", "trial", "1"], usual_files(rt.alloc())?);
-        let seen = run_failing(rt.alloc(), &words, files, &[1], &[put])?;
-        assert!(rt; seen.is(status, printed), "{put}");
+        assert!(rt; ends_failing(rt.alloc(), TRIAL, 1, put, ended)?, "{put}");
     }
     Ok(())
 }
 
-// The trial of seed 1, or that memory ran out in what is made for it or kept of it.
-fn trial_or_no_memory(alloc: Global) -> Result<Seen, Memory> {
+// The words that ask for the trial of seed 1, or that memory ran out.
+fn trial_words(alloc: Global) -> Result<Vec<String>, Memory> {
     let mut words = Vec::new(alloc);
-    for word in ["tailplan", "trial", "1"] {
+    for word in TRIAL {
         words.push(String::from_str(alloc, word)?)?;
     }
+    Ok(words)
+}
+
+// What is seen of it, or that memory ran out in what is made for it or kept of it.
+fn trial_or_no_memory(alloc: Global) -> Result<Seen, Memory> {
+    let words = trial_words(alloc)?;
     let files = MemFiles::new(alloc, Vec::new(alloc), Vec::new(alloc))?;
-    let mut sink = MemSink::new(alloc, Vec::new(alloc))?;
-    let ran = solve_run(alloc, &words, files, &mut sink);
-    let printed = sink.bytes().to_vec(alloc)?;
-    Ok(Seen {
-        status: ran.status.0,
-        printed,
-    })
+    seen_by(alloc, &words, files, &[])
 }
 
 // Whether a trial had the memory that it takes, and then printed all. One that had not printed a front of it.
@@ -114,37 +110,61 @@ fn a_trial_without_memory_prints_a_front(rt: HostRuntime) -> Result<(), Fail> {
     Ok(())
 }
 
+// Adds the usual files, where the timetable's has this name.
+fn push_tables(alloc: Global, files: &mut Vec<MemFile>, name: &str) -> Result<(), Fail> {
+    push_text(alloc, files, name, &[TIMETABLE, THERE_AND_BACK])?;
+    push_text(alloc, files, "f", &[FLEET, ONE_AT_ARLANDA])?;
+    push_text(alloc, files, "r", &[RULES])
+}
+
+// Whether a run ends so whose timetable is in a file of this name.
+fn ends_named(alloc: Global, name: &str, status: u8, printed: &str) -> Result<bool, Fail> {
+    let mut files = Vec::new(alloc);
+    push_tables(alloc, &mut files, name)?;
+    ends_over(alloc, &["tailplan", name, "f", "r"], files, status, printed)
+}
+
 // A timetable in a file of that name, under a path and under the bare name.
 #[test]
 fn a_timetable_may_be_called_trial(rt: HostRuntime) -> Result<(), Fail> {
-    let alloc = rt.alloc();
-    for (name, status, printed) in [
+    for &(name, status, printed) in &[
         ("./trial", 0, "optimal 120\nA1: F1 F2\n"),
         ("trial", 2, USAGE),
     ] {
-        let timetable = file_of(alloc, name, text_of(alloc, &[TIMETABLE, THERE_AND_BACK])?)?;
-        let fleet = file_of(alloc, "f", text_of(alloc, &[FLEET, ONE_AT_ARLANDA])?)?;
-        let rules = file_of(alloc, "r", text_of(alloc, &[RULES])?)?;
-        let files = vec![in alloc; timetable, fleet, rules]?;
-        let seen = run_over(alloc, &["tailplan", name, "f", "r"], files)?;
-        assert!(rt; seen.is(status, printed), "{name}");
+        assert!(rt; ends_named(rt.alloc(), name, status, printed)?, "{name}");
     }
     Ok(())
 }
 
+// Words that ask for no trial and name no tables.
+const REFUSED: Run<'_> = Run {
+    status: 2,
+    printed: USAGE,
+    ..USUAL
+};
+
 // Seeds that are too great, not a number, or not alone.
 #[test]
 fn other_seeds_are_refused(rt: HostRuntime) -> Result<(), Fail> {
-    for &words in &[
-        ["tailplan", "trial", "1000001"].as_slice(),
-        &["tailplan", "trial", "01"],
-        &["tailplan", "trial"],
-        &["tailplan", "trial", "1", "--nodes", "5"],
-    ] {
-        let seen = run_over(rt.alloc(), words, usual_files(rt.alloc())?)?;
-        assert!(rt; seen.is(2, USAGE), "{words:?}");
-    }
-    Ok(())
+    let runs: &[Run<'_>] = &[
+        Run {
+            words: &["tailplan", "trial", "1000001"],
+            ..REFUSED
+        },
+        Run {
+            words: &["tailplan", "trial", "01"],
+            ..REFUSED
+        },
+        Run {
+            words: &["tailplan", "trial"],
+            ..REFUSED
+        },
+        Run {
+            words: &["tailplan", "trial", "1", "--nodes", "5"],
+            ..REFUSED
+        },
+    ];
+    each_run_ends_so(&rt, rt.alloc(), runs)
 }
 
 /// The checker, with what it was asked: how many texts, and what the last that it accepted claims.
@@ -177,31 +197,41 @@ fn the_certificate_of_a_trial_is_judged(rt: HostRuntime) -> Result<(), Fail> {
     let mut sink = MemSink::new(alloc, Vec::new(alloc))?;
     let status = run_trial(alloc, 1, &mut asked, &mut sink);
     assert!(rt; status.0 == 0 && sink.bytes() == PRINTED.as_bytes());
-    assert_eq!(rt; asked.texts, 1);
-    assert_eq!(rt; asked.claim, Some(Claim::Optimal(21_418)));
+    assert!(rt; asked.texts == 1 && asked.claim == Some(Claim::Optimal(21_418)));
     Ok(())
 }
 
-// The certificate itself is accepted, and no shorter one is: the checker has read it to its end.
+// The certificate of a book.
+fn certificate_of(alloc: Global, book: &Book) -> Result<Vec<u8>, Fail> {
+    let table = CostTable::of(alloc, book)?;
+    let sink = MemSink::new(alloc, Vec::new(alloc))?;
+    let done = certified_search(alloc, book, &table, Limit::Nodes(50), sink);
+    Ok(done.sink.bytes().to_vec(alloc)?)
+}
+
+// The certificate of a book is accepted, and no shorter one is.
+fn only_the_whole_is_accepted(rt: &impl Abort, alloc: Global, book: &Book) -> Result<(), Fail> {
+    let text = certificate_of(alloc, book)?;
+    assert!(rt; is_accepted(alloc, book, &text, &mut Checker)?);
+    for length in 0..text.len() {
+        assert!(rt;
+            !is_accepted(alloc, book, &text[..length], &mut Checker)?,
+            "{length}"
+        );
+    }
+    Ok(())
+}
+
+// The checker has read a certificate to its end.
 #[test]
 fn damaged_certificates_are_not_accepted(rt: HostRuntime) -> Result<(), Fail> {
-    let alloc = rt.alloc();
     let book = book_of(
-        alloc,
+        rt.alloc(),
         &[TIMETABLE, THERE_AND_BACK],
         &[FLEET, ONE_AT_ARLANDA],
         &[RULES],
     )?;
-    let table = CostTable::of(alloc, &book)?;
-    let sink = MemSink::new(alloc, Vec::new(alloc))?;
-    let done = certified_search(alloc, &book, &table, Limit::Nodes(50), sink);
-    let text = done.sink.bytes();
-    assert!(rt; is_accepted(alloc, &book, text, &mut Checker)?);
-    for length in 0..text.len() {
-        let accepted = is_accepted(alloc, &book, &text[..length], &mut Checker)?;
-        assert!(rt; !accepted, "{length}");
-    }
-    Ok(())
+    only_the_whole_is_accepted(&rt, rt.alloc(), &book)
 }
 
 // What would be printed where a certificate is not accepted.
@@ -215,8 +245,7 @@ fn a_refused_certificate_is_told(rt: HostRuntime) -> Result<(), Fail> {
         accepted: false,
     };
     let written = tried.write(alloc, &mut sink);
-    assert!(rt; written.is_ok());
     let due = b"trial 7 activities 120 aircraft 8\nlimit 5 -\ncheck no\n".as_slice();
-    assert!(rt; sink.bytes() == due);
+    assert!(rt; written.is_ok() && sink.bytes() == due);
     Ok(())
 }

@@ -1,20 +1,9 @@
 //! The words of a run: which are taken, and what is printed for others.
 
-use super::{USAGE, run_failing, run_over, usual_files};
+use super::{Run, USAGE, USUAL, each_run_ends_so, ends_over, push_text, seen_over, usual_files};
 use std::alloc::Global;
 use std::test::Fail;
-use tail_outside::MemFile;
-use trial_texts::{THERE_AND_BACK, TIMETABLE, file_of, text_of};
-
-const PLANNED: &str = "optimal 120\nA1: F1 F2\n";
-
-// The usual tables, and the timetable under a second name too.
-fn files_with(alloc: Global, name: &str) -> Result<Vec<MemFile>, Fail> {
-    let mut files = usual_files(alloc)?;
-    let table = text_of(alloc, &[TIMETABLE, THERE_AND_BACK])?;
-    files.push(file_of(alloc, name, table)?)?;
-    Ok(files)
-}
+use trial_texts::{THERE_AND_BACK, TIMETABLE};
 
 // Words that name no three tables are refused, and no file is asked for: there is none.
 #[test]
@@ -39,10 +28,17 @@ fn other_words_are_refused(rt: HostRuntime) -> Result<(), Fail> {
         &["tailplan", "t", "f", "--"],
     ];
     for &words in rows {
-        let seen = run_over(rt.alloc(), words, Vec::new(rt.alloc()))?;
-        assert!(rt; seen.is(2, USAGE), "{words:?}");
+        let files = Vec::new(rt.alloc());
+        assert!(rt; ends_over(rt.alloc(), words, files, 2, USAGE)?, "{words:?}");
     }
     Ok(())
+}
+
+// Whether a run by these words is planned, where the timetable stands under the name `-t` too.
+fn is_planned(alloc: Global, words: &[&str]) -> Result<bool, Fail> {
+    let mut files = usual_files(alloc)?;
+    push_text(alloc, &mut files, "-t", &[TIMETABLE, THERE_AND_BACK])?;
+    ends_over(alloc, words, files, 0, "optimal 120\nA1: F1 F2\n")
 }
 
 // Three names are taken, whatever the program is called; behind two dashes also names that begin with a dash.
@@ -56,8 +52,7 @@ fn three_names_are_taken(rt: HostRuntime) -> Result<(), Fail> {
         &["tailplan", "--", "-t", "f", "r"],
     ];
     for &words in rows {
-        let seen = run_over(rt.alloc(), words, files_with(rt.alloc(), "-t")?)?;
-        assert!(rt; seen.is(0, PLANNED), "{words:?}");
+        assert!(rt; is_planned(rt.alloc(), words)?, "{words:?}");
     }
     Ok(())
 }
@@ -65,22 +60,34 @@ fn three_names_are_taken(rt: HostRuntime) -> Result<(), Fail> {
 // The tables are those of their places: the fleet's name in the timetable's place is no timetable.
 #[test]
 fn each_name_has_its_place(rt: HostRuntime) -> Result<(), Fail> {
-    for &(words, printed) in &[
-        (["tailplan", "f", "t", "r"], "refused 3 timetable 1\n"),
-        (["tailplan", "t", "t", "r"], "refused 3 fleet 1\n"),
-        (["tailplan", "t", "f", "f"], "refused 13 rules 0\n"),
-    ] {
-        let seen = run_over(rt.alloc(), &words, usual_files(rt.alloc())?)?;
-        assert!(rt; seen.is(3, printed), "{words:?}");
-    }
-    Ok(())
+    let runs: &[Run<'_>] = &[
+        Run {
+            words: &["tailplan", "f", "t", "r"],
+            status: 3,
+            printed: "refused 3 timetable 1\n",
+            ..USUAL
+        },
+        Run {
+            words: &["tailplan", "t", "t", "r"],
+            status: 3,
+            printed: "refused 3 fleet 1\n",
+            ..USUAL
+        },
+        Run {
+            words: &["tailplan", "t", "f", "f"],
+            status: 3,
+            printed: "refused 13 rules 0\n",
+            ..USUAL
+        },
+    ];
+    each_run_ends_so(&rt, rt.alloc(), runs)
 }
 
 // A usage line that can't be written is status 6, with nothing printed.
 #[test]
 fn a_usage_line_may_fail(rt: HostRuntime) -> Result<(), Fail> {
     let files = Vec::new(rt.alloc());
-    let seen = run_failing(rt.alloc(), &["tailplan", "t"], files, &[], &[1])?;
+    let seen = seen_over(rt.alloc(), &["tailplan", "t"], files, &[], &[1])?;
     assert!(rt; seen.is(6, ""));
     Ok(())
 }
