@@ -4,7 +4,15 @@
 //! Of the first nine every Lagrangian bound stays below the least cost, since aircraft are short of the minutes and landings
 //! that they may still fly. The last has no legal plan.
 
-pub const BRANCHING: [([&str; 3], Option<u64>); 10] = [
+/// The texts of a timetable, a fleet and rules, and the least cost of their book, if a plan is legal.
+pub type Texts = ([&'static str; 3], Option<u64>);
+
+/// The ten books.
+pub fn branching_books() -> &'static [Texts] {
+    BRANCHING
+}
+
+const BRANCHING: &[Texts] = &[
     (
         [
             "id,kind,from,to,start,end,types,tags,tail,resets\n\

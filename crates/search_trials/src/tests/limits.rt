@@ -3,7 +3,7 @@
 
 ghost use Rattle.tail_book.specs.inside.CostTable.{IsTableFor};
 
-use super::branching::BRANCHING;
+use super::branching::branching_books;
 use super::{book_by_chance, book_of, nodes_in};
 use branch_marks::MemTree;
 use branch_tree::{Limit, search};
@@ -207,7 +207,7 @@ fn judged_texts(alloc: Global, texts: &[&str; 3], least: Option<u64>) -> Judgmen
 // Each tree branches, so that it has three nodes or more.
 #[test]
 fn bounds_rise_to_the_least_cost(rt: HostRuntime) {
-    for (number, (texts, least)) in BRANCHING.iter().enumerate() {
+    for (number, (texts, least)) in branching_books().iter().enumerate() {
         let Judgment { size, wrong } = judged_texts(rt.alloc(), texts, *least);
         assert!(rt; size >= 3, "book {number}");
         assert!(rt; wrong.is_none(), "book {number}, limit {wrong:?}");
