@@ -76,10 +76,10 @@ fn first_wrong_of(alloc: Global, texts: &[&str; 3], limit: Limit) -> Option<usiz
     }
 }
 
-// Asks that the searches of five books, from this one on, stop where their logs fail.
-fn each_stops(rt: &impl Abort, alloc: Global, first: usize, limit: Limit) {
+// Asks that the searches of the books from one number up to another stop where their logs fail.
+fn each_stops(rt: &impl Abort, alloc: Global, first: usize, behind: usize, limit: Limit) {
     for (number, (texts, _)) in branching_books().iter().enumerate() {
-        if first <= number && number - first < 5 {
+        if first <= number && number < behind {
             let wrong = first_wrong_of(alloc, texts, limit);
             assert!(rt; wrong.is_none(), "book {number}, event {wrong:?}");
         }
@@ -88,21 +88,32 @@ fn each_stops(rt: &impl Abort, alloc: Global, first: usize, limit: Limit) {
 
 #[test]
 fn failing_logs_have_a_front(rt: HostRuntime) {
-    each_stops(&rt, rt.alloc(), 0, Limit::Free);
+    each_stops(&rt, rt.alloc(), 0, 5, Limit::Free);
 }
 
 #[test]
 fn failing_logs_of_other_books_have_a_front(rt: HostRuntime) {
-    each_stops(&rt, rt.alloc(), 5, Limit::Free);
+    each_stops(&rt, rt.alloc(), 5, 7, Limit::Free);
+}
+
+#[test]
+fn failing_logs_of_further_books_have_a_front(rt: HostRuntime) {
+    each_stops(&rt, rt.alloc(), 7, 9, Limit::Free);
+}
+
+// The last book has no legal plan.
+#[test]
+fn failing_logs_have_a_front_where_no_plan_is_legal(rt: HostRuntime) {
+    each_stops(&rt, rt.alloc(), 9, 10, Limit::Free);
 }
 
 // At a limit that leaves places open.
 #[test]
 fn failing_logs_at_a_limit_have_a_front(rt: HostRuntime) {
-    each_stops(&rt, rt.alloc(), 0, Limit::Nodes(2));
+    each_stops(&rt, rt.alloc(), 0, 5, Limit::Nodes(2));
 }
 
 #[test]
 fn failing_logs_of_other_books_at_a_limit_have_a_front(rt: HostRuntime) {
-    each_stops(&rt, rt.alloc(), 5, Limit::Nodes(2));
+    each_stops(&rt, rt.alloc(), 5, 10, Limit::Nodes(2));
 }
