@@ -433,13 +433,6 @@ const CHANGED: &[(&[Change], Told)] = &[
         ],
         Some((12, Table::Timetable, 4)),
     ),
-    (
-        &[
-            (Table::Timetable, "G9", "FB"),
-            (Table::Timetable, "G9", "FB"),
-        ],
-        Some((11, Table::Timetable, 5)),
-    ),
 ];
 
 #[test]
