@@ -14,7 +14,8 @@ use Rattle.tail_text.specs.Checks.{look, must}
 use Rattle.tail_text.specs.declared.codes.TheConstants.{TWICE}
 use Rattle.tail_book.specs.declared.limits.TheConstants.{VALUE_LIMIT}
 use Rattle.tail_book.specs.Seen.{ActivitySeen, CounterSeen, CurfewSeen, RulesSeen, TailSeen}
-use Rattle.tail_book.specs.inside.Sound.{IsActivity, IsCounter, IsCurfew, IsTail, IsWithin, is_none_or_below}
+use Rattle.tail_book.specs.Ranges.{IsWithin}
+use Rattle.tail_book.specs.inside.Sound.{IsActivity, IsCounter, IsCurfew, IsTail, is_none_or_below}
 use Rattle.timetable_reader.specs.inside.Activity.{IsRawActivity}
 use Rattle.timetable_reader.specs.Activity.{RawActivitySeen}
 use Rattle.fleet_rules.specs.inside.RawRules.{IsRawCounter, IsRawCurfew}

@@ -4,7 +4,7 @@
 use Rattle.std.proofs.Common.{ℕ, ◌<◌, Bool, refl}
 use Rattle.std.specs.Bool.{Decides}
 use Rattle.std.proofs.lemmas.Bool.Decides.{Decides-below_and, Decides-below_or}
-use Rattle.branch_marks.specs.inside.Below.{all_below, some_below}
+use Rattle.branch_marks.specs.Below.{all_below, some_below}
 
 pub all_below_tested : (p : ℕ → Bool) (P : ℕ → Type 0) → ((k : ℕ) → Decides (p k) (P k)) → (n : ℕ) → Decides (all_below p n) ((k : ℕ) → k < n → P k)
 all_below_tested p P each n = Decides-below_and p P (all_below p) each refl (λ k. refl) n

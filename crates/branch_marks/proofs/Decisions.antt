@@ -15,7 +15,7 @@ use Rattle.std.proofs.lemmas.List.Folds.{Any-from_list_any, list_any-from_Any}
 use Rattle.std.proofs.lemmas.List.Elements.{All-weaker}
 use Rattle.std.proofs.lemmas.List.Kept.{AllPairs-cons}
 use Rattle.tail_book.specs.Numbers.{int_le}
-use Rattle.tail_book.specs.inside.SoundTests.{each_pair}
+use Rattle.tail_book.specs.Pairs.{each_pair}
 
 pub always : Decides true ⊤
 always = ((λ h. tt), (λ h. refl))

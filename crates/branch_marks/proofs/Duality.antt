@@ -3,13 +3,14 @@
 use Rattle.std.proofs.Common.{◌≡◌, ◌∙◌, ℕ, suc, ℤ, pos, negsuc, ◌+◌, ◌*◌, ◌+ℤ◌, ◌-ℤ◌, ◌≤ℤ◌, ◌<◌, ◌≤◌, arith, List, [], ◌∷◌, map, length, sym, get_or}
 use Rattle.std.proofs.lemmas.Int.{ints}
 use Rattle.tail_book.specs.Seen.{BookSeen}
-use Rattle.tail_book.specs.inside.Seen.{CostTableSeen}
+use Rattle.tail_book.specs.TableSeen.{CostTableSeen}
 use Rattle.tail_book.specs.Lookup.{activities, aircraft}
-use Rattle.tail_book.specs.inside.CostTable.{route_cost_in, cost_of_routes_in, plan_cost_in}
+use Rattle.tail_book.specs.CostTable.{route_cost_in, cost_of_routes_in, plan_cost_in}
 use Rattle.tail_book.specs.inside.Partition.{TotalOfLegalPlan}
 use Rattle.tail_book.specs.Plan.{route_of, IsLegalPlan}
 use Rattle.tail_book.specs.inside.Sound.{IsBook}
-use Rattle.tail_book.specs.inside.Sums.{total, sum_below, TotalByNumber}
+use Rattle.tail_book.specs.Sums.{total, sum_below}
+use Rattle.tail_book.specs.inside.Sums.{TotalByNumber}
 use Rattle.branch_marks.specs.declared.fact.Fact.{Fact}
 use Rattle.branch_marks.specs.Facts.{HoldAll}
 use Rattle.branch_marks.specs.inside.Fitting.{MarkedRoutesFit}

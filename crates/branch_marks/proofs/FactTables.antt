@@ -8,13 +8,13 @@ use Rattle.std.specs.List.{list_all, list_any}
 use Rattle.std.proofs.lemmas.List.Folds.{list_all-append, list_any-append}
 use Rattle.tail_book.specs.Seen.{BookSeen}
 use Rattle.tail_book.specs.Lookup.{activities, aircraft}
-use Rattle.tail_book.specs.inside.Tests.{is_allowed}
+use Rattle.tail_book.specs.LegalTests.{is_allowed}
 use Rattle.branch_marks.specs.declared.fact.Fact.{Fact}
 use Rattle.branch_marks.specs.declared.fact.Fact.TheVariants.{Bar, Must, Cut, Tie}
 use Rattle.branch_marks.specs.declared.named.Named.{Named}
 use Rattle.branch_marks.specs.declared.named.Named.TheVariants.{Nothing}
 use Rattle.branch_marks.specs.Facts.{IsFactOf}
-use Rattle.branch_marks.specs.inside.MarkTests.{is_alive, lets_fly}
+use Rattle.branch_marks.specs.MarkTests.{is_alive, lets_fly}
 use Rattle.branch_marks.specs.inside.BitRows.{BitRowsSeen, has_pair, AreChanged}
 use Rattle.branch_marks.specs.inside.Named.{AreNoted, named_from, with_named}
 use Rattle.branch_marks.specs.inside.MarkTables.{IsAliveTable, IsFactTable, IsNamedTable, IsFactWithin}

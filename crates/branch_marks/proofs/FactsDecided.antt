@@ -8,7 +8,7 @@ use Rattle.std.specs.Prelude.{nat_eq, ◌&&◌, Contains}
 use Rattle.std.specs.Bool.{Decides}
 use Rattle.branch_marks.specs.declared.fact.Fact.{Fact}
 use Rattle.branch_marks.specs.declared.fact.Fact.TheVariants.{Bar, Must, Cut, Tie}
-use Rattle.branch_marks.specs.inside.FactTests.{same_fact, has_fact}
+use Rattle.branch_marks.specs.FactTests.{same_fact, has_fact}
 
 both_same : (k a j c : ℕ) (fact : ℕ → ℕ → Fact) → (nat_eq k j && nat_eq a c) ≡ true → fact k a ≡ fact j c
 both_same k a j c fact h = let (first, second) = and_parts (nat_eq k j) (nat_eq a c) h in let e = eqb-true k j first in let d = eqb-true a c second in cc

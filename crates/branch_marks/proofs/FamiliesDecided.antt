@@ -7,20 +7,23 @@ use Rattle.std.specs.Prelude.{not, ◌&&◌, ◌||◌}
 use Rattle.std.specs.Bool.{Decides}
 use Rattle.std.proofs.lemmas.Bool.Decides.{Decides-eqb, Decides-and, Decides-not, Decides-like}
 use Rattle.tail_book.specs.Seen.{BookSeen}
-use Rattle.tail_book.specs.inside.Seen.{CostTableSeen}
+use Rattle.tail_book.specs.TableSeen.{CostTableSeen}
 use Rattle.tail_book.specs.declared.place.Place.{Place}
 use Rattle.tail_book.specs.declared.place.Place.TheVariants.{Carry, After}
 use Rattle.tail_book.specs.Lookup.{activities, carry_of}
 use Rattle.tail_book.specs.Numbers.{int_le}
 use Rattle.tail_book.specs.Counters.{step, WithinLimits}
 use Rattle.tail_book.specs.inside.Order.{EachAtMostDecides}
-use Rattle.tail_book.specs.inside.Tests.{within_limits, LimitsDecide}
+use Rattle.tail_book.specs.LegalTests.{within_limits}
+use Rattle.tail_book.specs.inside.Tests.{LimitsDecide}
 use Rattle.branch_marks.specs.declared.fact.Fact.{Fact}
 use Rattle.branch_marks.specs.Marks.{IsAlive, IsUsable, MayEnd}
-use Rattle.branch_marks.specs.inside.MarkTests.{is_alive, is_usable, may_end, AliveDecides, UsableDecides, MayEndDecides}
+use Rattle.branch_marks.specs.MarkTests.{is_alive, is_usable, may_end}
+use Rattle.branch_marks.specs.inside.MarkTests.{AliveDecides, UsableDecides, MayEndDecides}
 use Rattle.branch_marks.specs.Labels.{Label, Covers, IsCoveredBy, label_after}
 use Rattle.branch_marks.specs.Families.{GoesOn, IsClosedFamily, EndsAtLeast, HasNoEnd}
-use Rattle.branch_marks.specs.inside.FamilyTests.{covers, goes_on, is_closed_family, ends_at_least, has_no_end, CoversDecides}
+use Rattle.branch_marks.specs.FamilyTests.{covers, goes_on, is_closed_family, ends_at_least, has_no_end}
+use Rattle.branch_marks.specs.inside.FamilyTests.{CoversDecides}
 use Rattle.branch_marks.proofs.Decisions.{all_tested, any_tested, implied, int_le_tested}
 use Rattle.branch_marks.proofs.BelowDecided.{all_below_tested}
 

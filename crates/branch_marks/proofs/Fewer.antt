@@ -11,12 +11,13 @@ use Rattle.branch_marks.specs.declared.fact.Fact.{Fact}
 use Rattle.branch_marks.specs.declared.fact.Fact.TheVariants.{Must, Cut, Tie}
 use Rattle.branch_marks.specs.declared.fact.Pair.{Pair}
 use Rattle.branch_marks.specs.declared.fact.Pair.TheVariants.{Fly, Link}
-use Rattle.branch_marks.specs.inside.Below.{count_below}
+use Rattle.branch_marks.specs.Below.{count_below}
 use Rattle.branch_marks.specs.Marks.{IsUsable}
 use Rattle.branch_marks.specs.inside.MarkTests.{AliveDecides, UsableDecides}
 use Rattle.branch_marks.specs.inside.FactTests.{HasFactDecides}
 use Rattle.branch_marks.specs.Branches.{IsUndecided, IsPairOf, FactsDecide}
-use Rattle.branch_marks.specs.inside.BranchTests.{is_undecided, one_if, undecided, UndecidedDecides}
+use Rattle.branch_marks.specs.Undecided.{is_undecided}
+use Rattle.branch_marks.specs.inside.BranchTests.{one_if, undecided, UndecidedDecides}
 use Rattle.branch_marks.proofs.BelowDecided.{some_below_tested}
 
 pub undecided_tested : AliveDecides → UsableDecides → HasFactDecides → (book : BookSeen) (marks : List Fact) (pair : Pair) → Decides (is_undecided book marks pair) (IsUndecided book marks pair)

@@ -12,10 +12,12 @@ use Rattle.tail_book.specs.Counters.{step, WithinLimits}
 use Rattle.tail_book.specs.inside.Order.{EachAtMostItself, EachAtMostChains, StepsKeepCount}
 use Rattle.tail_book.specs.inside.Rising.{LinksRise}
 use Rattle.tail_book.specs.inside.Sound.{IsBook}
-use Rattle.tail_book.specs.inside.Tests.{within_limits, LimitsDecide}
+use Rattle.tail_book.specs.LegalTests.{within_limits}
+use Rattle.tail_book.specs.inside.Tests.{LimitsDecide}
 use Rattle.branch_marks.specs.declared.fact.Fact.{Fact}
 use Rattle.branch_marks.specs.Marks.{IsUsable}
-use Rattle.branch_marks.specs.inside.MarkTests.{is_usable, UsableDecides}
+use Rattle.branch_marks.specs.MarkTests.{is_usable}
+use Rattle.branch_marks.specs.inside.MarkTests.{UsableDecides}
 use Rattle.branch_marks.specs.Floors.{stepped_floor, least_from, floor_by, floors_below, floors, floor_at, IsWay}
 use Rattle.branch_marks.proofs.LesserFloors.{IsFull, AreFull, full_with_one_more, lesser_full, IsLowFor, low_first, low_second, floor_within, floor_last}
 

@@ -18,7 +18,8 @@ use Rattle.branch_marks.specs.inside.MarkTests.{FactOfDecides, AliveDecides, Usa
 use Rattle.branch_marks.specs.inside.FactTests.{HasFactDecides}
 use Rattle.branch_marks.specs.Floors.{floor_at}
 use Rattle.branch_marks.specs.Following.{NoneGoesOn, IsDeadBy, IsDead, IsOnlyCarrier, CannotGoBy, IsDeadConnection, Follows, IsShut}
-use Rattle.branch_marks.specs.inside.FollowingTests.{none_goes_on, is_dead_by, is_dead, is_only_carrier, cannot_go_by, is_dead_connection, follows, is_shut, FollowsDecides}
+use Rattle.branch_marks.specs.FollowingTests.{none_goes_on, is_dead_by, is_dead, is_only_carrier, cannot_go_by, is_dead_connection, follows, is_shut}
+use Rattle.branch_marks.specs.inside.FollowingTests.{FollowsDecides}
 use Rattle.branch_marks.proofs.Decisions.{always, never, implied, apart}
 use Rattle.branch_marks.proofs.BelowDecided.{all_below_tested, some_below_tested}
 

@@ -3,13 +3,14 @@
 use Rattle.std.proofs.Common.{◌≡◌, ◌∙◌, ◌<◌, ℕ, suc, ℤ, pos, ◌+◌, ◌*◌, ◌+ℤ◌, ◌-ℤ◌, ◌≤ℤ◌, arith, List, [], ◌∷◌, map, length, get_or, sym}
 use Rattle.std.proofs.lemmas.Int.{ints}
 use Rattle.tail_book.specs.Seen.{BookSeen}
-use Rattle.tail_book.specs.inside.Seen.{CostTableSeen}
+use Rattle.tail_book.specs.TableSeen.{CostTableSeen}
 use Rattle.tail_book.specs.Lookup.{activities, aircraft}
-use Rattle.tail_book.specs.inside.CostTable.{route_cost_in, cost_of_routes_in, plan_cost_in}
+use Rattle.tail_book.specs.CostTable.{route_cost_in, cost_of_routes_in, plan_cost_in}
 use Rattle.tail_book.specs.inside.Partition.{TotalOfLegalPlan}
 use Rattle.tail_book.specs.Plan.{times_flown, route_of, IsLegalPlan}
 use Rattle.tail_book.specs.inside.Sound.{IsBook}
-use Rattle.tail_book.specs.inside.Sums.{total, TotalByNumber}
+use Rattle.tail_book.specs.Sums.{total}
+use Rattle.tail_book.specs.inside.Sums.{TotalByNumber}
 use Rattle.branch_marks.specs.declared.fact.Fact.{Fact}
 use Rattle.branch_marks.specs.Weights.{duals_on, weight}
 use Rattle.branch_marks.specs.Bound.{AreLeastWeights, lagrangian, RoundedUpIsLeast, MarkedPlansCostAtLeast, LeastWeightsBound}

@@ -5,15 +5,17 @@ use Rattle.std.proofs.lemmas.List.FromFn.{length-map-range_with_len, get_or-map-
 use Rattle.std.specs.Prelude.{◌&&◌}
 use Rattle.std.specs.List.{range_with_len}
 use Rattle.tail_book.specs.Seen.{BookSeen}
-use Rattle.tail_book.specs.inside.Seen.{CostTableSeen}
+use Rattle.tail_book.specs.TableSeen.{CostTableSeen}
 use Rattle.tail_book.specs.Lookup.{activities, aircraft}
 use Rattle.tail_book.specs.inside.Rising.{LegalRoutesRise}
 use Rattle.tail_book.specs.Route.{IsLegalRoute}
 use Rattle.tail_book.specs.inside.Sound.{IsBook}
-use Rattle.tail_book.specs.inside.Tests.{is_legal_route, LegalRouteDecides}
+use Rattle.tail_book.specs.LegalTests.{is_legal_route}
+use Rattle.tail_book.specs.inside.Tests.{LegalRouteDecides}
 use Rattle.branch_marks.specs.declared.fact.Fact.{Fact}
 use Rattle.branch_marks.specs.Marks.{Fits}
-use Rattle.branch_marks.specs.inside.MarkTests.{fits, FitsDecides}
+use Rattle.branch_marks.specs.MarkTests.{fits}
+use Rattle.branch_marks.specs.inside.MarkTests.{FitsDecides}
 use Rattle.branch_marks.specs.DeadEnds.{IsStuck}
 use Rattle.branch_marks.specs.Weights.{weight, IsLeastWeight}
 use Rattle.branch_marks.specs.Bound.{lagrangian}

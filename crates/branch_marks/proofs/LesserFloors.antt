@@ -6,7 +6,8 @@ use Rattle.std.specs.Prelude.{⊤}
 use Rattle.std.specs.Int.{int_min}
 use Rattle.std.proofs.Common.{◌≡◌, ◌∙◌, ℕ, zero, suc, ℤ, ◌<◌, arith, List, [], ◌∷◌, ◌++◌, length, refl, ap, get_or, subst, Option, Some, None}
 use Rattle.std.proofs.lemmas.Int.{ints, clamps}
-use Rattle.tail_book.specs.inside.Order.{EachAtMost, EachAtMostItself}
+use Rattle.tail_book.specs.CounterOrder.{EachAtMost}
+use Rattle.tail_book.specs.inside.Order.{EachAtMostItself}
 use Rattle.branch_marks.specs.Floors.{lesser, lesser_floor}
 
 lesser_first : (values others : List ℤ) → length values ≡ length others → EachAtMost (lesser values others) values

@@ -32,6 +32,11 @@ pub mod Fewer
 pub mod Shown
 pub mod TreesDecided
 pub mod WorkedBook
+pub mod WholeLists
+pub mod Beginnings
+pub mod WholeFamily
+pub mod WholeEnds
+pub mod WholeCovers
 mod WorkedMarks
 mod WorkedFollowing
 mod WorkedWeights

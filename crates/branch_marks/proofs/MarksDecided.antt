@@ -10,13 +10,14 @@ use Rattle.tail_book.specs.Seen.{BookSeen}
 use Rattle.tail_book.specs.declared.place.Place.{Place}
 use Rattle.tail_book.specs.declared.place.Place.TheVariants.{Carry, After}
 use Rattle.tail_book.specs.Lookup.{activities, aircraft}
-use Rattle.tail_book.specs.inside.Place.{IsBefore}
+use Rattle.tail_book.specs.Place.{IsBefore}
 use Rattle.tail_book.specs.inside.Tests.{AllowedDecides, LinkDecides}
 use Rattle.branch_marks.specs.declared.fact.Fact.{Fact}
 use Rattle.branch_marks.specs.declared.fact.Fact.TheVariants.{Bar, Must, Cut, Tie}
 use Rattle.branch_marks.specs.Facts.{IsFactOf}
 use Rattle.branch_marks.specs.Marks.{IsAt, LetsFly, LetsGo, LetsEnd, IsAlive, IsAliveAt, IsUsable, MayEnd, FitsFrom}
-use Rattle.branch_marks.specs.inside.MarkTests.{is_fact_of, is_at, is_before, lets_fly, lets_go, lets_end, is_alive, is_alive_at, is_usable, may_end, fits_from, AliveDecides, UsableDecides, MayEndDecides}
+use Rattle.branch_marks.specs.MarkTests.{is_fact_of, is_at, is_before, lets_fly, lets_go, lets_end, is_alive, is_alive_at, is_usable, may_end, fits_from}
+use Rattle.branch_marks.specs.inside.MarkTests.{AliveDecides, UsableDecides, MayEndDecides}
 use Rattle.branch_marks.proofs.Decisions.{always, never, all_tested, implied, apart, le_tested}
 
 pub fact_of_tested : (book : BookSeen) (fact : Fact) → Decides (is_fact_of book fact) (IsFactOf book fact)

@@ -10,7 +10,8 @@ use Rattle.branch_marks.specs.declared.fact.Fact.{Fact}
 use Rattle.branch_marks.specs.declared.fact.Fact.TheVariants.{Must}
 use Rattle.branch_marks.specs.Marks.{LetsFly}
 use Rattle.branch_marks.specs.Following.{IsOnlyCarrier}
-use Rattle.branch_marks.specs.inside.MarkTests.{is_alive, AliveDecides}
+use Rattle.branch_marks.specs.MarkTests.{is_alive}
+use Rattle.branch_marks.specs.inside.MarkTests.{AliveDecides}
 
 module _ (alive : AliveDecides) (book : BookSeen) (marks : List Fact) (a : ℕ) where
   -- where nobody is alive, there is no carrier

@@ -18,9 +18,9 @@ use Rattle.branch_marks.specs.declared.fact.Fact.TheVariants.{Bar, Must, Cut, Ti
 use Rattle.branch_marks.specs.declared.named.Named.{Named}
 use Rattle.branch_marks.specs.declared.named.Named.TheVariants.{Nothing, One, Several}
 use Rattle.tail_book.specs.Seen.{BookSeen}
-use Rattle.tail_book.specs.inside.Tests.{is_allowed, is_link}
+use Rattle.tail_book.specs.LegalTests.{is_allowed, is_link}
 use Rattle.tail_book.specs.Link.{is_connected}
-use Rattle.branch_marks.specs.inside.MarkTests.{is_at, lets_fly, lets_go, lets_end, may_end, is_alive, is_alive_at, is_usable}
+use Rattle.branch_marks.specs.MarkTests.{is_at, lets_fly, lets_go, lets_end, may_end, is_alive, is_alive_at, is_usable}
 use Rattle.branch_marks.specs.inside.MarkParts.{first_after, is_no_must_in, leaves_link, ties_only, ties_nothing}
 use Rattle.branch_marks.specs.inside.MarkTables.{is_must, is_cut, is_tie, tied_after, tied_before, IsFactWithin}
 use Rattle.branch_marks.specs.inside.Named.{with_named, named_from, named_by, lets_number, is_nothing}

@@ -6,7 +6,7 @@ use Rattle.std.proofs.lemmas.List.Elements.{All-nil, All-cons, All-weaker}
 use Rattle.std.specs.Prelude.{Any, nat_eq, int_lt}
 use Rattle.std.specs.Int.{int_min}
 use Rattle.tail_book.specs.Seen.{BookSeen}
-use Rattle.tail_book.specs.inside.Seen.{CostTableSeen}
+use Rattle.tail_book.specs.TableSeen.{CostTableSeen}
 use Rattle.branch_marks.specs.Weights.{weight}
 use Rattle.branch_marks.specs.Pool.{Pooled, least_with, least_in, IsLeastIn}
 

@@ -4,9 +4,9 @@ use Rattle.std.specs.Prelude.{nat_le, ◌==◌}
 use Rattle.std.specs.Bool.{Decides}
 use Rattle.std.proofs.lemmas.Bool.Decides.{Decides-eqb, Decides-ltb, Decides-and, Decides-not, Decides-like}
 use Rattle.tail_book.specs.Seen.{BookSeen}
-use Rattle.tail_book.specs.inside.Seen.{CostTableSeen}
+use Rattle.tail_book.specs.TableSeen.{CostTableSeen}
 use Rattle.tail_book.specs.Lookup.{activities, aircraft}
-use Rattle.tail_book.specs.inside.CostTable.{box_end, IsInBox}
+use Rattle.tail_book.specs.CostTable.{box_end, IsInBox}
 use Rattle.branch_marks.specs.declared.fact.Fact.{Fact}
 use Rattle.branch_marks.specs.Marks.{IsAlive}
 use Rattle.branch_marks.specs.inside.MarkTests.{AliveDecides}
@@ -19,7 +19,7 @@ use Rattle.branch_marks.specs.inside.FamilyTests.{ClosedFamilyDecides, EndsDecid
 use Rattle.branch_marks.specs.Branches.{first_branch, second_branch}
 use Rattle.branch_marks.specs.inside.BranchTests.{UndecidedDecides}
 use Rattle.branch_marks.specs.ProofTree.{Cover, Tree, Step, Split, Hole, Stuck, Bounded, cover_of, zero_duals, leaf_bound, IsShownFamily, IsShownCover, IsShownStuck, IsShownBound, IsShown, BoundsAtLeast}
-use Rattle.branch_marks.specs.inside.TreeTests.{is_in_box, are_duals, is_hole, is_shown_family, is_shown_cover, is_shown_stuck, is_shown_bound, is_shown, bounds_at_least}
+use Rattle.branch_marks.specs.TreeTests.{is_in_box, are_duals, is_hole, is_shown_family, is_shown_cover, is_shown_stuck, is_shown_bound, is_shown, bounds_at_least}
 use Rattle.branch_marks.proofs.Decisions.{always, all_tested, pairs_tested, le_tested, int_le_tested}
 use Rattle.branch_marks.proofs.BelowDecided.{all_below_tested}
 

@@ -5,10 +5,10 @@
 use Rattle.std.proofs.Common.{◌≡◌, ℕ, ℤ, pos, ◌+◌, ◌*◌, ◌+ℤ◌, ◌-ℤ◌, ◌≤ℤ◌, arith, List, [], ◌∷◌, ◌++◌, refl}
 use Rattle.std.proofs.lemmas.Int.{ints}
 use Rattle.tail_book.specs.Seen.{BookSeen}
-use Rattle.tail_book.specs.inside.Seen.{CostTableSeen}
+use Rattle.tail_book.specs.TableSeen.{CostTableSeen}
 use Rattle.tail_book.specs.declared.place.Place.{Place}
 use Rattle.tail_book.specs.declared.place.Place.TheVariants.{After}
-use Rattle.tail_book.specs.inside.CostTable.{activity_cost_in, connection_cost_in, cost_from_in, route_cost_in}
+use Rattle.tail_book.specs.CostTable.{activity_cost_in, connection_cost_in, cost_from_in, route_cost_in}
 use Rattle.tail_book.specs.inside.OneMore.{end_place, CostWithOneMoreIn}
 use Rattle.branch_marks.specs.declared.fact.Fact.{Fact}
 use Rattle.branch_marks.specs.Weights.{dual, duals_on, weight, arc_weight, weight_from, IsLeastWeight}

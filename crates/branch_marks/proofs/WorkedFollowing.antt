@@ -3,15 +3,15 @@
 -- connection; that no Tie follows; and marks from which nothing more follows.
 use Rattle.std.proofs.Common.{◌≡◌, ℕ, pos, Bool, true, false, List, [], ◌∷◌, map, refl, Some, None}
 use Rattle.tail_book.specs.declared.place.Place.TheVariants.{Carry}
-use Rattle.tail_book.specs.inside.Tests.{is_allowed, is_link}
+use Rattle.tail_book.specs.LegalTests.{is_allowed, is_link}
 use Rattle.tail_book.specs.Link.{is_connected}
 use Rattle.tail_book.specs.Allowed.{is_permitted}
 use Rattle.branch_marks.specs.declared.fact.Fact.{Fact}
 use Rattle.branch_marks.specs.declared.fact.Fact.TheVariants.{Bar, Must, Cut, Tie}
-use Rattle.branch_marks.specs.inside.FactTests.{has_fact}
-use Rattle.branch_marks.specs.inside.MarkTests.{is_alive, is_usable, may_end}
+use Rattle.branch_marks.specs.FactTests.{has_fact}
+use Rattle.branch_marks.specs.MarkTests.{is_alive, is_usable, may_end}
 use Rattle.branch_marks.specs.Floors.{floors, floor_at}
-use Rattle.branch_marks.specs.inside.FollowingTests.{is_dead, is_only_carrier, is_dead_connection, follows, is_shut}
+use Rattle.branch_marks.specs.FollowingTests.{is_dead, is_only_carrier, is_dead_connection, follows, is_shut}
 use Rattle.branch_marks.proofs.WorkedBook.{two_aircraft, counted, turning}
 
 -- which Bars of aircraft 0, and which Cuts, follow in the book of four flights

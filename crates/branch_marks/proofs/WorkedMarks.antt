@@ -3,7 +3,7 @@ use Rattle.std.proofs.Common.{◌≡◌, ℕ, Bool, true, false, List, [], ◌�
 use Rattle.std.proofs.lemmas.Bool.{both_ways}
 use Rattle.tail_book.specs.declared.place.Place.{Place}
 use Rattle.tail_book.specs.declared.place.Place.TheVariants.{Carry, After}
-use Rattle.tail_book.specs.inside.Tests.{is_allowed, is_link}
+use Rattle.tail_book.specs.LegalTests.{is_allowed, is_link}
 use Rattle.tail_book.specs.Link.{is_connected}
 use Rattle.tail_book.specs.Allowed.{is_permitted}
 use Rattle.branch_marks.specs.declared.fact.Fact.{Fact}
@@ -11,7 +11,7 @@ use Rattle.branch_marks.specs.declared.fact.Fact.TheVariants.{Bar, Must, Cut, Ti
 use Rattle.branch_marks.specs.declared.fact.Pair.TheVariants.{Fly, Link}
 use Rattle.branch_marks.specs.Branches.{first_branch, second_branch}
 use Rattle.branch_marks.specs.Facts.{flies, joins, Holds}
-use Rattle.branch_marks.specs.inside.MarkTests.{is_fact_of, is_alive, is_usable, may_end, fits}
+use Rattle.branch_marks.specs.MarkTests.{is_fact_of, is_alive, is_usable, may_end, fits}
 use Rattle.branch_marks.proofs.WorkedBook.{two_aircraft}
 
 abbrev numbers : List ℕ

@@ -3,20 +3,21 @@
 -- shown: a leaf that bounds, a split, a fact that follows with a hole behind it, a stuck aircraft. Beside each tree
 -- stand changes of it that are not shown, as a value above an end, or a cover too few.
 use Rattle.std.proofs.Common.{◌≡◌, ℕ, ℤ, pos, negsuc, Bool, true, false, List, [], ◌∷◌, map, refl}
-use Rattle.tail_book.specs.inside.CostTable.{costs_of}
-use Rattle.tail_book.specs.inside.Tests.{is_allowed, is_link}
+use Rattle.tail_book.specs.CostTable.{costs_of}
+use Rattle.tail_book.specs.LegalTests.{is_allowed, is_link}
 use Rattle.tail_book.specs.Link.{is_connected}
 use Rattle.tail_book.specs.Allowed.{is_permitted}
 use Rattle.branch_marks.specs.declared.fact.Fact.{Fact}
 use Rattle.branch_marks.specs.declared.fact.Fact.TheVariants.{Bar, Must, Cut, Tie}
 use Rattle.branch_marks.specs.declared.fact.Pair.TheVariants.{Fly, Link}
-use Rattle.branch_marks.specs.inside.MarkTests.{is_alive, is_usable, may_end}
-use Rattle.branch_marks.specs.inside.FollowingTests.{is_dead}
+use Rattle.branch_marks.specs.MarkTests.{is_alive, is_usable, may_end}
+use Rattle.branch_marks.specs.FollowingTests.{is_dead}
 use Rattle.branch_marks.specs.Labels.{Label}
-use Rattle.branch_marks.specs.inside.FamilyTests.{covers, is_closed_family, ends_at_least, has_no_end}
-use Rattle.branch_marks.specs.inside.BranchTests.{is_undecided, undecided}
+use Rattle.branch_marks.specs.FamilyTests.{covers, is_closed_family, ends_at_least, has_no_end}
+use Rattle.branch_marks.specs.Undecided.{is_undecided}
+use Rattle.branch_marks.specs.inside.BranchTests.{undecided}
 use Rattle.branch_marks.specs.ProofTree.{Cover, Tree, Step, Split, Hole, Stuck, Bounded, leaf_bound}
-use Rattle.branch_marks.specs.inside.TreeTests.{is_shown, bounds_at_least}
+use Rattle.branch_marks.specs.TreeTests.{is_shown, bounds_at_least}
 use Rattle.branch_marks.proofs.WorkedBook.{two_aircraft, counted, turning, rates}
 
 abbrev label : ℕ → ℤ → List ℤ → Label

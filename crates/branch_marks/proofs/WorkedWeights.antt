@@ -2,9 +2,9 @@
 -- free, duals that bound by the cost of the least plan, how a bound is rounded, and how the sum over a pool answers to
 -- a change of one dual.
 use Rattle.std.proofs.Common.{◌≡◌, ℕ, ℤ, pos, negsuc, List, [], ◌∷◌, map, refl, Some, None}
-use Rattle.tail_book.specs.inside.Seen.{CostTableSeen}
+use Rattle.tail_book.specs.TableSeen.{CostTableSeen}
 use Rattle.tail_book.specs.declared.place.Place.TheVariants.{Carry, After}
-use Rattle.tail_book.specs.inside.CostTable.{box_end, costs_of}
+use Rattle.tail_book.specs.CostTable.{box_end, costs_of}
 use Rattle.branch_marks.specs.Weights.{weight, weight_from, arc_weight}
 use Rattle.branch_marks.specs.Bound.{lagrangian, bound_of, rounded_up}
 use Rattle.branch_marks.specs.Pool.{Pooled, least_in, values_in, sum_in}

@@ -1,6 +1,6 @@
 -- Events of a tree: which of them a line of a certificate spells.
 use Rattle.std.specs.Prelude.{ℕ, ℤ, pos, ◌≡◌, ◌^◌, ◌-ℤ◌, ◌<◌, ◌≤◌, ⊤, List, All, length}
-use Rattle.tail_book.specs.inside.Sound.{IsWithin}
+use Rattle.tail_book.specs.Ranges.{IsWithin}
 use Rattle.tail_book.specs.declared.limits.TheConstants.{COUNTER_LIMIT}
 use Rattle.branch_marks.specs.declared.fact.Fact.{Fact as BranchFact}
 use Rattle.branch_marks.specs.declared.fact.Fact.TheVariants.{Bar, Must, Cut, Tie}

@@ -7,12 +7,12 @@ use Rattle.tail_book.specs.declared.place.Place.{Place}
 use Rattle.tail_book.specs.declared.place.Place.TheVariants.{Carry, After}
 use Rattle.tail_book.specs.Lookup.{activities, aircraft, carry_of}
 use Rattle.tail_book.specs.Counters.{step, WithinLimits}
-use Rattle.tail_book.specs.inside.Order.{EachAtMost}
+use Rattle.tail_book.specs.CounterOrder.{EachAtMost}
 use Rattle.tail_book.specs.inside.Sound.{IsBook}
-use Rattle.tail_book.specs.inside.Tests.{within_limits}
+use Rattle.tail_book.specs.LegalTests.{within_limits}
 use Rattle.branch_marks.specs.declared.fact.Fact.{Fact}
 use Rattle.branch_marks.specs.Marks.{IsUsable}
-use Rattle.branch_marks.specs.inside.MarkTests.{is_usable}
+use Rattle.branch_marks.specs.MarkTests.{is_usable}
 
 -- the lesser of each two values
 abbrev pub lesser : List ℤ → List ℤ → List ℤ

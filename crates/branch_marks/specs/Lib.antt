@@ -17,4 +17,11 @@ pub mod Events
 pub mod LogShown
 pub mod TreeLog
 pub mod TreeEvents
+pub mod Below
+pub mod Undecided
+pub mod FactTests
+pub mod FamilyTests
+pub mod FollowingTests
+pub mod MarkTests
+pub mod TreeTests
 pub mod inside

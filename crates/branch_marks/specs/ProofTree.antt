@@ -1,12 +1,11 @@
 -- The proof tree of a certificate: when it is shown, and what its leaves bound.
 use Rattle.std.specs.Prelude.{◌≡◌, ℕ, ℤ, pos, ◌+◌, ◌<◌, ◌≤◌, ⊤, List, [], ◌∷◌, ◌++◌, length, map, All, AllPairs, Contains, slice_index_or, replicate}
 use Rattle.tail_book.specs.Seen.{BookSeen}
-use Rattle.tail_book.specs.inside.Seen.{CostTableSeen}
+use Rattle.tail_book.specs.TableSeen.{CostTableSeen}
 use Rattle.tail_book.specs.Lookup.{activities, aircraft}
-use Rattle.tail_book.specs.inside.CostTable.{IsCostTable, IsTableFor, greatest_cost_in}
+use Rattle.tail_book.specs.CostTable.{IsCostTable, IsTableFor, greatest_cost_in}
 use Rattle.tail_book.specs.inside.Sound.{IsBook}
-use Rattle.tail_book.specs.Truth.{HasNoPlan}
-use Rattle.tail_book.specs.inside.Truth.{CostsAtLeastIn}
+use Rattle.tail_book.specs.Truth.{HasNoPlan, CostsAtLeastIn}
 use Rattle.branch_marks.specs.declared.fact.Fact.{Fact}
 use Rattle.branch_marks.specs.declared.fact.Pair.{Pair}
 use Rattle.branch_marks.specs.DeadEnds.{IsHole}

@@ -1,9 +1,9 @@
 -- Settled duals: whichever of them is moved within the box, the Lagrangian sum gains less than a cost unit.
 use Rattle.std.specs.Prelude.{◌≡◌, ℕ, ℤ, pos, ◌*◌, ◌<◌, ◌+ℤ◌, ◌<ℤ◌, List, All, length, Some, IsSome, slice_set}
 use Rattle.tail_book.specs.Seen.{BookSeen}
-use Rattle.tail_book.specs.inside.Seen.{CostTableSeen}
+use Rattle.tail_book.specs.TableSeen.{CostTableSeen}
 use Rattle.tail_book.specs.Lookup.{activities, aircraft}
-use Rattle.tail_book.specs.inside.CostTable.{IsInBox, cost_unit, plan_cost_in}
+use Rattle.tail_book.specs.CostTable.{IsInBox, cost_unit, plan_cost_in}
 use Rattle.tail_book.specs.Plan.{times_flown, route_of, IsLegalPlan}
 use Rattle.tail_book.specs.inside.Sound.{IsBook}
 use Rattle.branch_marks.specs.declared.fact.Fact.{Fact}

@@ -1,8 +1,9 @@
 -- What calls on a log say of the events that it tells, from before to after. All but `IsLater` speak of a log that has not
 -- ceased by the call's end, and of each list that it told before.
-use Rattle.std.specs.Prelude.{ℕ, false, ◌≡◌, ◌⊎◌, ◌^◌, ◌-◌, ◌<◌, ◌≤◌, List, ◌∷◌, ◌++◌}
+use Rattle.std.specs.Prelude.{false, ◌≡◌, ◌⊎◌, ◌≤◌, List, ◌∷◌, ◌++◌}
 use Rattle.branch_marks.specs.declared.event.Event.{Event}
 use Rattle.branch_marks.specs.LogShown.{LogShown}
+use Rattle.tail_book.specs.Faults.{HasRisen}
 
 -- the log tells no list
 abbrev pub TellsNothing : LogShown → Type 0
@@ -30,10 +31,6 @@ NotesFront old new due = (told : List Event) → new.ceased ≡ false → old.te
 pub record IsLater (old new : LogShown) : Type 0 where
   pub ceases : new.ceased ≡ false → old.ceased ≡ false
   pub counts : old.faults ≤ new.faults
-
--- a count rose; one that stands at the greatest number of its type counts as risen
-abbrev pub HasRisen : ℕ → ℕ → Type 0
-HasRisen old new = (old < new) ⊎ (new ≡ 2 ^ 64 - 1)
 
 -- a write failed
 abbrev pub WriteHasFailed : LogShown → LogShown → Type 0

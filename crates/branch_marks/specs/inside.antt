@@ -1,7 +1,6 @@
 -- What only proofs, and calls further in, cite.
 pub mod MarkTests
 pub mod Fitting
-pub mod Below
 pub mod FloorLaws
 pub mod FactTests
 pub mod FollowingTests
@@ -13,3 +12,4 @@ pub mod Named
 pub mod MarkTables
 pub mod MarkParts
 pub mod RowParts
+pub mod WholeFamilies

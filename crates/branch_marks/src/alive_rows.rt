@@ -5,11 +5,11 @@
 
 ghost use Rattle.std.specs.Prelude.{◌≡◌, ◌<◌, ◌&&◌, ◌||◌, [], nat_eq, nat_lt, IfOk};
 ghost use Rattle.tail_book.specs.Lookup.{activities, aircraft};
-ghost use Rattle.tail_book.specs.inside.Tests.{is_allowed};
+ghost use Rattle.tail_book.specs.LegalTests.{is_allowed};
 ghost use Rattle.turn_rules.specs.inside.PermissionTable.{ArePermissionsOf};
 ghost use Rattle.branch_marks.specs.inside.BitRows.{AreChanged};
 ghost use Rattle.branch_marks.specs.Facts.{IsFactOf};
-ghost use Rattle.branch_marks.specs.inside.MarkTests.{lets_fly};
+ghost use Rattle.branch_marks.specs.MarkTests.{lets_fly};
 ghost use Rattle.branch_marks.specs.inside.MarkTables.{IsAliveTable};
 
 use crate::Fact;

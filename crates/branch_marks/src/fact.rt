@@ -4,7 +4,7 @@
 
 ghost use Rattle.std.specs.Prelude.{◌≡◌, ◌↔◌, IsTrue};
 ghost use Rattle.branch_marks.specs.Facts.{IsFactOf};
-ghost use Rattle.branch_marks.specs.inside.MarkTests.{is_fact_of};
+ghost use Rattle.branch_marks.specs.MarkTests.{is_fact_of};
 
 use crate::laws::fact_of_decides;
 use tail_book::Book;

@@ -9,6 +9,7 @@ mod following;
 mod settling;
 mod showing;
 mod weighing;
+mod whole_families;
 
 pub use branching::{
     branches_decide, branches_leave_fewer, facts_decide, facts_leave_no_more, holes_leave_no_plan,
@@ -38,4 +39,7 @@ pub use showing::{
 pub use weighing::{
     least_weights_are_one, least_weights_bound, least_weights_exist, low_weights_bound,
     rounded_up_is_least, weight_is_along, weight_with_one_more, weights_along,
+};
+pub use whole_families::{
+    families_of_routes_exist, low_bounds_are_shown, low_weights_are_shown, stuck_is_shown,
 };

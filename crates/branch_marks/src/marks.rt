@@ -8,7 +8,7 @@
 ghost use Rattle.std.specs.Prelude.{◌≡◌, ◌<◌, ◌↔◌, ◌++◌, ◌∷◌, [], IfOk, OnErr, IsTrue, All, Contains};
 ghost use Rattle.std.specs.List.{list_any};
 ghost use Rattle.branch_marks.specs.Facts.{IsFactOf};
-ghost use Rattle.branch_marks.specs.inside.FactTests.{has_fact};
+ghost use Rattle.branch_marks.specs.FactTests.{has_fact};
 ghost use Rattle.branch_marks.specs.inside.MarkTables.{AreMarksOf, IsFactWithin, is_tie};
 ghost use Rattle.branch_marks.specs.MarkCalls.{AddsOnce};
 

@@ -7,10 +7,10 @@ use Rattle.std.proofs.lemmas.Int.{ints}
 use Rattle.std.proofs.lemmas.List.{length-replicate, get_or-replicate}
 use Rattle.std.specs.Prelude.{All, ◌+ℤ◌}
 use Rattle.tail_book.specs.Seen.{BookSeen}
-use Rattle.tail_book.specs.inside.Seen.{CostTableSeen}
+use Rattle.tail_book.specs.TableSeen.{CostTableSeen}
 use Rattle.tail_book.specs.declared.place.Place.TheVariants.{Carry}
 use Rattle.tail_book.specs.Lookup.{activities}
-use Rattle.tail_book.specs.inside.CostTable.{IsCostTable, IsTableFor, IsInBox, box_end, cost_unit, greatest_cost_in}
+use Rattle.tail_book.specs.CostTable.{IsCostTable, IsTableFor, IsInBox, box_end, cost_unit, greatest_cost_in}
 use Rattle.tail_book.specs.inside.Rising.{LegalRoutesRise}
 use Rattle.tail_book.specs.inside.RouteBounds.{ReducedCostsAreSmall}
 use Rattle.tail_book.specs.inside.Sound.{IsBook}

@@ -7,14 +7,14 @@ use Rattle.std.specs.Option.{is_none}
 use Rattle.std.proofs.lemmas.List.Elements.{All-contains}
 use Rattle.std.specs.Prelude.{nat_eq, ◌&&◌, IfSome, IfNone, All, Contains, Option, Some, None, slice_index_or}
 use Rattle.tail_book.specs.Seen.{BookSeen}
-use Rattle.tail_book.specs.inside.Seen.{CostTableSeen}
+use Rattle.tail_book.specs.TableSeen.{CostTableSeen}
 use Rattle.tail_book.specs.declared.place.Place.{Place}
 use Rattle.tail_book.specs.declared.place.Place.TheVariants.{Carry, After}
 use Rattle.tail_book.specs.Lookup.{activities, aircraft}
 use Rattle.tail_book.specs.Numbers.{contains}
 use Rattle.tail_book.specs.Plan.{times_flown, route_of}
 use Rattle.tail_book.specs.declared.flown.Flown.TheVariants.{Once}
-use Rattle.tail_book.specs.inside.CostTable.{plan_cost_in}
+use Rattle.tail_book.specs.CostTable.{plan_cost_in}
 use Rattle.tail_book.specs.inside.Flown.{FlownIsCount, FlownOnceIsInOneRoute, IsInOneRoute}
 use Rattle.tail_book.specs.inside.Rising.{IsRisingFrom}
 use Rattle.branch_marks.specs.declared.fact.Fact.{Fact}

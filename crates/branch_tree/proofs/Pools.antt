@@ -9,7 +9,7 @@ use Rattle.tail_book.specs.Seen.{BookSeen}
 use Rattle.tail_book.specs.Lookup.{aircraft}
 use Rattle.tail_book.specs.Plan.{route_of}
 use Rattle.tail_book.specs.Route.{IsLegalRoute}
-use Rattle.tail_book.specs.inside.Seen.{CostTableSeen}
+use Rattle.tail_book.specs.TableSeen.{CostTableSeen}
 use Rattle.branch_marks.specs.declared.fact.Fact.{Fact}
 use Rattle.branch_marks.specs.Bound.{AreLeastWeights, value_of}
 use Rattle.branch_marks.specs.Pool.{Pooled, IsFittingEntry, least_in, IsLeastIn, LeastInIsLeast}

@@ -3,10 +3,10 @@
 use Rattle.std.proofs.Common.{◌≡◌, ℕ, ℤ, pos, ◌<◌, arith, List, [], length, subst, sym, Some}
 use Rattle.std.specs.Prelude.{All}
 use Rattle.tail_book.specs.Seen.{BookSeen}
-use Rattle.tail_book.specs.inside.Seen.{CostTableSeen}
+use Rattle.tail_book.specs.TableSeen.{CostTableSeen}
 use Rattle.tail_book.specs.declared.place.Place.TheVariants.{Carry}
 use Rattle.tail_book.specs.Lookup.{aircraft}
-use Rattle.tail_book.specs.inside.CostTable.{IsCostTable, IsTableFor}
+use Rattle.tail_book.specs.CostTable.{IsCostTable, IsTableFor}
 use Rattle.tail_book.specs.inside.Rising.{LegalRoutesRise}
 use Rattle.tail_book.specs.inside.RouteBounds.{ReducedCostsAreSmall}
 use Rattle.tail_book.specs.inside.Sound.{IsBook}

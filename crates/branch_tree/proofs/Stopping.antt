@@ -4,7 +4,7 @@
 -- nothing.
 use Rattle.std.proofs.Common.{◌≡◌, ◌∙◌, inl, List, [], ◌∷◌, ◌++◌, Option, Some, None, refl, sym, ap, subst, append_assoc}
 use Rattle.tail_book.specs.Seen.{BookSeen}
-use Rattle.tail_book.specs.inside.Seen.{CostTableSeen}
+use Rattle.tail_book.specs.TableSeen.{CostTableSeen}
 use Rattle.branch_marks.specs.declared.event.Event.{Event}
 use Rattle.branch_marks.specs.LogShown.{LogShown}
 use Rattle.branch_marks.specs.TreeLog.{Notes, IsCut, IsLater}

@@ -4,7 +4,7 @@
 -- was told.
 use Rattle.std.proofs.Common.{ℕ, ℤ, inl, inr, List, refl, subst, Option, Some, None}
 use Rattle.tail_book.specs.Seen.{BookSeen}
-use Rattle.tail_book.specs.inside.Seen.{CostTableSeen}
+use Rattle.tail_book.specs.TableSeen.{CostTableSeen}
 use Rattle.branch_marks.specs.declared.fact.Fact.{Fact}
 use Rattle.branch_marks.specs.Following.{IsShut}
 use Rattle.branch_marks.specs.LogShown.{LogShown}

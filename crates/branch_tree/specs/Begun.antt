@@ -1,7 +1,7 @@
 -- Begun trees: what a search leaves that stopped early. In depth-first order its leaves are done up to one, and open behind it.
 use Rattle.std.specs.Prelude.{ℤ, ⊤, List, [], ◌∷◌, ◌++◌, Option, Some, None}
 use Rattle.tail_book.specs.Seen.{BookSeen}
-use Rattle.tail_book.specs.inside.Seen.{CostTableSeen}
+use Rattle.tail_book.specs.TableSeen.{CostTableSeen}
 use Rattle.branch_marks.specs.declared.fact.Fact.{Fact}
 use Rattle.branch_marks.specs.Following.{FollowInTurn}
 use Rattle.branch_marks.specs.ProofTree.{Cover}

@@ -1,7 +1,7 @@
 -- The closing pass: the nodes of the places that are open when the counter has reached its limit.
 use Rattle.std.specs.Prelude.{◌≡◌, ℕ, ◌≤◌, ⊤, List, [], All, Any, Option, Some, None}
 use Rattle.tail_book.specs.Seen.{BookSeen}
-use Rattle.tail_book.specs.inside.Seen.{CostTableSeen}
+use Rattle.tail_book.specs.TableSeen.{CostTableSeen}
 use Rattle.branch_marks.specs.ProofTree.{leaf_bound}
 use Rattle.branch_tree.specs.Counted.{HasLeastValues}
 use Rattle.branch_tree.specs.Place.{Open}

@@ -2,7 +2,7 @@
 -- due.
 use Rattle.std.specs.Prelude.{ℕ, ℤ, ⊤, List, map}
 use Rattle.tail_book.specs.Seen.{BookSeen}
-use Rattle.tail_book.specs.inside.Seen.{CostTableSeen}
+use Rattle.tail_book.specs.TableSeen.{CostTableSeen}
 use Rattle.branch_marks.specs.declared.fact.Fact.{Fact}
 use Rattle.branch_marks.specs.declared.fact.Pair.{Pair}
 use Rattle.branch_marks.specs.Bound.{lagrangian, bound_of, AreLeastWeights}

@@ -2,10 +2,10 @@
 -- claims.
 use Rattle.std.specs.Prelude.{◌≡◌, ℕ, List, [], ◌∷◌, All}
 use Rattle.tail_book.specs.Seen.{BookSeen}
-use Rattle.tail_book.specs.inside.Seen.{CostTableSeen}
-use Rattle.tail_book.specs.inside.CostTable.{IsCostTable, IsTableFor}
+use Rattle.tail_book.specs.TableSeen.{CostTableSeen}
+use Rattle.tail_book.specs.CostTable.{IsCostTable, IsTableFor}
 use Rattle.tail_book.specs.inside.Sound.{IsBook}
-use Rattle.tail_book.specs.inside.Truth.{IsTrueOutcomeIn}
+use Rattle.tail_book.specs.Truth.{IsTrueOutcomeIn}
 use Rattle.tail_book.specs.declared.outcome.Outcome.{Outcome}
 use Rattle.tail_book.specs.declared.outcome.Outcome.TheVariants.{Optimal, Infeasible, Between, Above}
 use Rattle.branch_marks.specs.ProofTree.{Tree, IsShown, BoundsAtLeast}

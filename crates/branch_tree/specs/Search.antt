@@ -1,7 +1,7 @@
 -- What a search answers: the tree of the run, which was told, and what comes only at a limit.
 use Rattle.std.specs.Prelude.{⊤}
 use Rattle.tail_book.specs.Seen.{BookSeen}
-use Rattle.tail_book.specs.inside.Seen.{CostTableSeen}
+use Rattle.tail_book.specs.TableSeen.{CostTableSeen}
 use Rattle.tail_book.specs.declared.outcome.Outcome.{Outcome}
 use Rattle.tail_book.specs.declared.outcome.Outcome.TheVariants.{Optimal, Infeasible, Between, Above}
 use Rattle.branch_marks.specs.LogShown.{LogShown}

@@ -1,7 +1,7 @@
 -- What a step on a node answers: what is true of each answer, and the node that the step visits.
 use Rattle.std.specs.Prelude.{◌≡◌, ℕ, ℤ, ◌<◌, List, All}
 use Rattle.tail_book.specs.Seen.{BookSeen}
-use Rattle.tail_book.specs.inside.Seen.{CostTableSeen}
+use Rattle.tail_book.specs.TableSeen.{CostTableSeen}
 use Rattle.tail_book.specs.Lookup.{aircraft}
 use Rattle.tail_book.specs.Route.{IsLegalRoute}
 use Rattle.branch_marks.specs.declared.fact.Fact.{Fact}

@@ -1,7 +1,7 @@
 -- What a log tells after a search that stopped early: a front of the events of a begun tree.
 use Rattle.std.specs.Prelude.{◌≡◌, false, List}
 use Rattle.tail_book.specs.Seen.{BookSeen}
-use Rattle.tail_book.specs.inside.Seen.{CostTableSeen}
+use Rattle.tail_book.specs.TableSeen.{CostTableSeen}
 use Rattle.branch_marks.specs.declared.event.Event.{Event}
 use Rattle.branch_marks.specs.LogShown.{LogShown}
 use Rattle.branch_marks.specs.TreeLog.{IsCut}

@@ -1,10 +1,9 @@
 -- The cost to undercut, and when a bound reaches it.
 use Rattle.std.specs.Prelude.{◌≡◌, ◌⊎◌, ℕ, ℤ, ◌+◌, ◌*◌, ◌<◌, ◌≤◌, ⊤, List, [], ◌∷◌, map, Option, Some, None}
 use Rattle.tail_book.specs.Seen.{BookSeen}
-use Rattle.tail_book.specs.inside.Seen.{CostTableSeen}
-use Rattle.tail_book.specs.inside.CostTable.{cost_unit, greatest_cost_in, plan_cost_in}
-use Rattle.tail_book.specs.Truth.{SomePlanCostsBy}
-use Rattle.tail_book.specs.inside.Truth.{IsPlanIn}
+use Rattle.tail_book.specs.TableSeen.{CostTableSeen}
+use Rattle.tail_book.specs.CostTable.{cost_unit, greatest_cost_in, plan_cost_in}
+use Rattle.tail_book.specs.Truth.{SomePlanCostsBy, IsPlanIn}
 use Rattle.branch_marks.specs.Bound.{lagrangian, bound_of}
 use Rattle.branch_marks.specs.ProofTree.{Cover}
 use Rattle.dive_heuristic.specs.declared.answer.Dive.{Dive}

@@ -5,7 +5,7 @@
 ghost use Rattle.std.specs.Prelude.{◌≡◌, ◌<◌, List, All, IfOk, OnOk, length};
 ghost use Rattle.tail_book.specs.Lookup.{activities, aircraft};
 ghost use Rattle.tail_book.specs.declared.place.Place.TheVariants.{Carry};
-ghost use Rattle.tail_book.specs.inside.CostTable.{IsTableFor};
+ghost use Rattle.tail_book.specs.CostTable.{IsTableFor};
 ghost use Rattle.tail_book.specs.inside.Rising.{IsRisingFrom};
 ghost use Rattle.branch_marks.specs.declared.fact.Fact.{Fact};
 ghost use Rattle.branch_marks.specs.Pool.{IsFittingEntry};

@@ -4,8 +4,8 @@
 
 ghost use Rattle.std.specs.Prelude.{◌≡◌, ◌≤◌, None, IfOk};
 ghost use Rattle.tail_book.specs.Plan.{IsLegalPlan};
-ghost use Rattle.tail_book.specs.inside.CostTable.{IsTableFor, plan_cost_in};
-ghost use Rattle.tail_book.specs.inside.Truth.{IsPlanIn};
+ghost use Rattle.tail_book.specs.CostTable.{IsTableFor, plan_cost_in};
+ghost use Rattle.tail_book.specs.Truth.{IsPlanIn};
 ghost use Rattle.branch_tree.specs.Target.{IsBest, no_target};
 
 use plan_audit::audit_plan;

@@ -4,11 +4,11 @@
 //! them is ever held. Its events are listed before the first of them is told.
 //!
 //! A log that wants no events is told none, and then no aircraft is priced again: that covers with these values are there
-//! is a law of `whole_families`, and nobody reads them.
+//! is a law of `branch_marks`, and nobody reads them.
 
 ghost use Rattle.std.specs.Prelude.{◌≡◌, ◌<◌, ◌∷◌, All, IfOk, OnOk, OnErr, IsErrOf, List};
 ghost use Rattle.tail_book.specs.Lookup.{aircraft};
-ghost use Rattle.tail_book.specs.inside.CostTable.{IsTableFor};
+ghost use Rattle.tail_book.specs.CostTable.{IsTableFor};
 ghost use Rattle.branch_marks.specs.Bound.{AreLeastWeights};
 ghost use Rattle.branch_marks.specs.DeadEnds.{IsStuck};
 ghost use Rattle.branch_marks.specs.Events.{IsNotable};
@@ -24,13 +24,13 @@ ghost use Rattle.branch_tree.specs.inside.Leaf.{IsReady, IsCutAtCover, IsCutAtCo
 use crate::listing::{list_duals, list_labels, list_one, list_value};
 use crate::telling::note_all;
 use crate::{NodePricer, Stop, laws};
+use branch_marks::laws::{low_bounds_are_shown, stuck_is_shown};
 use branch_marks::{Event, Marks, TreeLog};
 use connection_net::Net;
 use label_store::laws::every_store_is_sound;
 use std::alloc::Global;
 use tail_book::laws::{every_book_is_sound, every_cost_table_is_sound};
 use tail_book::{Book, CostTable, Duals, Memory};
-use whole_families::laws::{low_bounds_are_shown, stuck_is_shown};
 
 // The events of the cover of an aircraft with this value, which is its least weight.
 fn cover_of(

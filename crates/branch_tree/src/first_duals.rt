@@ -3,7 +3,7 @@
 
 ghost use Rattle.std.specs.Prelude.{◌≡◌, ◌<◌, ◌++◌, ◌∷◌, [], IfOk, OnOk};
 ghost use Rattle.tail_book.specs.Lookup.{activities};
-ghost use Rattle.tail_book.specs.inside.CostTable.{IsInBox, IsTableFor};
+ghost use Rattle.tail_book.specs.CostTable.{IsInBox, IsTableFor};
 ghost use Rattle.branch_marks.specs.Settled.{AreDuals};
 ghost use Rattle.branch_marks.specs.inside.MarkTables.{AreMarksOf};
 

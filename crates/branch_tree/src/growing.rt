@@ -5,7 +5,7 @@
 //! place at most.
 
 ghost use Rattle.std.specs.Prelude.{◌≡◌, ◌+◌, [], ◌∷◌, ℕ, true, false, IfOk, OnErr, IsErrOf};
-ghost use Rattle.tail_book.specs.inside.CostTable.{IsTableFor};
+ghost use Rattle.tail_book.specs.CostTable.{IsTableFor};
 ghost use Rattle.branch_marks.specs.TreeLog.{IsLater, WriteHasFailed};
 ghost use Rattle.branch_tree.specs.Place.{root};
 ghost use Rattle.branch_tree.specs.Stops.{StopsIn};

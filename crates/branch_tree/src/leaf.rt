@@ -4,8 +4,8 @@
 //! for a log that wants the events, each once more for the labels of its cover.
 
 ghost use Rattle.std.specs.Prelude.{◌≡◌, ◌≤◌, ◌^◌, ◌∷◌, ◌+ℤ◌, ◌-ℤ◌, [], pos, length, IfOk, OnErr, IsErrOf};
-ghost use Rattle.tail_book.specs.inside.Sound.{IsWithin};
-ghost use Rattle.tail_book.specs.inside.Sums.{total};
+ghost use Rattle.tail_book.specs.Ranges.{IsWithin};
+ghost use Rattle.tail_book.specs.Sums.{total};
 ghost use Rattle.branch_marks.specs.Bound.{lagrangian};
 ghost use Rattle.branch_marks.specs.Settled.{AreDuals};
 ghost use Rattle.branch_marks.specs.TreeLog.{IsLater, WriteHasFailed};

@@ -6,7 +6,7 @@
 
 ghost use Rattle.std.specs.Prelude.{◌≡◌, ◌<◌, ◌++◌, ◌∷◌, [], IfOk, OnOk};
 ghost use Rattle.tail_book.specs.Lookup.{aircraft};
-ghost use Rattle.tail_book.specs.inside.CostTable.{IsTableFor};
+ghost use Rattle.tail_book.specs.CostTable.{IsTableFor};
 ghost use Rattle.branch_marks.specs.Settled.{AreDuals};
 ghost use Rattle.pricing.specs.Price.{IsPriceOf};
 ghost use Rattle.branch_tree.specs.inside.Leaf.{IsNodePricerOf, IsReady, ArePrices};

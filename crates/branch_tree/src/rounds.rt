@@ -5,7 +5,7 @@
 //! A route of each aircraft would do, but several a round save most of the rounds.
 
 ghost use Rattle.std.specs.Prelude.{◌≡◌, ◌≤◌, IfOk, IfSome};
-ghost use Rattle.tail_book.specs.inside.CostTable.{IsTableFor};
+ghost use Rattle.tail_book.specs.CostTable.{IsTableFor};
 ghost use Rattle.branch_marks.specs.Settled.{AreDuals};
 ghost use Rattle.branch_tree.specs.Target.{IsBest};
 ghost use Rattle.branch_tree.specs.inside.Leaf.{IsReady};

@@ -2,7 +2,7 @@
 //! The pool and the best plan carry what one node found over to those behind it.
 
 ghost use Rattle.std.specs.Prelude.{◌≡◌, [], ◌∷◌, IfOk};
-ghost use Rattle.tail_book.specs.inside.CostTable.{IsTableFor};
+ghost use Rattle.tail_book.specs.CostTable.{IsTableFor};
 ghost use Rattle.branch_tree.specs.Place.{root};
 ghost use Rattle.branch_tree.specs.Target.{no_target};
 ghost use Rattle.branch_tree.specs.inside.Searching.{IsStateFor};

@@ -4,8 +4,8 @@
 //! told to the log as it grows, and is not kept.
 
 ghost use Rattle.std.specs.Prelude.{◌≡◌, [], ◌∷◌, IfOk, OnErr, IsErrOf};
-ghost use Rattle.tail_book.specs.inside.CostTable.{IsTableFor};
-ghost use Rattle.tail_book.specs.inside.Truth.{IsTrueOutcomeIn};
+ghost use Rattle.tail_book.specs.CostTable.{IsTableFor};
+ghost use Rattle.tail_book.specs.Truth.{IsTrueOutcomeIn};
 ghost use Rattle.branch_marks.specs.TreeLog.{IsLater, WriteHasFailed};
 ghost use Rattle.branch_tree.specs.Place.{root};
 ghost use Rattle.branch_tree.specs.Search.{IsSearched, EndsUnder};

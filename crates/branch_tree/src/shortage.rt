@@ -7,7 +7,7 @@
 //! target can be. It is priced like any other.
 
 ghost use Rattle.std.specs.Prelude.{IfOk, IfSome};
-ghost use Rattle.tail_book.specs.inside.CostTable.{IsInBox, IsTableFor};
+ghost use Rattle.tail_book.specs.CostTable.{IsInBox, IsTableFor};
 ghost use Rattle.branch_marks.specs.Settled.{AreDuals};
 
 use crate::first_duals::push_dual;

@@ -2,7 +2,7 @@
 
 ghost use Rattle.std.specs.Prelude.{◌≡◌, ◌<◌, All, IfOk, OnOk, OnErr, IsErrOf};
 ghost use Rattle.tail_book.specs.Lookup.{aircraft};
-ghost use Rattle.tail_book.specs.inside.Seen.{CostTableSeen};
+ghost use Rattle.tail_book.specs.TableSeen.{CostTableSeen};
 ghost use Rattle.connection_net.specs.Net.{net_of};
 ghost use Rattle.branch_marks.specs.Following.{IsShut};
 ghost use Rattle.branch_marks.specs.Pool.{Pooled};

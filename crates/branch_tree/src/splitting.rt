@@ -3,13 +3,12 @@
 //! The dive comes before the last test, since its plan may lower the target to what the bound reaches.
 
 ghost use Rattle.std.specs.Prelude.{◌≡◌, ◌≤◌, IfOk};
-ghost use Rattle.branch_marks.specs.Settled.{IsSettled};
+ghost use Rattle.branch_marks.specs.Settled.{IsSettled, AreDuals};
 ghost use Rattle.dive_heuristic.specs.Dive.{HasNoHole, IsDiveOf};
 ghost use Rattle.dive_heuristic.specs.Divers.{IsDiverFor};
-ghost use Rattle.branch_marks.specs.Settled.{AreDuals};
 ghost use Rattle.branch_marks.specs.inside.MarkTables.{AreMarksOf};
 ghost use Rattle.connection_net.specs.Net.{net_of};
-ghost use Rattle.tail_book.specs.inside.CostTable.{IsTableFor};
+ghost use Rattle.tail_book.specs.CostTable.{IsTableFor};
 ghost use Rattle.branch_tree.specs.Target.{HasUsed, IsBest};
 ghost use Rattle.branch_tree.specs.inside.Stepping.{IsEndFound};
 ghost use Rattle.branch_tree.specs.inside.Weighing.{IsOpen};

@@ -2,7 +2,7 @@
 //! visit: what its propagator found holds for the marks of that place alone.
 
 ghost use Rattle.std.specs.Prelude.{List, IfOk};
-ghost use Rattle.tail_book.specs.inside.CostTable.{IsTableFor};
+ghost use Rattle.tail_book.specs.CostTable.{IsTableFor};
 ghost use Rattle.branch_marks.specs.declared.fact.Fact.{Fact};
 ghost use Rattle.dive_heuristic.specs.Divers.{IsDiverFor};
 ghost use Rattle.branch_tree.specs.inside.Leaf.{IsNodePricerOf};

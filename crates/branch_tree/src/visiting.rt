@@ -2,7 +2,7 @@
 //! first, and beside the place that is taken at most one is open for each split above it.
 
 ghost use Rattle.std.specs.Prelude.{◌≡◌, ◌≤◌, ◌++◌, [], ◌∷◌, OnOk, OnErr, IsErrOf};
-ghost use Rattle.tail_book.specs.inside.CostTable.{IsTableFor};
+ghost use Rattle.tail_book.specs.CostTable.{IsTableFor};
 ghost use Rattle.branch_marks.specs.TreeLog.{IsLater, WriteHasFailed};
 ghost use Rattle.branch_tree.specs.Node.{Ending, branches};
 ghost use Rattle.branch_tree.specs.Step.{AnswersNode};

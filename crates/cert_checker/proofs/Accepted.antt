@@ -7,12 +7,11 @@ use Rattle.tail_book.specs.Cost.{plan_cost}
 use Rattle.tail_book.specs.Lookup.{aircraft}
 use Rattle.tail_book.specs.Plan.{IsLegalPlan}
 use Rattle.tail_book.specs.Seen.{BookSeen}
-use Rattle.tail_book.specs.Truth.{SomePlanCostsBy}
+use Rattle.tail_book.specs.Truth.{SomePlanCostsBy, IsTrueClaim}
 use Rattle.tail_book.specs.declared.claim.Claim.{Claim}
 use Rattle.tail_book.specs.declared.claim.Claim.TheVariants.{Optimal, Infeasible, Limit}
-use Rattle.tail_book.specs.inside.CostTable.{costs_of, greatest_cost_in}
-use Rattle.tail_book.specs.inside.Fliers.{plan_by}
-use Rattle.tail_book.specs.inside.Truth.{IsTrueClaim}
+use Rattle.tail_book.specs.CostTable.{costs_of, greatest_cost_in}
+use Rattle.tail_book.specs.Fliers.{plan_by}
 use Rattle.branch_marks.specs.ProofTree.{Tree}
 use Rattle.cert_lines.specs.declared.cert_line.CertLine.{CertLine}
 use Rattle.cert_lines.specs.declared.cert_line.CertLine.TheVariants as line

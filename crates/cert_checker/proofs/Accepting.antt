@@ -11,8 +11,8 @@ use Rattle.tail_book.specs.Cost.{plan_cost}
 use Rattle.tail_book.specs.Lookup.{activities, aircraft}
 use Rattle.tail_book.specs.Seen.{BookSeen}
 use Rattle.tail_book.specs.declared.claim.Claim.{Claim}
-use Rattle.tail_book.specs.inside.CostTable.{costs_of}
-use Rattle.tail_book.specs.inside.Fliers.{plan_by}
+use Rattle.tail_book.specs.CostTable.{costs_of}
+use Rattle.tail_book.specs.Fliers.{plan_by}
 use Rattle.tail_book.specs.inside.Tests.{LegalPlanDecides}
 use Rattle.tail_text.specs.Checks.{look}
 use Rattle.tail_text.specs.Parts.{parts_of}
@@ -21,9 +21,12 @@ use Rattle.branch_marks.specs.Following.{FollowingFactsAreOfBook}
 use Rattle.branch_marks.specs.declared.fact.Fact.{Fact}
 use Rattle.branch_marks.specs.declared.fact.Pair.{Pair}
 use Rattle.branch_marks.specs.declared.fact.Pair.TheVariants as pairs
-use Rattle.branch_marks.specs.inside.BranchTests.{UndecidedDecides, is_undecided}
-use Rattle.branch_marks.specs.inside.FollowingTests.{FollowsDecides, follows}
-use Rattle.branch_marks.specs.inside.MarkTests.{AliveDecides, FactOfDecides, is_alive, is_fact_of}
+use Rattle.branch_marks.specs.Undecided.{is_undecided}
+use Rattle.branch_marks.specs.inside.BranchTests.{UndecidedDecides}
+use Rattle.branch_marks.specs.FollowingTests.{follows}
+use Rattle.branch_marks.specs.inside.FollowingTests.{FollowsDecides}
+use Rattle.branch_marks.specs.MarkTests.{is_alive, is_fact_of}
+use Rattle.branch_marks.specs.inside.MarkTests.{AliveDecides, FactOfDecides}
 use Rattle.branch_marks.specs.inside.TreeTests.{BoundsDecide, ShownDecides}
 use Rattle.cert_lines.specs.declared.cert_line.CertLine.{CertLine}
 use Rattle.cert_lines.specs.declared.cert_line.CertLine.TheVariants as lines

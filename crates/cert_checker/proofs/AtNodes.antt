@@ -9,11 +9,11 @@ use Rattle.tail_text.specs.Checks.{look, must}
 use Rattle.branch_marks.specs.Branches.{first_branch, second_branch}
 use Rattle.branch_marks.specs.declared.fact.Fact.{Fact}
 use Rattle.branch_marks.specs.declared.fact.Pair.{Pair}
-use Rattle.branch_marks.specs.inside.BranchTests.{is_undecided}
-use Rattle.branch_marks.specs.inside.FactTests.{has_fact}
-use Rattle.branch_marks.specs.inside.FollowingTests.{follows}
-use Rattle.branch_marks.specs.inside.MarkTests.{is_fact_of}
-use Rattle.branch_marks.specs.inside.TreeTests.{is_hole}
+use Rattle.branch_marks.specs.Undecided.{is_undecided}
+use Rattle.branch_marks.specs.FactTests.{has_fact}
+use Rattle.branch_marks.specs.FollowingTests.{follows}
+use Rattle.branch_marks.specs.MarkTests.{is_fact_of}
+use Rattle.branch_marks.specs.TreeTests.{is_hole}
 use Rattle.cert_checker.specs.Judging.{Step, after_leaf, at_node, is_pair_of, next_owed, take_fact, take_hole, take_split}
 use Rattle.cert_checker.specs.State.{OpenLeaf, State, Section, InTree}
 use Rattle.cert_checker.specs.declared.judging.Judging.{Judging}

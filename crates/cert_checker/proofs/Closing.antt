@@ -7,7 +7,7 @@ use Rattle.std.proofs.lemmas.Bool.{ne_eqb}
 use Rattle.std.proofs.lemmas.List.{length-reverse}
 use Rattle.tail_book.specs.Lookup.{aircraft}
 use Rattle.tail_book.specs.Seen.{BookSeen}
-use Rattle.tail_book.specs.inside.Sums.{total}
+use Rattle.tail_book.specs.Sums.{total}
 use Rattle.branch_marks.specs.Bound.{rounded_up}
 use Rattle.branch_marks.specs.declared.fact.Fact.{Fact}
 use Rattle.cert_checker.specs.Judging.{after_leaf, done_section, lower, owes}

@@ -7,7 +7,7 @@ use Rattle.std.proofs.lemmas.List.{append-nil}
 use Rattle.std.specs.List.{flat_map}
 use Rattle.std.specs.Prelude.{⊤, if◌then◌else◌}
 use Rattle.tail_book.specs.Seen.{BookSeen}
-use Rattle.tail_book.specs.inside.CostTable.{costs_of}
+use Rattle.tail_book.specs.CostTable.{costs_of}
 use Rattle.branch_marks.specs.Branches.{first_branch, second_branch}
 use Rattle.branch_marks.specs.ProofTree.{Tree}
 use Rattle.branch_marks.specs.ProofTree as grown
@@ -15,10 +15,10 @@ use Rattle.branch_marks.specs.declared.event.Event.{Event}
 use Rattle.branch_marks.specs.declared.event.Event.TheVariants as events
 use Rattle.branch_marks.specs.declared.fact.Fact.{Fact}
 use Rattle.branch_marks.specs.declared.fact.Pair.{Pair}
-use Rattle.branch_marks.specs.inside.BranchTests.{is_undecided}
-use Rattle.branch_marks.specs.inside.FactTests.{has_fact}
-use Rattle.branch_marks.specs.inside.FollowingTests.{follows}
-use Rattle.branch_marks.specs.inside.TreeTests.{bounds_at_least, is_shown}
+use Rattle.branch_marks.specs.Undecided.{is_undecided}
+use Rattle.branch_marks.specs.FactTests.{has_fact}
+use Rattle.branch_marks.specs.FollowingTests.{follows}
+use Rattle.branch_marks.specs.TreeTests.{bounds_at_least, is_shown}
 use Rattle.cert_checker.specs.Judging.{lower}
 use Rattle.cert_checker.specs.Reasons.{reaches}
 use Rattle.branch_marks.specs.TreeEvents.{tree_events}

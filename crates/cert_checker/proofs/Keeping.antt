@@ -10,11 +10,11 @@ use Rattle.std.proofs.lemmas.List.{get_or_append_left, length_push}
 use Rattle.std.proofs.lemmas.List.Elements.{All-nil, All-push}
 use Rattle.tail_book.specs.Lookup.{aircraft}
 use Rattle.tail_book.specs.Seen.{BookSeen}
-use Rattle.tail_book.specs.inside.Sound.{IsWithin}
+use Rattle.tail_book.specs.Ranges.{IsWithin}
 use Rattle.branch_marks.specs.Labels.{Label}
 use Rattle.branch_marks.specs.ProofTree.{zero_duals}
 use Rattle.branch_marks.specs.declared.fact.Fact.{Fact}
-use Rattle.branch_marks.specs.inside.MarkTests.{is_alive}
+use Rattle.branch_marks.specs.MarkTests.{is_alive}
 use Rattle.cert_checker.specs.declared.judging.Judging.{Judging}
 use Rattle.cert_checker.specs.declared.judging.Leaf.{Leaf}
 use Rattle.cert_checker.specs.declared.judging.Part.{Part}

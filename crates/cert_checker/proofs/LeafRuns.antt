@@ -6,32 +6,28 @@ use Rattle.std.proofs.Common.{◌≡◌, ◌∙◌, ◌+◌, ◌<◌, ◌≤◌,
 use Rattle.std.proofs.lemmas.Bool.{and_parts}
 use Rattle.std.proofs.lemmas.Bool.Decides.{nat_tests}
 use Rattle.std.proofs.lemmas.Int.{ints}
-use Rattle.std.proofs.lemmas.List.{append-nil, map-append}
+use Rattle.std.proofs.lemmas.List.{append-nil, map-append, set_at}
 use Rattle.std.specs.List.{list_all}
 use Rattle.std.specs.Prelude.{⊤, slice_set}
-use Rattle.tail_book.specs.Lookup.{activities, aircraft}
+use Rattle.tail_book.specs.Lookup.{activities, aircraft, carry_of}
 use Rattle.tail_book.specs.Seen.{BookSeen}
-use Rattle.tail_book.specs.inside.CostTable.{costs_of}
-use Rattle.tail_book.specs.inside.Sums.{total}
+use Rattle.tail_book.specs.CostTable.{costs_of}
+use Rattle.tail_book.specs.Sums.{total}
 use Rattle.branch_marks.specs.Labels.{Label}
 use Rattle.branch_marks.specs.ProofTree.{Cover}
 use Rattle.branch_marks.specs.declared.event.Event.TheVariants as events
 use Rattle.branch_marks.specs.declared.fact.Fact.{Fact}
-use Rattle.branch_marks.specs.inside.MarkTests.{is_alive}
-use Rattle.branch_marks.specs.inside.TreeTests.{is_in_box, is_shown_cover}
+use Rattle.branch_marks.specs.MarkTests.{is_alive}
+use Rattle.branch_marks.specs.TreeTests.{is_in_box, is_shown_cover, is_shown_family}
 use Rattle.cert_lines.specs.declared.cert_line.CertLine.{CertLine}
 use Rattle.cert_lines.specs.declared.cert_line.CertLine.TheVariants as lines
 use Rattle.cert_checker.specs.Judging.{owed_with, rest_owed}
 use Rattle.cert_checker.specs.State.{OpenLeaf, State, Section, InBound}
-use Rattle.branch_marks.specs.TreeEvents.{cover_events, dual_events, label_event, label_events}
+use Rattle.branch_marks.specs.TreeEvents.{cover_events, dual_events, label_event, label_events, dual_event}
 use Rattle.cert_checker.specs.Verdict.{leaf_fails}
-use Rattle.std.proofs.lemmas.List.{set_at}
-use Rattle.tail_book.specs.inside.SoundTests.{each_pair}
-use Rattle.branch_marks.specs.inside.FamilyTests.{ends_at_least, goes_on, is_closed_family}
-use Rattle.branch_marks.specs.inside.TreeTests.{is_shown_family}
-use Rattle.tail_book.specs.Lookup.{carry_of}
+use Rattle.tail_book.specs.Pairs.{each_pair}
+use Rattle.branch_marks.specs.FamilyTests.{ends_at_least, goes_on, is_closed_family}
 use Rattle.tail_book.specs.declared.place.Place.TheVariants.{After, Carry}
-use Rattle.branch_marks.specs.TreeEvents.{dual_event}
 use Rattle.cert_checker.proofs.InLeaf.{rest_is}
 use Rattle.cert_checker.proofs.Running.{Passes, label_passes, one_passes, passes_then}
 

@@ -4,10 +4,11 @@ use Rattle.std.proofs.Common.{◌≡◌, ◌∙◌, ℕ, Bool, true, false, List
 use Rattle.std.specs.Prelude.{◌==◌, ◌&&◌, nat_eq}
 use Rattle.tail_book.specs.Cost.{plan_cost}
 use Rattle.tail_book.specs.Seen.{BookSeen}
-use Rattle.tail_book.specs.inside.CostTable.{costs_of, plan_cost_in}
-use Rattle.tail_book.specs.inside.Seen.{CostTableSeen}
+use Rattle.tail_book.specs.CostTable.{costs_of, plan_cost_in}
+use Rattle.tail_book.specs.TableSeen.{CostTableSeen}
 use Rattle.tail_book.specs.inside.TableLaws.{OwnCostsOfLegalPlans}
-use Rattle.tail_book.specs.inside.Tests.{LegalPlanDecides, is_legal_plan}
+use Rattle.tail_book.specs.LegalTests.{is_legal_plan}
+use Rattle.tail_book.specs.inside.Tests.{LegalPlanDecides}
 use Rattle.plan_audit.specs.inside.PlanCost.{IsPlanCost}
 
 -- what an audit by the book's own costs says of a cost

@@ -9,16 +9,16 @@ use Rattle.std.specs.Prelude.{⊤, All, if◌then◌else◌}
 use Rattle.tail_book.specs.Lookup.{activities, aircraft}
 use Rattle.tail_book.specs.Seen.{BookSeen}
 use Rattle.tail_book.specs.declared.claim.Claim.{Claim}
-use Rattle.tail_book.specs.inside.CostTable.{costs_of}
-use Rattle.tail_book.specs.inside.Sums.{total}
+use Rattle.tail_book.specs.CostTable.{costs_of}
+use Rattle.tail_book.specs.Sums.{total}
 use Rattle.tail_text.specs.Checks.{look, must}
 use Rattle.branch_marks.specs.ProofTree.{Cover, cover_of}
 use Rattle.branch_marks.specs.ProofTree as grown
 use Rattle.branch_marks.specs.declared.event.Event.{Event}
 use Rattle.branch_marks.specs.declared.event.Event.TheVariants as events
 use Rattle.branch_marks.specs.declared.fact.Fact.{Fact}
-use Rattle.branch_marks.specs.inside.Below.{all_below}
-use Rattle.branch_marks.specs.inside.TreeTests.{are_duals, is_shown_cover, is_shown_stuck}
+use Rattle.branch_marks.specs.Below.{all_below}
+use Rattle.branch_marks.specs.TreeTests.{are_duals, is_shown_cover, is_shown_stuck}
 use Rattle.cert_lines.specs.declared.cert_line.CertLine.{CertLine}
 use Rattle.cert_lines.specs.declared.cert_line.CertLine.TheVariants as lines
 use Rattle.cert_checker.specs.Certificate.{asked_of, claimed_cost, header_of, plan_lines}

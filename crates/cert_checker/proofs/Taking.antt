@@ -8,7 +8,7 @@ use Rattle.std.specs.Prelude.{slice_set}
 use Rattle.tail_book.specs.Lookup.{activities, aircraft}
 use Rattle.tail_book.specs.Seen.{BookSeen}
 use Rattle.tail_book.proofs.Deciding.{int_le_tested}
-use Rattle.tail_book.specs.inside.CostTable.{box_end, costs_of}
+use Rattle.tail_book.specs.CostTable.{box_end, costs_of}
 use Rattle.tail_text.specs.Checks.{must}
 use Rattle.branch_marks.specs.Branches.{first_branch, second_branch}
 use Rattle.branch_marks.specs.ProofTree.{zero_duals}
@@ -17,11 +17,11 @@ use Rattle.branch_marks.specs.declared.event.Event.{Event}
 use Rattle.branch_marks.specs.declared.event.Event.TheVariants as events
 use Rattle.branch_marks.specs.declared.fact.Fact.{Fact}
 use Rattle.branch_marks.specs.declared.fact.Pair.{Pair}
-use Rattle.branch_marks.specs.inside.BranchTests.{is_undecided}
-use Rattle.branch_marks.specs.inside.FactTests.{has_fact}
-use Rattle.branch_marks.specs.inside.FollowingTests.{follows}
-use Rattle.branch_marks.specs.inside.MarkTests.{is_fact_of}
-use Rattle.branch_marks.specs.inside.TreeTests.{are_duals, is_hole, is_in_box}
+use Rattle.branch_marks.specs.Undecided.{is_undecided}
+use Rattle.branch_marks.specs.FactTests.{has_fact}
+use Rattle.branch_marks.specs.FollowingTests.{follows}
+use Rattle.branch_marks.specs.MarkTests.{is_fact_of}
+use Rattle.branch_marks.specs.TreeTests.{are_duals, is_hole, is_in_box}
 use Rattle.cert_lines.specs.declared.cert_line.CertLine.{CertLine}
 use Rattle.cert_lines.specs.declared.cert_line.CertLine.TheVariants as lines
 use Rattle.cert_checker.specs.Certificate.{fly_lines, header_of}

@@ -10,8 +10,8 @@ use Rattle.std.specs.List.{list_all}
 use Rattle.std.specs.Prelude.{if◌then◌else◌}
 use Rattle.tail_book.specs.Lookup.{activities, aircraft}
 use Rattle.tail_book.specs.Seen.{BookSeen}
-use Rattle.tail_book.specs.inside.CostTable.{costs_of}
-use Rattle.tail_book.specs.inside.Sums.{total}
+use Rattle.tail_book.specs.CostTable.{costs_of}
+use Rattle.tail_book.specs.Sums.{total}
 use Rattle.branch_marks.specs.Bound.{rounded_up}
 use Rattle.branch_marks.specs.Labels.{Label}
 use Rattle.branch_marks.specs.Branches.{first_branch, second_branch}
@@ -19,13 +19,13 @@ use Rattle.branch_marks.specs.ProofTree.{Cover, Tree, Step, Split, Hole, Stuck, 
 use Rattle.branch_marks.specs.declared.event.Event.TheVariants as events
 use Rattle.branch_marks.specs.declared.fact.Fact.{Fact}
 use Rattle.branch_marks.specs.declared.fact.Pair.{Pair}
-use Rattle.branch_marks.specs.inside.Below.{all_below}
-use Rattle.branch_marks.specs.inside.BranchTests.{is_undecided}
-use Rattle.branch_marks.specs.inside.FactTests.{has_fact}
-use Rattle.branch_marks.specs.inside.FollowingTests.{follows}
-use Rattle.branch_marks.specs.inside.MarkTests.{is_alive, is_fact_of}
-use Rattle.branch_marks.specs.inside.FamilyTests.{has_no_end}
-use Rattle.branch_marks.specs.inside.TreeTests.{are_duals, bounds_at_least, is_hole, is_in_box, is_shown, is_shown_cover, is_shown_family, is_shown_stuck}
+use Rattle.branch_marks.specs.Below.{all_below}
+use Rattle.branch_marks.specs.Undecided.{is_undecided}
+use Rattle.branch_marks.specs.FactTests.{has_fact}
+use Rattle.branch_marks.specs.FollowingTests.{follows}
+use Rattle.branch_marks.specs.MarkTests.{is_alive, is_fact_of}
+use Rattle.branch_marks.specs.FamilyTests.{has_no_end}
+use Rattle.branch_marks.specs.TreeTests.{are_duals, bounds_at_least, is_hole, is_in_box, is_shown, is_shown_cover, is_shown_family, is_shown_stuck}
 use Rattle.cert_lines.specs.declared.cert_line.CertLine.{CertLine}
 use Rattle.cert_lines.specs.declared.cert_line.CertLine.TheVariants as lines
 use Rattle.cert_checker.specs.Certificate.{tree_lines}

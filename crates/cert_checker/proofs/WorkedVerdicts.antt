@@ -7,9 +7,9 @@ use Rattle.std.specs.Prelude.{codes}
 use Rattle.tail_book.specs.Allowed.{is_permitted}
 use Rattle.tail_book.specs.Link.{is_connected}
 use Rattle.tail_book.specs.Seen.{BookSeen}
-use Rattle.tail_book.specs.inside.Tests.{is_allowed, is_link}
-use Rattle.branch_marks.specs.inside.FollowingTests.{is_dead, is_only_carrier}
-use Rattle.branch_marks.specs.inside.MarkTests.{is_alive, is_usable, may_end}
+use Rattle.tail_book.specs.LegalTests.{is_allowed, is_link}
+use Rattle.branch_marks.specs.FollowingTests.{is_dead, is_only_carrier}
+use Rattle.branch_marks.specs.MarkTests.{is_alive, is_usable, may_end}
 use Rattle.cert_lines.specs.Words.{counters_of}
 use Rattle.tail_book.specs.declared.claim.Claim.TheVariants.{Optimal, Infeasible, Limit}
 use Rattle.branch_marks.proofs.WorkedBook.{book_with, flight, rates, turning}

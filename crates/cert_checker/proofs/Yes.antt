@@ -11,9 +11,10 @@ use Rattle.tail_book.specs.Cost.{plan_cost}
 use Rattle.tail_book.specs.Lookup.{aircraft}
 use Rattle.tail_book.specs.Seen.{BookSeen}
 use Rattle.tail_book.specs.declared.claim.Claim.{Claim}
-use Rattle.tail_book.specs.inside.CostTable.{costs_of}
-use Rattle.tail_book.specs.inside.Fliers.{plan_by}
-use Rattle.tail_book.specs.inside.Tests.{LegalPlanDecides, is_legal_plan}
+use Rattle.tail_book.specs.CostTable.{costs_of}
+use Rattle.tail_book.specs.Fliers.{plan_by}
+use Rattle.tail_book.specs.LegalTests.{is_legal_plan}
+use Rattle.tail_book.specs.inside.Tests.{LegalPlanDecides}
 use Rattle.tail_text.specs.Parts.{parts_of}
 use Rattle.branch_marks.specs.declared.event.Event.{Event}
 use Rattle.branch_marks.specs.inside.TreeTests.{BoundsDecide, ShownDecides}

@@ -3,13 +3,12 @@ use Rattle.std.specs.Prelude.{◌≡◌, ℕ, ◌+◌, ◌<◌, ⊤, List, [], �
 use Rattle.std.specs.List.{flat_map}
 use Rattle.tail_book.specs.Seen.{BookSeen}
 use Rattle.tail_book.specs.Lookup.{activities, aircraft}
-use Rattle.tail_book.specs.Truth.{IsPlanOf}
+use Rattle.tail_book.specs.Truth.{IsPlanOf, IsTrueClaim}
 use Rattle.tail_book.specs.declared.claim.Claim.{Claim}
 use Rattle.tail_book.specs.declared.claim.Claim.TheVariants.{Optimal, Infeasible, Limit}
-use Rattle.tail_book.specs.inside.CostTable.{costs_of, greatest_cost_in}
-use Rattle.tail_book.specs.inside.Fliers.{plan_by}
+use Rattle.tail_book.specs.CostTable.{costs_of, greatest_cost_in}
+use Rattle.tail_book.specs.Fliers.{plan_by}
 use Rattle.tail_book.specs.inside.Sound.{IsBook}
-use Rattle.tail_book.specs.inside.Truth.{IsTrueClaim}
 use Rattle.branch_marks.specs.ProofTree.{Tree, IsShown, BoundsAtLeast}
 use Rattle.cert_lines.specs.declared.cert_line.CertLine.{CertLine}
 use Rattle.cert_lines.specs.declared.cert_line.CertLine.TheVariants as line

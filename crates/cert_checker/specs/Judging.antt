@@ -4,8 +4,8 @@ use Rattle.std.specs.Prelude.{ℕ, ℤ, pos, ◌+◌, ◌+ℤ◌, List, [], ◌�
 use Rattle.tail_book.specs.Lookup.{activities, aircraft}
 use Rattle.tail_book.specs.Seen.{BookSeen}
 use Rattle.tail_book.specs.declared.claim.Claim.{Claim}
-use Rattle.tail_book.specs.inside.CostTable.{costs_of}
-use Rattle.tail_book.specs.inside.Sums.{total}
+use Rattle.tail_book.specs.CostTable.{costs_of}
+use Rattle.tail_book.specs.Sums.{total}
 use Rattle.tail_text.specs.Checks.{look, must}
 use Rattle.branch_marks.specs.Bound.{rounded_up}
 use Rattle.branch_marks.specs.Branches.{first_branch, second_branch}
@@ -16,11 +16,11 @@ use Rattle.branch_marks.specs.declared.event.Event.TheVariants as event
 use Rattle.branch_marks.specs.declared.fact.Fact.{Fact}
 use Rattle.branch_marks.specs.declared.fact.Pair.{Pair}
 use Rattle.branch_marks.specs.declared.fact.Pair.TheVariants as pair
-use Rattle.branch_marks.specs.inside.BranchTests.{is_undecided}
-use Rattle.branch_marks.specs.inside.FactTests.{has_fact}
-use Rattle.branch_marks.specs.inside.FollowingTests.{follows}
-use Rattle.branch_marks.specs.inside.MarkTests.{is_alive, is_fact_of}
-use Rattle.branch_marks.specs.inside.TreeTests.{is_hole, is_in_box}
+use Rattle.branch_marks.specs.Undecided.{is_undecided}
+use Rattle.branch_marks.specs.FactTests.{has_fact}
+use Rattle.branch_marks.specs.FollowingTests.{follows}
+use Rattle.branch_marks.specs.MarkTests.{is_alive, is_fact_of}
+use Rattle.branch_marks.specs.TreeTests.{is_hole, is_in_box}
 use Rattle.cert_lines.specs.declared.cert_line.CertLine.{CertLine}
 use Rattle.cert_lines.specs.declared.cert_line.CertLine.TheVariants as line
 use Rattle.cert_checker.specs.Certificate.{asked_of, claimed_cost}

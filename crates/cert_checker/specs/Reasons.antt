@@ -4,12 +4,12 @@ use Rattle.std.specs.Prelude.{ℕ, ℤ, List, Bool, true, false, ◌&&◌, nat_l
 use Rattle.tail_book.specs.Cost.{plan_cost}
 use Rattle.tail_book.specs.Lookup.{aircraft}
 use Rattle.tail_book.specs.Seen.{BookSeen}
-use Rattle.tail_book.specs.inside.CostTable.{costs_of}
-use Rattle.tail_book.specs.inside.Fliers.{plan_by}
-use Rattle.tail_book.specs.inside.Tests.{is_legal_plan}
+use Rattle.tail_book.specs.CostTable.{costs_of}
+use Rattle.tail_book.specs.Fliers.{plan_by}
+use Rattle.tail_book.specs.LegalTests.{is_legal_plan}
 use Rattle.branch_marks.specs.declared.fact.Fact.{Fact}
 use Rattle.branch_marks.specs.Labels.{Label}
-use Rattle.branch_marks.specs.inside.TreeTests.{is_shown_cover, is_shown_stuck}
+use Rattle.branch_marks.specs.TreeTests.{is_shown_cover, is_shown_stuck}
 use Rattle.cert_checker.specs.declared.verdict.Reason.{Reason}
 use Rattle.cert_checker.specs.declared.verdict.Reason.TheVariants.{BadLine, OutOfPlace, KnownFact, NotFollowing, NotAlive, OpenCover, OutOfBox, BadPlan, WeakBound, Unfinished}
 use Rattle.cert_checker.specs.State.{OpenLeaf}

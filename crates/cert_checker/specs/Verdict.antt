@@ -3,7 +3,7 @@ use Rattle.std.specs.Prelude.{◌≡◌, ℕ, ◌+◌, List, [], ◌∷◌, Bool
 use Rattle.tail_book.specs.Seen.{BookSeen}
 use Rattle.tail_book.specs.declared.claim.Claim.{Claim}
 use Rattle.tail_book.specs.inside.Sound.{IsBook}
-use Rattle.tail_book.specs.inside.Truth.{IsTrueClaim}
+use Rattle.tail_book.specs.Truth.{IsTrueClaim}
 use Rattle.tail_text.specs.Parts.{parts_of}
 use Rattle.branch_marks.specs.declared.event.Event.TheVariants.{Label}
 use Rattle.cert_lines.specs.declared.cert_line.CertLine.{CertLine}

@@ -3,8 +3,8 @@
 //! Sums are taken in 128 bits, where none of a book's numbers of duals and covers can pass the range.
 
 ghost use Rattle.std.specs.Prelude.{◌≡◌, ◌≤◌, ◌*◌, ◌^◌, ◌+ℤ◌, ◌-ℤ◌, pos, length};
-ghost use Rattle.tail_book.specs.inside.Sound.{IsWithin};
-ghost use Rattle.tail_book.specs.inside.Sums.{total};
+ghost use Rattle.tail_book.specs.Ranges.{IsWithin};
+ghost use Rattle.tail_book.specs.Sums.{total};
 ghost use Rattle.branch_marks.specs.Bound.{rounded_up};
 ghost use Rattle.cert_checker.specs.Judging.{lower};
 

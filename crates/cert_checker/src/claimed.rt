@@ -7,13 +7,12 @@ ghost use Rattle.cert_checker.specs.Certificate.{asked_of, claimed_cost};
 ghost use Rattle.cert_checker.specs.Reasons.{has_claimed_plan, is_plan_of_fliers, reaches};
 ghost use Rattle.tree_tests.specs.inside.Means.{AreMeansOf};
 
-use flier_plans::plan_by;
 use plan_audit::audit_plan;
 use std::alloc::Global;
 use tail_book::laws::{
     every_book_is_sound, legal_plan_decides, own_costs_are_for_book, own_costs_of_legal_plans,
 };
-use tail_book::{Book, Claim, Memory};
+use tail_book::{Book, Claim, Memory, plan_by};
 use tree_tests::Means;
 
 // Whether a list of fliers makes a legal plan of this cost.

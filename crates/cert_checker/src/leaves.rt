@@ -4,9 +4,9 @@
 ghost use Rattle.std.specs.Prelude.{◌≡◌, ◌<◌, ◌^◌, ◌==◌, ◌&&◌, nat_le, nat_lt, Some, IfOk, length};
 ghost use Rattle.tail_book.specs.Lookup.{activities, aircraft};
 ghost use Rattle.tail_book.specs.Seen.{BookSeen};
-ghost use Rattle.tail_book.specs.inside.CostTable.{costs_of};
+ghost use Rattle.tail_book.specs.CostTable.{costs_of};
 ghost use Rattle.maint_counters.specs.inside.Counts.{AreCountable};
-ghost use Rattle.branch_marks.specs.inside.TreeTests.{is_in_box};
+ghost use Rattle.branch_marks.specs.TreeTests.{is_in_box};
 ghost use Rattle.cert_checker.specs.Judging.{take_cover, take_dual, take_label};
 ghost use Rattle.cert_checker.specs.Reasons.{shows};
 ghost use Rattle.cert_checker.specs.Verdict.{leaf_fails};

@@ -9,7 +9,7 @@ use Rattle.std.proofs.lemmas.List.{get_or-set_same, get_or-set_other, drop_all, 
 use Rattle.std.proofs.lemmas.List.FromFn.{length-map-range_with_len, get_or-map-range_with_len}
 use Rattle.std.specs.Prelude.{◌&&◌, ◌||◌, if◌then◌else◌, nat_eq, not, replicate}
 use Rattle.tail_book.specs.Numbers.{contains}
-use Rattle.tail_book.specs.inside.Fliers.{flier, fliers_of}
+use Rattle.tail_book.specs.Fliers.{flier, fliers_of}
 use Rattle.cert_writer.specs.inside.Noting.{noted, NotesRoute}
 
 -- a route without the activity changes nothing

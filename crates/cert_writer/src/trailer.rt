@@ -2,7 +2,7 @@
 //! pass over the routes, and kept as one number for each activity.
 
 ghost use Rattle.std.specs.Prelude.{◌≡◌, ◌<◌, ◌^◌, ◌++◌, ◌∷◌, [], IfOk, OnOk, Some, length};
-ghost use Rattle.tail_book.specs.inside.Fliers.{fliers_of};
+ghost use Rattle.tail_book.specs.Fliers.{fliers_of};
 ghost use Rattle.cert_checker.specs.Certificate.{plan_lines, text_of};
 ghost use Rattle.cert_lines.specs.Grammar.{IsLine};
 ghost use Rattle.cert_writer.specs.CertText.{line_text};

@@ -13,8 +13,9 @@ use Rattle.tail_book.specs.declared.claim.Claim.{Claim}
 use Rattle.tail_book.specs.declared.outcome.Outcome.{Outcome}
 use Rattle.tail_book.specs.declared.outcome.Outcome.TheVariants.{Optimal, Infeasible, Between, Above}
 use Rattle.tail_book.specs.inside.Bounds.{LegalPlansCostAtMost}
-use Rattle.tail_book.specs.inside.CostTable.{costs_of}
-use Rattle.tail_book.specs.inside.Fliers.{FliersFly, PlansOfTheirFliers, flier, fliers_of}
+use Rattle.tail_book.specs.CostTable.{costs_of}
+use Rattle.tail_book.specs.Fliers.{flier, fliers_of}
+use Rattle.tail_book.specs.inside.Fliers.{FliersFly, PlansOfTheirFliers}
 use Rattle.tail_book.specs.inside.Sound.{IsBook}
 use Rattle.branch_marks.specs.Events.{IsNotable}
 use Rattle.branch_marks.specs.ProofTree.{BoundsAtLeast, Tree}

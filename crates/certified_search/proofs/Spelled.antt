@@ -9,7 +9,7 @@ use Rattle.tail_book.specs.Truth.{IsTrueOutcome, claim_of}
 use Rattle.tail_book.specs.declared.outcome.Outcome.{Outcome}
 use Rattle.tail_book.specs.declared.outcome.Outcome.TheVariants.{Optimal, Infeasible, Between, Above}
 use Rattle.tail_book.specs.inside.Bounds.{LegalPlansCostAtMost}
-use Rattle.tail_book.specs.inside.CostTable.{costs_of}
+use Rattle.tail_book.specs.CostTable.{costs_of}
 use Rattle.tail_book.specs.inside.Sound.{IsBook}
 use Rattle.branch_marks.specs.Events.{IsNotable}
 use Rattle.branch_marks.specs.declared.event.Event.{Event}

@@ -6,9 +6,10 @@ use Rattle.std.proofs.lemmas.List.{append-nil, map-append}
 use Rattle.tail_book.specs.Lookup.{activities}
 use Rattle.tail_book.specs.Seen.{BookSeen}
 use Rattle.tail_book.specs.declared.outcome.Outcome.{Outcome}
-use Rattle.tail_book.specs.inside.CostTable.{costs_of}
+use Rattle.tail_book.specs.CostTable.{costs_of}
 use Rattle.tail_book.specs.inside.Sound.{IsBook}
-use Rattle.tail_outside.specs.Outside.{Adds, AddsFront, HasRisen}
+use Rattle.tail_book.specs.Faults.{HasRisen}
+use Rattle.tail_outside.specs.Outside.{Adds, AddsFront}
 use Rattle.tail_outside.specs.Shown.{SinkShown}
 use Rattle.branch_marks.specs.TreeLog.{IsCut}
 use Rattle.branch_marks.specs.declared.event.Event.{Event}

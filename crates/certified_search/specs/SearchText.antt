@@ -4,7 +4,7 @@ use Rattle.tail_book.specs.Lookup.{activities}
 use Rattle.tail_book.specs.Seen.{BookSeen}
 use Rattle.tail_book.specs.Truth.{claim_of}
 use Rattle.tail_book.specs.declared.outcome.Outcome.{Outcome}
-use Rattle.tail_book.specs.inside.CostTable.{costs_of}
+use Rattle.tail_book.specs.CostTable.{costs_of}
 use Rattle.tail_book.specs.inside.Sound.{IsBook}
 use Rattle.branch_marks.specs.Events.{IsNotable}
 use Rattle.branch_marks.specs.declared.event.Event.{Event}

@@ -4,7 +4,7 @@
 ghost use Rattle.std.specs.Prelude.{◌≡◌, ◌≤◌, false, IfOk, OnErr, IsErrOf};
 ghost use Rattle.tail_book.specs.Lookup.{activities, aircraft};
 ghost use Rattle.tail_book.specs.Truth.{IsTrueOutcome};
-ghost use Rattle.tail_book.specs.inside.CostTable.{costs_of};
+ghost use Rattle.tail_book.specs.CostTable.{costs_of};
 ghost use Rattle.tail_outside.specs.Outside.{PieceHasFailed};
 ghost use Rattle.branch_tree.specs.Search.{EndsUnder};
 ghost use Rattle.branch_tree.specs.SearchTree.{SearchTree, IsSearchTree};

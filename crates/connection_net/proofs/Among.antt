@@ -10,7 +10,7 @@ use Rattle.tail_book.specs.declared.place.Place.{Place}
 use Rattle.tail_book.specs.declared.place.Place.TheVariants.{Carry, After}
 use Rattle.tail_book.specs.Lookup.{activities, aircraft, from_port, to_port, tail_of}
 use Rattle.tail_book.specs.Link.{port, is_connected}
-use Rattle.tail_book.specs.inside.Tests.{is_link}
+use Rattle.tail_book.specs.LegalTests.{is_link}
 use Rattle.connection_net.specs.inside.LinkTable.{departures_of, arrivals_of, all_departures_of, all_arrivals_of}
 use Rattle.connection_net.specs.Net.{is_linked, successors_of, predecessors_of, heads_of}
 use Rattle.connection_net.proofs.Filters.{filter_within}

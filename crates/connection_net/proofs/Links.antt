@@ -14,8 +14,9 @@ use Rattle.std.proofs.lemmas.List.FromFn.{length-range_with_len, get_or-range_wi
 use Rattle.tail_book.specs.Seen.{BookSeen}
 use Rattle.tail_book.specs.declared.place.Place.TheVariants.{After}
 use Rattle.tail_book.specs.Lookup.{aircraft, kind_of, type_turn, no_tail, no_type}
-use Rattle.tail_book.specs.inside.Sound.{IsBook, IsWithin}
-use Rattle.tail_book.specs.inside.Tests.{is_allowed, is_link}
+use Rattle.tail_book.specs.Ranges.{IsWithin}
+use Rattle.tail_book.specs.inside.Sound.{IsBook}
+use Rattle.tail_book.specs.LegalTests.{is_allowed, is_link}
 use Rattle.tail_book.specs.Link.{is_connected}
 use Rattle.connection_net.specs.declared.aircraft_set.AircraftSet.{AircraftSet}
 use Rattle.connection_net.specs.declared.link_table.Leg.{Leg}

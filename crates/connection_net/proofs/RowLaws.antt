@@ -16,10 +16,11 @@ use Rattle.tail_book.specs.declared.place.Place.TheVariants.{Carry, After}
 use Rattle.tail_book.specs.Lookup.{activities, aircraft}
 use Rattle.tail_book.specs.Numbers.{contains}
 use Rattle.tail_book.specs.Link.{IsLink}
-use Rattle.tail_book.specs.inside.Place.{IsBefore}
+use Rattle.tail_book.specs.Place.{IsBefore}
 use Rattle.tail_book.specs.inside.Rising.{IsRisingFrom, LinksRise}
 use Rattle.tail_book.specs.inside.Sound.{IsBook}
-use Rattle.tail_book.specs.inside.Tests.{is_link, LinkDecides}
+use Rattle.tail_book.specs.LegalTests.{is_link}
+use Rattle.tail_book.specs.inside.Tests.{LinkDecides}
 use Rattle.connection_net.specs.Net.{is_linked, successors_of, predecessors_of, heads_of, net_of, successors_in, predecessors_in, heads_in}
 use Rattle.connection_net.specs.inside.Laws.{SomeLink, RowsRise, HasRowForEach}
 use Rattle.connection_net.proofs.Links.{any_below}

@@ -5,7 +5,7 @@ use Rattle.std.proofs.Common.{◌≡◌, ℕ, ℤ, pos, ◌+◌, true, false, Bo
 use Rattle.std.specs.Prelude.{codes}
 use Rattle.tail_book.specs.Seen.{ActivitySeen, TailSeen, RulesSeen, BookSeen}
 use Rattle.tail_book.specs.declared.rules.AircraftType.{AircraftType}
-use Rattle.tail_book.specs.inside.Tests.{is_allowed, is_link}
+use Rattle.tail_book.specs.LegalTests.{is_allowed, is_link}
 use Rattle.tail_book.specs.Link.{is_connected}
 use Rattle.tail_book.specs.Allowed.{is_permitted}
 use Rattle.connection_net.specs.Net.{net_of, successors_of, predecessors_of, heads_of}

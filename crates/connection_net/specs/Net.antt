@@ -4,7 +4,7 @@ use Rattle.std.specs.List.{filter, list_any, range_with_len}
 use Rattle.tail_book.specs.Seen.{BookSeen}
 use Rattle.tail_book.specs.declared.place.Place.TheVariants.{Carry, After}
 use Rattle.tail_book.specs.Lookup.{activities, aircraft}
-use Rattle.tail_book.specs.inside.Tests.{is_link}
+use Rattle.tail_book.specs.LegalTests.{is_link}
 use Rattle.connection_net.specs.Seen.{NetSeen}
 
 -- some aircraft of the book may fly b directly after a

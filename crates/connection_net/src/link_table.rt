@@ -11,8 +11,8 @@ ghost use Rattle.std.specs.Prelude.{◌≡◌, ◌<◌, ◌↔◌, ◌-ℤ◌, �
 ghost use Rattle.std.specs.Int.{int_min};
 ghost use Rattle.tail_book.specs.Lookup.{activities, aircraft, kind_of, type_turn};
 ghost use Rattle.tail_book.specs.Numbers.{int_le};
-ghost use Rattle.tail_book.specs.inside.Sound.{IsWithin};
-ghost use Rattle.tail_book.specs.inside.Tests.{is_allowed};
+ghost use Rattle.tail_book.specs.Ranges.{IsWithin};
+ghost use Rattle.tail_book.specs.LegalTests.{is_allowed};
 ghost use Rattle.turn_rules.specs.inside.PermissionTable.{ArePermissionsOf};
 ghost use Rattle.connection_net.specs.inside.AircraftSet.{has};
 ghost use Rattle.connection_net.specs.inside.LinkTable.{AreLegsOf, AreStopsOf, AreTurnedIn, IsAskedStop, IsFlownOn, IsInRange, IsLegOf, IsLinkTableOf};

@@ -11,7 +11,7 @@ ghost use Rattle.std.specs.List.{filter};
 ghost use Rattle.tail_book.specs.Lookup.{activities, aircraft};
 ghost use Rattle.turn_rules.specs.inside.PermissionTable.{ArePermissionsOf};
 ghost use Rattle.connection_net.specs.inside.LinkTable.{IsLinkTableOf, all_departures_of, all_arrivals_of};
-ghost use Rattle.tail_book.specs.inside.Tests.{is_link};
+ghost use Rattle.tail_book.specs.LegalTests.{is_link};
 ghost use Rattle.connection_net.specs.Net.{is_linked, net_of, successors_in, predecessors_in, heads_in, successors_of, predecessors_of, heads_of};
 
 use crate::airports::{arrivals, arriving, departing, departures, end_port, start_port};

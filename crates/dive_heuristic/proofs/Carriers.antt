@@ -7,7 +7,8 @@ use Rattle.tail_book.specs.Seen.{BookSeen}
 use Rattle.tail_book.specs.Lookup.{activities, aircraft}
 use Rattle.branch_marks.specs.declared.fact.Fact.{Fact}
 use Rattle.branch_marks.specs.Marks.{IsAlive}
-use Rattle.branch_marks.specs.inside.MarkTests.{is_alive, AliveDecides}
+use Rattle.branch_marks.specs.MarkTests.{is_alive}
+use Rattle.branch_marks.specs.inside.MarkTests.{AliveDecides}
 use Rattle.propagator.specs.declared.hole.Closed.{Closed}
 use Rattle.propagator.specs.declared.hole.Closed.TheVariants.{Fixed}
 use Rattle.propagator.specs.Closed.{IsClosedAt}

@@ -7,7 +7,7 @@ use Rattle.std.proofs.lemmas.List.{get_or_past, get_or_default}
 use Rattle.std.proofs.lemmas.List.Elements.{All-contains}
 use Rattle.std.specs.Prelude.{nat_eq, All, Contains}
 use Rattle.tail_book.specs.Seen.{BookSeen}
-use Rattle.tail_book.specs.inside.Seen.{CostTableSeen}
+use Rattle.tail_book.specs.TableSeen.{CostTableSeen}
 use Rattle.tail_book.specs.declared.place.Place.{Place}
 use Rattle.tail_book.specs.declared.place.Place.TheVariants.{Carry, After}
 use Rattle.tail_book.specs.declared.flown.Flown.TheVariants.{Once}
@@ -15,7 +15,7 @@ use Rattle.tail_book.specs.Lookup.{activities, aircraft}
 use Rattle.tail_book.specs.Numbers.{contains}
 use Rattle.tail_book.specs.Plan.{times_flown, route_of}
 use Rattle.tail_book.specs.inside.Flown.{FlownIsCount, FlownOnceIsInOneRoute}
-use Rattle.tail_book.specs.inside.Place.{IsBefore}
+use Rattle.tail_book.specs.Place.{IsBefore}
 use Rattle.tail_book.specs.inside.Rising.{LegalRoutesRise, IsRisingFrom}
 use Rattle.tail_book.specs.inside.Sound.{IsBook}
 use Rattle.branch_marks.specs.declared.fact.Fact.{Fact}

@@ -4,7 +4,7 @@ use Rattle.std.proofs.Common.{ℕ, ℤ, ◌≤◌, arith, List, [], ◌∷◌, �
 use Rattle.std.proofs.lemmas.List.{get_or_append_left}
 use Rattle.std.specs.Prelude.{All}
 use Rattle.tail_book.specs.Seen.{BookSeen}
-use Rattle.tail_book.specs.inside.Seen.{CostTableSeen}
+use Rattle.tail_book.specs.TableSeen.{CostTableSeen}
 use Rattle.tail_book.specs.declared.place.Place.{Place}
 use Rattle.tail_book.specs.declared.place.Place.TheVariants.{Carry, After}
 use Rattle.branch_marks.specs.declared.fact.Fact.{Fact}

@@ -7,7 +7,7 @@ use Rattle.std.proofs.lemmas.Bool.{cases_order}
 use Rattle.std.proofs.lemmas.List.{get_or_append_left, get_or_push, get_or-set_same, get_or-set_other, get_or_default}
 use Rattle.std.specs.Prelude.{All}
 use Rattle.tail_book.specs.Seen.{BookSeen}
-use Rattle.tail_book.specs.inside.Seen.{CostTableSeen}
+use Rattle.tail_book.specs.TableSeen.{CostTableSeen}
 use Rattle.tail_book.specs.declared.place.Place.TheVariants.{Carry}
 use Rattle.tail_book.specs.Lookup.{activities, aircraft}
 use Rattle.tail_book.specs.Plan.{route_of}

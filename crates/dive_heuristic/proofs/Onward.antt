@@ -4,14 +4,14 @@
 -- marks at the end fit the first ones, which are fewer.
 use Rattle.std.proofs.Common.{◌≡◌, ◌∙◌, ℕ, ℤ, ◌<◌, ◌≤◌, arith, List, [], ◌∷◌, ◌++◌, sym, ap, subst, append_assoc}
 use Rattle.tail_book.specs.Seen.{BookSeen}
-use Rattle.tail_book.specs.inside.Seen.{CostTableSeen}
+use Rattle.tail_book.specs.TableSeen.{CostTableSeen}
 use Rattle.tail_book.specs.Lookup.{aircraft}
 use Rattle.tail_book.specs.Plan.{route_of, IsLegalPlan}
 use Rattle.branch_marks.specs.declared.fact.Fact.{Fact}
 use Rattle.branch_marks.specs.declared.fact.Fact.TheVariants.{Must}
 use Rattle.branch_marks.specs.declared.fact.Pair.TheVariants.{Fly}
 use Rattle.branch_marks.specs.Branches.{IsUndecided}
-use Rattle.branch_marks.specs.Following.{IsShut}
+use Rattle.branch_marks.specs.Following.{IsShut, FollowingFactsAreNew}
 use Rattle.branch_marks.specs.Marks.{Fits}
 use Rattle.branch_marks.specs.inside.BranchTests.{undecided, BranchesLeaveFewer}
 use Rattle.dive_heuristic.specs.declared.answer.DiveStep.{DiveStep}
@@ -24,7 +24,6 @@ use Rattle.dive_heuristic.specs.declared.renewing.Found.{Found}
 use Rattle.dive_heuristic.specs.declared.renewing.Found.TheVariants as found
 use Rattle.dive_heuristic.specs.inside.Kept.{FitsWithFewer, AreLowRoutes, AreFound, HasBegun}
 use Rattle.dive_heuristic.specs.inside.Laws.{MoreFactsLeaveNoMore}
-use Rattle.branch_marks.specs.Following.{FollowingFactsAreNew}
 use Rattle.dive_heuristic.proofs.FewerMarks.{least_are_low}
 use Rattle.dive_heuristic.proofs.Forced.{go_forced, go_both}
 

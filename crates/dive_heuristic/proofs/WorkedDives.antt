@@ -10,14 +10,17 @@ use Rattle.tail_book.specs.Link.{is_connected}
 use Rattle.tail_book.specs.Allowed.{is_permitted}
 use Rattle.tail_book.specs.Numbers.{contains}
 use Rattle.tail_book.specs.Plan.{route_of}
-use Rattle.tail_book.specs.inside.Seen.{CostTableSeen}
-use Rattle.tail_book.specs.inside.Tests.{is_allowed, is_link}
+use Rattle.tail_book.specs.TableSeen.{CostTableSeen}
+use Rattle.tail_book.specs.LegalTests.{is_allowed, is_link}
 use Rattle.branch_marks.specs.declared.fact.Fact.{Fact}
 use Rattle.branch_marks.specs.declared.fact.Fact.TheVariants.{Bar, Must}
 use Rattle.branch_marks.specs.Marks.{IsAlive}
-use Rattle.branch_marks.specs.inside.FactTests.{has_fact, HasFactDecides}
-use Rattle.branch_marks.specs.inside.FollowingTests.{follows, is_shut, is_dead, is_only_carrier, is_dead_connection, FollowsDecides, ShutDecides}
-use Rattle.branch_marks.specs.inside.MarkTests.{is_alive, is_usable, may_end, AliveDecides}
+use Rattle.branch_marks.specs.FactTests.{has_fact}
+use Rattle.branch_marks.specs.inside.FactTests.{HasFactDecides}
+use Rattle.branch_marks.specs.FollowingTests.{follows, is_shut, is_dead, is_only_carrier, is_dead_connection}
+use Rattle.branch_marks.specs.inside.FollowingTests.{FollowsDecides, ShutDecides}
+use Rattle.branch_marks.specs.MarkTests.{is_alive, is_usable, may_end}
+use Rattle.branch_marks.specs.inside.MarkTests.{AliveDecides}
 use Rattle.dive_heuristic.specs.declared.answer.DiveStep.{DiveStep}
 use Rattle.dive_heuristic.specs.declared.answer.DiveStep.TheVariants.{Chosen, Forced}
 use Rattle.dive_heuristic.specs.declared.answer.DeadEnd.TheVariants.{Hole}

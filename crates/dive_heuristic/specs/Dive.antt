@@ -1,9 +1,9 @@
 -- A dive: from marks down to a plan or to a dead end, one fact after the other, and never back. Its duals stay as they are.
 use Rattle.std.specs.Prelude.{◌≡◌, ℕ, ℤ, ◌<◌, ⊤, List, [], ◌∷◌, ◌++◌, map, Contains}
 use Rattle.tail_book.specs.Seen.{BookSeen}
-use Rattle.tail_book.specs.inside.Seen.{CostTableSeen}
+use Rattle.tail_book.specs.TableSeen.{CostTableSeen}
 use Rattle.tail_book.specs.Lookup.{aircraft}
-use Rattle.tail_book.specs.inside.CostTable.{plan_cost_in}
+use Rattle.tail_book.specs.CostTable.{plan_cost_in}
 use Rattle.tail_book.specs.Plan.{route_of, IsLegalPlan}
 use Rattle.branch_marks.specs.declared.fact.Fact.{Fact}
 use Rattle.branch_marks.specs.declared.fact.Fact.TheVariants.{Bar, Must, Cut, Tie}

@@ -1,7 +1,7 @@
 -- What a diver has made ready of a book: a propagator, a pricer, room for labels, and a tally.
 use Rattle.std.specs.Prelude.{◌≡◌, ◌+◌, List, length}
 use Rattle.tail_book.specs.Seen.{BookSeen}
-use Rattle.tail_book.specs.inside.Seen.{CostTableSeen}
+use Rattle.tail_book.specs.TableSeen.{CostTableSeen}
 use Rattle.tail_book.specs.Lookup.{activities}
 use Rattle.label_store.specs.Seen.{StoreSeen}
 use Rattle.branch_marks.specs.declared.fact.Fact.{Fact}

@@ -1,7 +1,7 @@
 -- Routes of least weight under duals, one for each aircraft, and whether each activity is in exactly one of them.
 use Rattle.std.specs.Prelude.{◌≡◌, ℕ, ℤ, ◌<◌, List, length}
 use Rattle.tail_book.specs.Seen.{BookSeen}
-use Rattle.tail_book.specs.inside.Seen.{CostTableSeen}
+use Rattle.tail_book.specs.TableSeen.{CostTableSeen}
 use Rattle.tail_book.specs.Lookup.{activities, aircraft}
 use Rattle.tail_book.specs.Plan.{times_flown, route_of}
 use Rattle.tail_book.specs.Route.{IsLegalRoute}

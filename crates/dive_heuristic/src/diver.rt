@@ -4,7 +4,7 @@
 //! they are made once, and serve each step and each dive.
 
 ghost use Rattle.std.specs.Prelude.{IfOk, List};
-ghost use Rattle.tail_book.specs.inside.CostTable.{IsTableFor};
+ghost use Rattle.tail_book.specs.CostTable.{IsTableFor};
 ghost use Rattle.branch_marks.specs.declared.fact.Fact.{Fact};
 ghost use Rattle.dive_heuristic.specs.Divers.{IsDiverFor};
 

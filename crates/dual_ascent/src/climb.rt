@@ -5,7 +5,7 @@
 //! made at any temperature.
 
 ghost use Rattle.std.specs.Prelude.{◌<◌, length};
-ghost use Rattle.tail_book.specs.inside.CostTable.{IsInBox};
+ghost use Rattle.tail_book.specs.CostTable.{IsInBox};
 ghost use Rattle.branch_marks.specs.Settled.{AreDuals};
 
 use crate::mixture::{COOL, Mixture};

@@ -1,8 +1,8 @@
 //! The finder by itself: what it finds of a book at given facts and duals, from an empty pool.
 
 ghost use Rattle.std.specs.Prelude.{IfOk, IfSome};
-ghost use Rattle.tail_book.specs.inside.CostTable.{IsTableFor};
-ghost use Rattle.tail_book.specs.inside.Truth.{IsPlanIn};
+ghost use Rattle.tail_book.specs.CostTable.{IsTableFor};
+ghost use Rattle.tail_book.specs.Truth.{IsPlanIn};
 
 use crate::failed::Failed;
 use branch_marks::Fact;
@@ -10,9 +10,9 @@ use connection_net::Net;
 use plan_finder::{Problem, Sought, find_by_dives};
 use pool_plans::Found;
 use restricted_master::Pool;
+use small_books::{are_duals, marks};
 use std::alloc::Global;
 use tail_book::{Book, CostTable, Duals};
-use trial_books::{are_duals, marks};
 
 // For each activity so many labels and routes are looked at, at most, as in the search.
 const WORK: u64 = 15_000;

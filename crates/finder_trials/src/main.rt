@@ -15,12 +15,12 @@ use branch_tree::{Limit, search};
 use failed::Failed;
 use found::found_at;
 use pool_plans::Found;
+use small_books::costs;
 use std::io;
 use std::process::ExitCode;
 use tables::book_in;
 use tail_book::{Book, Outcome};
 use told::{first_duals, root_facts};
-use trial_books::costs;
 
 // Prints what the search and the finder answered.
 fn print_answers(

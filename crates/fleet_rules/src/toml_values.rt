@@ -9,7 +9,7 @@ ghost use Rattle.std.specs.Str.{bytes_eq};
 ghost use Rattle.toml.specs.View.{table_view, view};
 ghost use Rattle.tail_book.specs.Name.{is_name};
 ghost use Rattle.tail_book.specs.declared.limits.TheConstants.{DAY};
-ghost use Rattle.tail_book.specs.inside.Sound.{IsWithin};
+ghost use Rattle.tail_book.specs.Ranges.{IsWithin};
 ghost use Rattle.tail_text.specs.Checks.{look_each};
 ghost use Rattle.table_records.specs.inside.NameLists.{AreNames};
 ghost use Rattle.table_records.specs.inside.NoRow.{Judges};

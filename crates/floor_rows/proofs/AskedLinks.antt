@@ -6,7 +6,8 @@ use Rattle.tail_book.specs.Seen.{BookSeen}
 use Rattle.tail_book.specs.declared.place.Place.TheVariants.{After}
 use Rattle.branch_marks.specs.declared.fact.Fact.{Fact}
 use Rattle.branch_marks.specs.Marks.{IsUsable}
-use Rattle.branch_marks.specs.inside.MarkTests.{is_alive, AliveDecides}
+use Rattle.branch_marks.specs.MarkTests.{is_alive}
+use Rattle.branch_marks.specs.inside.MarkTests.{AliveDecides}
 use Rattle.floor_rows.specs.inside.AskedLinks.{AreAsked}
 
 module _ (alive : AliveDecides) (book : BookSeen) (marks : List Fact) (a b n m : ℕ) (gap : (k : ℕ) → n ≤ k → k < m → is_alive book marks k a ≡ false) where

@@ -10,9 +10,9 @@ use Rattle.tail_book.specs.declared.place.Place.{Place}
 use Rattle.tail_book.specs.declared.place.Place.TheVariants.{Carry, After}
 use Rattle.tail_book.specs.Counters.{step}
 use Rattle.tail_book.specs.Lookup.{activities, carry_of}
-use Rattle.tail_book.specs.inside.Tests.{is_link, within_limits}
+use Rattle.tail_book.specs.LegalTests.{is_link, within_limits}
 use Rattle.branch_marks.specs.declared.fact.Fact.{Fact}
-use Rattle.branch_marks.specs.inside.MarkTests.{is_alive, is_alive_at, is_usable, lets_go}
+use Rattle.branch_marks.specs.MarkTests.{is_alive, is_alive_at, is_usable, lets_go}
 use Rattle.branch_marks.specs.Floors.{lesser_floor, stepped_floor}
 use Rattle.floor_rows.specs.inside.LeastOver.{floor_of, least_over, brought_first, brought, least_at, FloorsAreLeast, BroughtTells}
 use Rattle.floor_rows.proofs.LeastOver.{least_same, least_none}

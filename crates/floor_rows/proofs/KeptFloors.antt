@@ -11,7 +11,7 @@ use Rattle.std.proofs.lemmas.List.Elements.{All-set, All-get_or, All-nil, All-co
 use Rattle.std.proofs.lemmas.Int.{ints, clamps}
 use Rattle.std.proofs.lemmas.Bool.{cond-true, cond-false}
 use Rattle.branch_marks.specs.Floors.{lesser, lesser_floor}
-use Rattle.tail_book.specs.inside.Sound.{IsWithin}
+use Rattle.tail_book.specs.Ranges.{IsWithin}
 use Rattle.maint_counters.specs.inside.Counts.{AreCounts}
 use Rattle.floor_rows.specs.inside.FloorRow.{kept_floors, IsKept, IsFloorRow}
 

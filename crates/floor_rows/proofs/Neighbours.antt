@@ -12,11 +12,13 @@ use Rattle.tail_book.specs.Numbers.{contains}
 use Rattle.tail_book.specs.inside.Rising.{IsRisingFrom, LinksRise}
 use Rattle.tail_book.specs.Counters.{step}
 use Rattle.tail_book.specs.inside.Sound.{IsBook}
-use Rattle.tail_book.specs.inside.Tests.{within_limits, LimitsDecide}
+use Rattle.tail_book.specs.LegalTests.{within_limits}
+use Rattle.tail_book.specs.inside.Tests.{LimitsDecide}
 use Rattle.connection_net.specs.inside.Laws.{PredecessorsAreLinks, SuccessorsAreLinks, RowsAreTheirPlaces, RowsRise}
 use Rattle.connection_net.specs.Net.{net_of, predecessors_in, successors_in}
 use Rattle.branch_marks.specs.declared.fact.Fact.{Fact}
-use Rattle.branch_marks.specs.inside.MarkTests.{is_usable, UsableDecides}
+use Rattle.branch_marks.specs.MarkTests.{is_usable}
+use Rattle.branch_marks.specs.inside.MarkTests.{UsableDecides}
 use Rattle.branch_marks.specs.Floors.{lesser_floor}
 use Rattle.floor_rows.specs.inside.LeastOver.{least_over, brought}
 use Rattle.floor_rows.specs.inside.Neighbours.{goes_on_to, goes_on_from, SuccessorsTell}

@@ -6,11 +6,11 @@
 
 ghost use Rattle.std.specs.Prelude.{◌≡◌, ◌<◌, ◌&&◌, ℤ, List, false, IsTrue, None, Some, if◌then◌else◌, length};
 ghost use Rattle.tail_book.specs.Lookup.{activities, aircraft};
-ghost use Rattle.tail_book.specs.inside.Place.{IsPlaceOf};
+ghost use Rattle.tail_book.specs.Place.{IsPlaceOf};
 ghost use Rattle.tail_book.specs.declared.place.Place.TheVariants.{After as PlaceAfter};
 ghost use Rattle.tail_book.specs.Counters.{step};
-ghost use Rattle.tail_book.specs.inside.Tests.{within_limits};
-ghost use Rattle.branch_marks.specs.inside.MarkTests.{is_usable};
+ghost use Rattle.tail_book.specs.LegalTests.{within_limits};
+ghost use Rattle.branch_marks.specs.MarkTests.{is_usable};
 ghost use Rattle.maint_counters.specs.inside.Counts.{AreCounts};
 ghost use Rattle.maint_counters.specs.inside.StepTable.{IsStepTableOf};
 ghost use Rattle.connection_net.specs.Net.{net_of};

@@ -5,7 +5,7 @@
 use Rattle.std.proofs.Common.{◌≡◌, ◌≢◌, ℕ, ◌+◌, ◌<◌, ◌≤◌, arith, refl, true, false, Bool, cond, List, [], ◌∷◌, ◌++◌, length, get_or, set, take, sym, ◌∙◌, ap, ap₂, subst, ℤ, get_or-set_other}
 use Rattle.std.specs.Prelude.{All, not}
 use Rattle.std.specs.List.{filter, AllByRecursion}
-use Rattle.tail_book.specs.inside.Order.{each_at_most}
+use Rattle.tail_book.specs.CounterOrder.{each_at_most}
 use Rattle.label_store.specs.Buckets.{stays_beside}
 use Rattle.std.proofs.lemmas.List.{length-set, take_all, take_more_set, append-nil, get_or_append_left}
 use Rattle.std.proofs.lemmas.List.Elements.{filter_more, All-weaker, recursion_from_All}

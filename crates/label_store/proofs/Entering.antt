@@ -8,7 +8,8 @@ use Rattle.std.proofs.lemmas.Bool.{cases_lt}
 use Rattle.std.proofs.lemmas.List.{length-set, length-append, get_or_append_left, get_or-set_same, get_or_past}
 use Rattle.std.proofs.Math.Seq.{get_or-append_seam}
 use Rattle.std.proofs.lemmas.List.Elements.{All-push, All-filter, All-weaker, All-contains, All-contains_itself, filter_passes, Contains-append_left, Contains-push}
-use Rattle.tail_book.specs.inside.Order.{EachAtMost, each_at_most, EachAtMostDecides, EachAtMostItself, EachAtMostChains}
+use Rattle.tail_book.specs.CounterOrder.{EachAtMost, each_at_most}
+use Rattle.tail_book.specs.inside.Order.{EachAtMostDecides, EachAtMostItself, EachAtMostChains}
 use Rattle.label_store.specs.Seen.{StoreSeen}
 use Rattle.label_store.specs.Buckets.{row_at, IsCovered, stays_beside, bucket_with, AreApart, EachApart}
 use Rattle.label_store.specs.Store.{parent_of, bucket_of, IsRowOf, IsStore, with_row}

@@ -6,7 +6,8 @@ use Rattle.std.specs.Prelude.{not}
 use Rattle.std.specs.List.{Contains, filter}
 use Rattle.std.proofs.lemmas.List.{get_or-set_same}
 use Rattle.std.proofs.lemmas.List.Elements.{Contains-append_left, Contains-push, Contains-push_cases}
-use Rattle.tail_book.specs.inside.Order.{EachAtMost, each_at_most, EachAtMostDecides, EachAtMostItself, EachAtMostChains}
+use Rattle.tail_book.specs.CounterOrder.{EachAtMost, each_at_most}
+use Rattle.tail_book.specs.inside.Order.{EachAtMostDecides, EachAtMostItself, EachAtMostChains}
 use Rattle.label_store.specs.declared.offered.Offered.TheVariants.{Kept, Covered}
 use Rattle.label_store.specs.Buckets.{row_at, stays_beside, bucket_with}
 use Rattle.label_store.specs.Store.{bucket_of, IsStore, with_row}

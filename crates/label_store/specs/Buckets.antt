@@ -1,7 +1,7 @@
 -- Buckets: the numbers of the rows at one node. A row covers another one where none of its values is larger.
 use Rattle.std.specs.Prelude.{ℕ, ℤ, List, [], ◌∷◌, ◌++◌, ⊤, All, Bool, not, slice_index_or}
 use Rattle.std.specs.List.{Contains, filter}
-use Rattle.tail_book.specs.inside.Order.{EachAtMost, each_at_most}
+use Rattle.tail_book.specs.CounterOrder.{EachAtMost, each_at_most}
 
 -- the values of the row of a number, none where no row has it
 abbrev pub row_at : List (List ℤ) → ℕ → List ℤ

@@ -7,7 +7,7 @@
 
 ghost use Rattle.std.specs.Prelude.{◌≡◌, ◌<◌, ◌≤◌, ◌^◌, ℕ, All, length, IfOk, OnErr, MatchOption, vec_capacity, vec_len};
 ghost use Rattle.std.specs.List.{filter};
-ghost use Rattle.tail_book.specs.inside.Order.{each_at_most};
+ghost use Rattle.tail_book.specs.CounterOrder.{each_at_most};
 ghost use Rattle.label_store.specs.Buckets.{IsCovered, IsCoveredBy, stays_beside, bucket_with};
 ghost use Rattle.label_store.specs.inside.Packing.{IsPacked};
 ghost use Rattle.label_store.specs.inside.RowsParts.{rows_with};

@@ -6,7 +6,7 @@ use Rattle.tail_book.specs.Lookup.{activities}
 use Rattle.tail_book.specs.declared.place.Place.{Place}
 use Rattle.tail_book.specs.declared.place.Place.TheVariants.{After}
 use Rattle.tail_book.specs.Counters.{step}
-use Rattle.tail_book.specs.inside.Tests.{is_link, within_limits, is_legal_from}
+use Rattle.tail_book.specs.LegalTests.{is_link, within_limits, is_legal_from}
 
 chain-false : (a b c d r : Bool) → r ≡ (a && (b && c)) → r ≡ false → (a && (b && (c && d))) ≡ false
 chain-false a b c d r e f = grind arith

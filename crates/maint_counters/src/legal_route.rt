@@ -8,8 +8,8 @@ ghost use Rattle.std.specs.Prelude.{◌≡◌, ◌<◌, ◌&&◌, ◌↔◌, len
 ghost use Rattle.tail_book.specs.Lookup.{activities, aircraft};
 ghost use Rattle.tail_book.specs.Counters.{step};
 ghost use Rattle.tail_book.specs.Route.{IsLegalRoute};
-ghost use Rattle.tail_book.specs.inside.Tests.{is_link, within_limits, is_legal_route};
-ghost use Rattle.tail_book.specs.inside.Place.{IsPlaceOf};
+ghost use Rattle.tail_book.specs.LegalTests.{is_link, within_limits, is_legal_route};
+ghost use Rattle.tail_book.specs.Place.{IsPlaceOf};
 ghost use Rattle.maint_counters.specs.inside.Counts.{AreCounts};
 ghost use Rattle.maint_counters.specs.inside.StepTable.{IsStepTableOf};
 

@@ -11,9 +11,10 @@ ghost use Rattle.tail_book.specs.Lookup.{activities, aircraft, from_port, resets
 ghost use Rattle.tail_book.specs.Link.{free_from};
 ghost use Rattle.tail_book.specs.Numbers.{contains, int_le};
 ghost use Rattle.tail_book.specs.Counters.{step, WithinLimits};
-ghost use Rattle.tail_book.specs.inside.Sound.{IsWithin, IsMoment};
-ghost use Rattle.tail_book.specs.inside.Tests.{within_limits};
-ghost use Rattle.tail_book.specs.inside.Place.{IsPlaceOf};
+ghost use Rattle.tail_book.specs.Ranges.{IsWithin};
+ghost use Rattle.tail_book.specs.inside.Sound.{IsMoment};
+ghost use Rattle.tail_book.specs.LegalTests.{within_limits};
+ghost use Rattle.tail_book.specs.Place.{IsPlaceOf};
 ghost use Rattle.turn_rules.specs.inside.FreeBefore.{IsFreeBefore};
 ghost use Rattle.turn_rules.specs.inside.NumberSet.{has};
 ghost use Rattle.maint_counters.specs.inside.Counts.{AreCounts, AreCountable, GrowByAStep};

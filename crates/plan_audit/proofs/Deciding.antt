@@ -13,7 +13,7 @@ use Rattle.std.proofs.lemmas.List.Elements.{All-from_get_or}
 use Rattle.tail_book.specs.Seen.{BookSeen}
 use Rattle.tail_book.specs.Lookup.{activities}
 use Rattle.tail_book.specs.Plan.{times_flown, route_of}
-use Rattle.tail_book.specs.inside.Tests.{is_legal_route, are_legal_below, are_flown_once_below}
+use Rattle.tail_book.specs.LegalTests.{is_legal_route, are_legal_below, are_flown_once_below}
 use Rattle.plan_audit.specs.inside.Times.{AreTimes}
 use Rattle.plan_audit.proofs.Legality.{both}
 

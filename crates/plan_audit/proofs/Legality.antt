@@ -14,7 +14,7 @@ use Rattle.tail_book.specs.Curfew.{is_curfewed}
 use Rattle.tail_book.specs.Counters.{step_from}
 use Rattle.tail_book.specs.inside.Sound.{IsBook}
 use Rattle.tail_book.specs.Allowed.{is_permitted}
-use Rattle.tail_book.specs.inside.Tests.{is_allowed, is_allowed_at, is_link, within_limits, is_legal_from, is_legal_route}
+use Rattle.tail_book.specs.LegalTests.{is_allowed, is_allowed_at, is_link, within_limits, is_legal_from, is_legal_route}
 use Rattle.tail_book.specs.Link.{is_connected}
 use Rattle.plan_audit.specs.declared.leg.Leg.{Leg}
 use Rattle.plan_audit.specs.declared.met.Met.{Met}

@@ -12,7 +12,8 @@ use Rattle.tail_book.specs.Lookup.{activities, aircraft}
 use Rattle.tail_book.specs.declared.place.Place.TheVariants.{Carry}
 use Rattle.tail_book.specs.Plan.{times_flown, route_of}
 use Rattle.tail_book.specs.inside.Sound.{IsBook}
-use Rattle.tail_book.specs.inside.Tests.{is_legal_route, are_legal_below, are_flown_once_below, is_legal_plan, LegalPlanDecides}
+use Rattle.tail_book.specs.LegalTests.{is_legal_route, are_legal_below, are_flown_once_below, is_legal_plan}
+use Rattle.tail_book.specs.inside.Tests.{LegalPlanDecides}
 use Rattle.tail_book.specs.Truth.{IsPlanOf}
 use Rattle.plan_audit.specs.declared.met.Met.{Met}
 use Rattle.plan_audit.specs.declared.broken.Broken.{Broken}

@@ -5,7 +5,7 @@
 
 ghost use Rattle.std.specs.Prelude.{◌≡◌, IfOk, All};
 ghost use Rattle.tail_book.specs.Plan.{IsLegalPlan};
-ghost use Rattle.tail_book.specs.inside.CostTable.{IsTableFor, plan_cost_in};
+ghost use Rattle.tail_book.specs.CostTable.{IsTableFor, plan_cost_in};
 ghost use Rattle.plan_audit.specs.inside.PlanCost.{IsPlanCost};
 ghost use Rattle.plan_audit.specs.inside.MetNames.{AreMetNamesOf};
 ghost use Rattle.plan_audit.specs.Kept.{legs_met};

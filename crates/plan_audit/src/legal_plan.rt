@@ -7,7 +7,7 @@
 ghost use Rattle.std.specs.Prelude.{◌≡◌, ◌++◌, ◌∷◌, [], ◌==◌, List, ℕ, length, IfOk, All};
 ghost use Rattle.std.specs.List.{flat_map, list_all};
 ghost use Rattle.tail_book.specs.Lookup.{activities, aircraft};
-ghost use Rattle.tail_book.specs.inside.Tests.{are_legal_below, are_flown_once_below, is_legal_plan};
+ghost use Rattle.tail_book.specs.LegalTests.{are_legal_below, are_flown_once_below, is_legal_plan};
 ghost use Rattle.maint_counters.specs.inside.StepTable.{IsStepTableOf};
 ghost use Rattle.plan_audit.specs.inside.Times.{AreTimes};
 

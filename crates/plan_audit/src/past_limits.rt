@@ -9,7 +9,7 @@ ghost use Rattle.tail_book.specs.Numbers.{contains, int_le};
 ghost use Rattle.tail_book.specs.Lookup.{activities, resets_of};
 ghost use Rattle.tail_book.specs.Counters.{step_one, step_from};
 ghost use Rattle.tail_book.specs.declared.limits.TheConstants.{COUNTER_LIMIT, LAST_MOMENT};
-ghost use Rattle.tail_book.specs.inside.Sound.{IsWithin};
+ghost use Rattle.tail_book.specs.Ranges.{IsWithin};
 ghost use Rattle.plan_audit.specs.inside.Kept.{IsLegOf};
 ghost use Rattle.plan_audit.specs.inside.PastLimits.{value_before, IsWithinLegs};
 ghost use Rattle.plan_audit.specs.Rules.{values_before, values_after, past_limits_at, past_limits};

@@ -5,7 +5,7 @@
 
 ghost use Rattle.std.specs.Prelude.{◌≡◌, ◌<◌, ◌^◌, length, All};
 ghost use Rattle.tail_book.specs.Lookup.{activities, aircraft};
-ghost use Rattle.tail_book.specs.inside.CostTable.{IsTableFor, route_cost_in, plan_cost_in};
+ghost use Rattle.tail_book.specs.CostTable.{IsTableFor, route_cost_in, plan_cost_in};
 
 use tail_book::laws::every_book_is_sound;
 use tail_book::{Book, CostTable, Place, Route};

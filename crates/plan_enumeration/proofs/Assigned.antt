@@ -2,7 +2,7 @@
 -- the fliers before.
 use Rattle.std.proofs.Common.{◌≡◌, ◌∙◌, ℕ, suc, ◌+◌, Bool, true, false, arith, List, [], ◌∷◌, ◌++◌, length, refl, ap, if◌then◌else◌}
 use Rattle.std.specs.Prelude.{nat_eq}
-use Rattle.flier_plans.specs.inside.FlownInTurn.{route_flown_from}
+use Rattle.tail_book.specs.inside.FlownInTurn.{route_flown_from}
 
 -- an aircraft more at the end
 pub route_flown_from-push : (k i j : ℕ) (who : List ℕ) → route_flown_from k i (who ++ j ∷ []) ≡ route_flown_from k i who ++ (if nat_eq j k then (i + length who) ∷ [] else [])

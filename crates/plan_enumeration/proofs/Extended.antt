@@ -15,12 +15,12 @@ use Rattle.tail_book.specs.Lookup.{activities, aircraft, carry_of}
 use Rattle.tail_book.specs.Link.{IsLink}
 use Rattle.tail_book.specs.Counters.{step, WithinLimits}
 use Rattle.tail_book.specs.Route.{IsLegalFrom, IsLegalRoute}
-use Rattle.tail_book.specs.inside.Fliers.{route_by}
+use Rattle.tail_book.specs.Fliers.{route_by}
 use Rattle.tail_book.specs.inside.Route.{counters_from, place_after}
 use Rattle.tail_book.specs.Cost.{activity_cost, connection_cost, cost_from, route_cost, cost_of_routes}
 use Rattle.plan_enumeration.specs.inside.Assignment.{IsLegalSoFar, IsLegalAssignment, assignment_cost}
 use Rattle.plan_enumeration.specs.inside.Enumeration.{GoesOn, next_cost}
-use Rattle.flier_plans.specs.inside.FlownInTurn.{route_flown_from, routes_from, RoutesAreFlownInTurn}
+use Rattle.tail_book.specs.inside.FlownInTurn.{route_flown_from, routes_from, RoutesAreFlownInTurn}
 use Rattle.plan_enumeration.proofs.Assigned.{route_flown_from-push}
 
 -- a route and what follows it

@@ -7,7 +7,8 @@ use Rattle.tail_book.specs.Seen.{BookSeen}
 use Rattle.tail_book.specs.Lookup.{activities, aircraft}
 use Rattle.tail_book.specs.Route.{IsLegalRoute}
 use Rattle.tail_book.specs.Plan.{route_of, IsLegalPlan}
-use Rattle.tail_book.specs.inside.Fliers.{FliersFly, PlansByFliersAreLegal, PlansOfTheirFliers, flier, fliers_of, plan_by, route_by}
+use Rattle.tail_book.specs.Fliers.{flier, fliers_of, plan_by, route_by}
+use Rattle.tail_book.specs.inside.Fliers.{FliersFly, PlansByFliersAreLegal, PlansOfTheirFliers}
 use Rattle.tail_book.specs.inside.Sound.{IsBook}
 use Rattle.plan_enumeration.specs.inside.Assignment.{IsLegalAssignment}
 

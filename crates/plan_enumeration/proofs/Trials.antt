@@ -20,16 +20,17 @@ use Rattle.tail_book.specs.Lookup.{activities, aircraft, carry_of, no_tail}
 use Rattle.tail_book.specs.Link.{IsLink}
 use Rattle.tail_book.specs.Counters.{step, WithinLimits}
 use Rattle.tail_book.specs.inside.Route.{counters_after, place_after}
-use Rattle.tail_book.specs.inside.Sound.{IsBook, IsWithin}
+use Rattle.tail_book.specs.Ranges.{IsWithin}
+use Rattle.tail_book.specs.inside.Sound.{IsBook}
 use Rattle.plan_enumeration.specs.declared.enumerate.Trial.{Trial}
 use Rattle.plan_enumeration.specs.declared.enumerate.Best.{Best}
 use Rattle.plan_enumeration.specs.declared.enumerate.Advance.{Advance}
 use Rattle.tail_book.specs.Cost.{activity_cost, connection_cost}
 use Rattle.plan_enumeration.specs.inside.Assignment.{IsLegalAssignment, assignment_cost}
-use Rattle.flier_plans.specs.inside.FlownInTurn.{route_flown_from, RoutesAreFlownInTurn}
-use Rattle.tail_book.specs.inside.Fliers.{route_by}
+use Rattle.tail_book.specs.inside.FlownInTurn.{route_flown_from, RoutesAreFlownInTurn}
+use Rattle.tail_book.specs.Fliers.{route_by}
 use Rattle.plan_enumeration.specs.inside.Enumeration.{Advances, AgreesBelow, GoesOn, HasRow, HasTried, IsCounterValue, IsPlaceBefore, IsTrial, end_of_route, row_of, values_after, values_at, width_of, with_row}
-use Rattle.tail_book.specs.inside.Place.{IsPlaceOf}
+use Rattle.tail_book.specs.Place.{IsPlaceOf}
 use Rattle.plan_enumeration.proofs.Extended.{completed, cost_more, counters_push, route_flown-other, route_flown-same, legal_more, place_push}
 use Rattle.plan_enumeration.proofs.Rows.{row_below, row_of_front, with_row-front, with_row-row, with_row-through, length-with_row}
 

@@ -6,7 +6,8 @@ use Rattle.tail_book.specs.Seen.{BookSeen}
 use Rattle.tail_book.specs.Cost.{plan_cost}
 use Rattle.tail_book.specs.Plan.{IsLegalPlan}
 use Rattle.tail_book.specs.Lookup.{aircraft}
-use Rattle.tail_book.specs.inside.Fliers.{FliersFly, PlansByFliersAreLegal, PlansOfTheirFliers, plan_by}
+use Rattle.tail_book.specs.Fliers.{plan_by}
+use Rattle.tail_book.specs.inside.Fliers.{FliersFly, PlansByFliersAreLegal, PlansOfTheirFliers}
 use Rattle.tail_book.specs.inside.Sound.{IsBook}
 use Rattle.tail_book.specs.Truth.{IsPlanOf, IsTrueOutcome}
 use Rattle.tail_book.specs.declared.outcome.Outcome.TheVariants as outcome

@@ -6,8 +6,8 @@ ghost use Rattle.std.specs.Prelude.{◌≡◌, ◌<◌, ◌≤◌, ◌+◌};
 ghost use Rattle.tail_book.specs.declared.limits.TheConstants.{LEG_COST_LIMIT};
 ghost use Rattle.tail_book.specs.Lookup.{activities, aircraft};
 ghost use Rattle.tail_book.specs.Cost.{activity_cost, connection_cost};
-ghost use Rattle.tail_book.specs.inside.CostTable.{costs_of};
-ghost use Rattle.tail_book.specs.inside.Place.{IsPlaceOf};
+ghost use Rattle.tail_book.specs.CostTable.{costs_of};
+ghost use Rattle.tail_book.specs.Place.{IsPlaceOf};
 
 use tail_book::{Book, CostTable, Place, laws};
 use turn_rules::connection_cost;

@@ -12,22 +12,21 @@ ghost use Rattle.std.specs.Prelude.{◌≡◌, ◌<◌, ◌≤◌, ◌+◌, ◌*
 ghost use Rattle.tail_book.specs.declared.limits.TheConstants.{LEG_COST_LIMIT};
 ghost use Rattle.tail_book.specs.Lookup.{activities, aircraft};
 ghost use Rattle.tail_book.specs.Counters.{step, WithinLimits};
-ghost use Rattle.tail_book.specs.inside.Fliers.{plan_by};
+ghost use Rattle.tail_book.specs.Fliers.{plan_by};
 ghost use Rattle.plan_enumeration.specs.inside.Assignment.{IsLegalAssignment, assignment_cost};
 ghost use Rattle.tail_book.specs.Truth.{IsTrueOutcome};
 ghost use Rattle.plan_enumeration.specs.inside.Enumeration.{Advances, AgreesBelow, HasRow, GoesOn, HasTried, IsBest, IsCounterValue, IsNoBetter, IsTrial, KeepsBest, IsPlaceBefore, IsRowBefore, row_of, values_at, width_of, with_row};
 ghost use Rattle.plan_enumeration.specs.inside.Decided.{IsDecided};
 ghost use Rattle.plan_enumeration.specs.inside.BookTables.{AreTablesOf};
 ghost use Rattle.turn_rules.specs.inside.FreeBefore.{IsFreeBefore};
-ghost use Rattle.tail_book.specs.inside.Place.{IsPlaceOf};
+ghost use Rattle.tail_book.specs.Place.{IsPlaceOf};
 
 use crate::book_tables::{BookTables, tables_of};
 use crate::cost::going_cost;
-use flier_plans::laws::routes_are_flown_in_turn;
-use flier_plans::plan_by;
 use maint_counters::{start, step};
 use std::alloc::Global;
-use tail_book::{Book, Memory, Outcome, Place, laws};
+use tail_book::laws::routes_are_flown_in_turn;
+use tail_book::{Book, Memory, Outcome, Place, laws, plan_by};
 use turn_rules::link_by;
 
 /// The best assignment so far: for each activity the aircraft that flies it, and its cost in cost units. Neither means

@@ -3,8 +3,8 @@ use Rattle.std.specs.Prelude.{ℕ, ◌<◌, List}
 use Rattle.tail_book.specs.Seen.{BookSeen}
 use Rattle.tail_book.specs.Lookup.{aircraft}
 use Rattle.tail_book.specs.Plan.{route_of}
-use Rattle.tail_book.specs.inside.Seen.{CostTableSeen}
-use Rattle.tail_book.specs.inside.Truth.{IsPlanIn}
+use Rattle.tail_book.specs.TableSeen.{CostTableSeen}
+use Rattle.tail_book.specs.Truth.{IsPlanIn}
 use Rattle.branch_marks.specs.declared.fact.Fact.{Fact}
 use Rattle.branch_marks.specs.Marks.{Fits}
 

@@ -1,6 +1,6 @@
 -- What plans are looked for in: a book, with a table of its costs and its network.
 use Rattle.std.specs.Prelude.{◌≡◌}
-use Rattle.tail_book.specs.inside.CostTable.{IsTableFor}
+use Rattle.tail_book.specs.CostTable.{IsTableFor}
 use Rattle.connection_net.specs.Net.{net_of}
 use Rattle.plan_finder.specs.declared.problem.Problem.{Problem}
 

@@ -6,7 +6,7 @@
 
 ghost use Rattle.std.specs.Prelude.{◌≡◌, ◌<◌, ◌++◌, ◌-ℤ◌, IfOk, OnOk, length, pos};
 ghost use Rattle.tail_book.specs.Lookup.{port_offset};
-ghost use Rattle.tail_book.specs.inside.Sound.{IsWithin};
+ghost use Rattle.tail_book.specs.Ranges.{IsWithin};
 ghost use Rattle.plan_picture.specs.Curfews.{band_line, bands, bands_from, begins, curfew_of, lasts, piece};
 
 use crate::bars::port_name;

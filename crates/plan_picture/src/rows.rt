@@ -5,7 +5,7 @@
 
 ghost use Rattle.std.specs.Prelude.{◌≡◌, ◌<◌, ◌++◌, IfOk, OnOk, All};
 ghost use Rattle.tail_book.specs.Lookup.{activities, aircraft, kind_of, tail_of, type_of};
-ghost use Rattle.tail_book.specs.inside.Place.{IsPlaceOf};
+ghost use Rattle.tail_book.specs.Place.{IsPlaceOf};
 ghost use Rattle.plan_report.specs.inside.AuditText.{IsOfBook};
 ghost use Rattle.tail_book.specs.declared.place.Place.TheVariants.{Carry};
 ghost use Rattle.plan_picture.specs.inside.Drawable.{IsDrawable, IsNear};

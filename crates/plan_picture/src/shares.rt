@@ -7,8 +7,8 @@
 ghost use Rattle.std.specs.Prelude.{◌≡◌, ◌<◌, ◌++◌, ◌^◌, IfOk, OnOk, All, length, map, pos};
 ghost use Rattle.tail_book.specs.Counters.{step};
 ghost use Rattle.tail_book.specs.Lookup.{activities, aircraft, carry_of};
-ghost use Rattle.tail_book.specs.inside.Place.{IsPlaceOf};
-ghost use Rattle.tail_book.specs.inside.Sound.{IsWithin};
+ghost use Rattle.tail_book.specs.Place.{IsPlaceOf};
+ghost use Rattle.tail_book.specs.Ranges.{IsWithin};
 ghost use Rattle.plan_picture.specs.Shares.{followed, greater_of, greatest, named_share, place_of, share, share_text, share_texts};
 ghost use Rattle.maint_counters.specs.inside.Counts.{AreCountable};
 

@@ -5,7 +5,7 @@
 
 ghost use Rattle.std.specs.Prelude.{◌≡◌, ◌<◌, ◌++◌, IfOk, OnOk};
 ghost use Rattle.tail_book.specs.Lookup.{activities, aircraft};
-ghost use Rattle.tail_book.specs.inside.Place.{IsPlaceOf};
+ghost use Rattle.tail_book.specs.Place.{IsPlaceOf};
 ghost use Rattle.plan_picture.specs.inside.Drawable.{IsNear};
 ghost use Rattle.plan_picture.specs.Stops.{cleared_names, stop_line, stop_lines, stops, turn_line};
 

@@ -5,8 +5,8 @@
 //! told unjudged.
 
 ghost use Rattle.std.specs.Prelude.{Some, IfOk, IfSome};
-ghost use Rattle.tail_book.specs.inside.CostTable.{IsTableFor};
-ghost use Rattle.tail_book.specs.inside.Truth.{IsPlanIn};
+ghost use Rattle.tail_book.specs.CostTable.{IsTableFor};
+ghost use Rattle.tail_book.specs.Truth.{IsPlanIn};
 
 use crate::candidates::Candidates;
 use crate::partition::Partition;

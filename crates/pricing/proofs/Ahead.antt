@@ -17,9 +17,9 @@ use Rattle.tail_book.specs.Lookup.{from_port, start_of, end_of}
 use Rattle.tail_book.specs.Cost.{band_cost}
 use Rattle.tail_book.specs.Counters.{step_from, step_one, flown}
 use Rattle.tail_book.specs.Link.{gap}
-use Rattle.tail_book.specs.inside.CostTable.{activity_cost_in}
-use Rattle.tail_book.specs.inside.Order.{EachAtMost}
-use Rattle.tail_book.specs.inside.Sound.{IsWithin}
+use Rattle.tail_book.specs.CostTable.{activity_cost_in}
+use Rattle.tail_book.specs.CounterOrder.{EachAtMost}
+use Rattle.tail_book.specs.Ranges.{IsWithin}
 use Rattle.branch_marks.specs.Weights.{dual}
 use Rattle.pricing.specs.inside.Lines.{EndsOutside, StopsOutside, keys, key_one, WaitingKeepsOrder}
 

@@ -6,11 +6,11 @@ use Rattle.std.specs.List.{Contains, concat}
 use Rattle.std.proofs.lemmas.List.{get_or-map, length-map}
 use Rattle.std.proofs.lemmas.List.Elements.{All-nil, All-append, All-map, All-contains, All-contains_itself, Contains-append_left, Contains-append_right}
 use Rattle.tail_book.specs.Seen.{BookSeen}
-use Rattle.tail_book.specs.inside.Seen.{CostTableSeen}
+use Rattle.tail_book.specs.TableSeen.{CostTableSeen}
 use Rattle.tail_book.specs.declared.place.Place.{Place}
 use Rattle.tail_book.specs.declared.place.Place.TheVariants.{Carry, After}
 use Rattle.tail_book.specs.Lookup.{activities, aircraft}
-use Rattle.tail_book.specs.inside.Order.{EachAtMost}
+use Rattle.tail_book.specs.CounterOrder.{EachAtMost}
 use Rattle.tail_book.specs.inside.Rising.{LinksRise}
 use Rattle.tail_book.specs.inside.Sound.{IsBook}
 use Rattle.branch_marks.specs.declared.fact.Fact.{Fact}

@@ -9,13 +9,14 @@ use Rattle.std.specs.Int.{int_max}
 use Rattle.std.specs.List.{Contains}
 use Rattle.std.proofs.lemmas.Int.{ints}
 use Rattle.tail_book.specs.Seen.{BookSeen}
-use Rattle.tail_book.specs.inside.Seen.{CostTableSeen}
+use Rattle.tail_book.specs.TableSeen.{CostTableSeen}
 use Rattle.tail_book.specs.declared.limits.TheConstants.{LAST_MOMENT}
 use Rattle.tail_book.specs.declared.place.Place.TheVariants.{After}
 use Rattle.tail_book.specs.Counters.{step}
 use Rattle.tail_book.specs.Link.{gap}
 use Rattle.tail_book.specs.Lookup.{activities, from_port, start_of, end_of}
-use Rattle.tail_book.specs.inside.Order.{EachAtMost, EachAtMostChains, LowerStaysWithin}
+use Rattle.tail_book.specs.CounterOrder.{EachAtMost}
+use Rattle.tail_book.specs.inside.Order.{EachAtMostChains, LowerStaysWithin}
 use Rattle.branch_marks.specs.declared.fact.Fact.{Fact}
 use Rattle.branch_marks.specs.Weights.{arc_weight}
 use Rattle.label_store.specs.Seen.{StoreSeen}

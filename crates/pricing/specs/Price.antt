@@ -1,7 +1,7 @@
 -- What pricing an aircraft answers: the least weight and a route that has it, or that the aircraft is stuck.
 use Rattle.std.specs.Prelude.{ℕ, ℤ, List}
 use Rattle.tail_book.specs.Seen.{BookSeen}
-use Rattle.tail_book.specs.inside.Seen.{CostTableSeen}
+use Rattle.tail_book.specs.TableSeen.{CostTableSeen}
 use Rattle.branch_marks.specs.declared.fact.Fact.{Fact}
 use Rattle.branch_marks.specs.DeadEnds.{IsStuck}
 use Rattle.branch_marks.specs.Weights.{IsLeastWeight, IsRouteOfWeight}

@@ -7,8 +7,8 @@
 ghost use Rattle.std.specs.Prelude.{◌≡◌, ◌<◌, ◌+◌, ◌^◌, ◌-ℤ◌, ℕ, pos, length, Option, Some, IfOk};
 ghost use Rattle.tail_book.specs.declared.place.Place.TheVariants.{Carry, After};
 ghost use Rattle.tail_book.specs.Lookup.{activities, aircraft, carry_of};
-ghost use Rattle.tail_book.specs.inside.Place.{IsPlaceOf};
-ghost use Rattle.tail_book.specs.inside.Sound.{IsWithin};
+ghost use Rattle.tail_book.specs.Place.{IsPlaceOf};
+ghost use Rattle.tail_book.specs.Ranges.{IsWithin};
 ghost use Rattle.turn_rules.specs.inside.FreeBefore.{IsFreeBefore};
 ghost use Rattle.maint_counters.specs.inside.Counts.{AreCounts};
 ghost use Rattle.connection_net.specs.Net.{net_of};

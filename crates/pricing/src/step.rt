@@ -8,9 +8,9 @@ ghost use Rattle.std.specs.Prelude.{◌≡◌, ◌<◌, ◌+◌, ◌^◌, ◌↔
 ghost use Rattle.tail_book.specs.Lookup.{activities, aircraft};
 ghost use Rattle.tail_book.specs.Counters.{step, WithinLimits};
 ghost use Rattle.tail_book.specs.Link.{IsLink};
-ghost use Rattle.tail_book.specs.inside.CostTable.{IsTableFor};
-ghost use Rattle.tail_book.specs.inside.Place.{IsPlaceOf};
-ghost use Rattle.tail_book.specs.inside.Sound.{IsWithin};
+ghost use Rattle.tail_book.specs.CostTable.{IsTableFor};
+ghost use Rattle.tail_book.specs.Place.{IsPlaceOf};
+ghost use Rattle.tail_book.specs.Ranges.{IsWithin};
 ghost use Rattle.turn_rules.specs.inside.FreeBefore.{IsFreeBefore};
 ghost use Rattle.maint_counters.specs.inside.Counts.{AreCounts};
 ghost use Rattle.maint_counters.specs.inside.StepTable.{IsStepTableOf};

@@ -7,7 +7,8 @@
 
 ghost use Rattle.std.specs.Prelude.{◌≡◌, ◌<◌, ◌+◌, ◌≤◌, ◌+ℤ◌, ◌≤ℤ◌, ◌<ℤ◌, ◌++◌, pos, false, length, IfOk, IsTrue, Contains, slice_index_or};
 ghost use Rattle.tail_book.specs.Lookup.{activities, end_of};
-ghost use Rattle.tail_book.specs.inside.Sound.{IsWithin, IsMoment};
+ghost use Rattle.tail_book.specs.Ranges.{IsWithin};
+ghost use Rattle.tail_book.specs.inside.Sound.{IsMoment};
 ghost use Rattle.tail_book.specs.declared.limits.TheConstants.{COUNT_LIMIT};
 ghost use Rattle.maint_counters.specs.inside.Counts.{AreCounts};
 ghost use Rattle.label_store.specs.Store.{bucket_of};

@@ -5,7 +5,8 @@
 
 ghost use Rattle.std.specs.Prelude.{◌≡◌, ◌-ℤ◌, if◌then◌else◌, pos};
 ghost use Rattle.tail_book.specs.declared.limits.TheConstants.{COUNT_LIMIT};
-ghost use Rattle.tail_book.specs.inside.Sound.{IsWithin, IsMoment};
+ghost use Rattle.tail_book.specs.Ranges.{IsWithin};
+ghost use Rattle.tail_book.specs.inside.Sound.{IsMoment};
 ghost use Rattle.pricing.specs.inside.Lines.{key_by};
 
 use tail_book::CounterKind;

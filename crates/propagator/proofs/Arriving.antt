@@ -7,7 +7,7 @@ use Rattle.std.proofs.lemmas.Bool.{and_parts, both_ways}
 use Rattle.tail_book.specs.Seen.{BookSeen}
 use Rattle.branch_marks.specs.declared.fact.Fact.{Fact}
 use Rattle.branch_marks.specs.declared.fact.Fact.TheVariants.{Bar}
-use Rattle.branch_marks.specs.inside.MarkTests.{is_alive, lets_fly}
+use Rattle.branch_marks.specs.MarkTests.{is_alive, lets_fly}
 use Rattle.propagator.specs.inside.SameFor.{SameFor, BarsLeaveOthers}
 use Rattle.propagator.specs.inside.Settling.{ActsOn}
 use Rattle.propagator.proofs.MoreMarks.{alive_more}

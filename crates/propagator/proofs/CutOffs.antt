@@ -9,8 +9,10 @@ use Rattle.tail_book.specs.declared.place.Place.TheVariants.{After}
 use Rattle.branch_marks.specs.declared.fact.Fact.{Fact}
 use Rattle.branch_marks.specs.declared.fact.Fact.TheVariants.{Must}
 use Rattle.branch_marks.specs.Marks.{LetsGo}
-use Rattle.branch_marks.specs.inside.FactTests.{has_fact, HasFactDecides}
-use Rattle.branch_marks.specs.inside.MarkTests.{is_usable, UsableDecides}
+use Rattle.branch_marks.specs.FactTests.{has_fact}
+use Rattle.branch_marks.specs.inside.FactTests.{HasFactDecides}
+use Rattle.branch_marks.specs.MarkTests.{is_usable}
+use Rattle.branch_marks.specs.inside.MarkTests.{UsableDecides}
 use Rattle.propagator.specs.inside.CutOff.{IsCutOff}
 
 module _ (usable : UsableDecides) (has : HasFactDecides) (book : BookSeen) (marks : List Fact) (k b c : ℕ) (known : has_fact marks (Must k c) ≡ true) (lt : c < b) where

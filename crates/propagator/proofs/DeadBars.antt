@@ -14,10 +14,12 @@ use Rattle.connection_net.specs.Net.{net_of, predecessors_in}
 use Rattle.tail_book.specs.Counters.{step}
 use Rattle.tail_book.specs.inside.Rising.{LinksRise}
 use Rattle.tail_book.specs.inside.Sound.{IsBook}
-use Rattle.tail_book.specs.inside.Tests.{within_limits, LimitsDecide}
+use Rattle.tail_book.specs.LegalTests.{within_limits}
+use Rattle.tail_book.specs.inside.Tests.{LimitsDecide}
 use Rattle.branch_marks.specs.declared.fact.Fact.{Fact}
 use Rattle.branch_marks.specs.declared.fact.Fact.TheVariants.{Bar}
-use Rattle.branch_marks.specs.inside.MarkTests.{is_usable, AliveDecides, UsableDecides, MayEndDecides}
+use Rattle.branch_marks.specs.MarkTests.{is_usable}
+use Rattle.branch_marks.specs.inside.MarkTests.{AliveDecides, UsableDecides, MayEndDecides}
 use Rattle.branch_marks.specs.Floors.{stepped_floor}
 use Rattle.branch_marks.specs.Following.{IsDeadBy, IsDead}
 use Rattle.floor_rows.specs.inside.LeastOver.{floor_of, brought, least_at, FloorsAreLeast, LeastAreFloors, BroughtTells}

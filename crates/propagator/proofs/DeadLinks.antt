@@ -15,7 +15,8 @@ use Rattle.tail_book.specs.Lookup.{aircraft}
 use Rattle.branch_marks.specs.declared.fact.Fact.{Fact}
 use Rattle.branch_marks.specs.declared.fact.Fact.TheVariants.{Bar, Must, Cut, Tie}
 use Rattle.branch_marks.specs.Marks.{IsUsable}
-use Rattle.branch_marks.specs.inside.MarkTests.{is_alive, AliveDecides}
+use Rattle.branch_marks.specs.MarkTests.{is_alive}
+use Rattle.branch_marks.specs.inside.MarkTests.{AliveDecides}
 use Rattle.branch_marks.specs.MarksSeen.{MarksSeen}
 use Rattle.branch_marks.specs.inside.MarkTables.{AreMarksOf}
 use Rattle.branch_marks.specs.Floors.{floors, FloorsCount}

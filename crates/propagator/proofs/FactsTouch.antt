@@ -17,7 +17,8 @@ use Rattle.connection_net.specs.inside.Laws.{PredecessorsAreLinks, SuccessorsAre
 use Rattle.connection_net.specs.Net.{net_of, predecessors_in, successors_in}
 use Rattle.branch_marks.specs.declared.fact.Fact.{Fact}
 use Rattle.branch_marks.specs.declared.fact.Fact.TheVariants.{Bar, Must, Cut, Tie}
-use Rattle.branch_marks.specs.inside.MarkTests.{is_alive, is_before, is_usable, lets_go, AliveDecides, UsableDecides, MayEndDecides}
+use Rattle.branch_marks.specs.MarkTests.{is_alive, is_before, is_usable, lets_go}
+use Rattle.branch_marks.specs.inside.MarkTests.{AliveDecides, UsableDecides, MayEndDecides}
 use Rattle.branch_marks.specs.Floors.{stepped_floor, floors}
 use Rattle.branch_marks.specs.Following.{IsDeadBy}
 use Rattle.floor_rows.specs.inside.FloorRow.{FloorRowSeen, floor_in, IsSetAt}

@@ -12,7 +12,7 @@ use Rattle.std.specs.List.{range_with_len}
 use Rattle.tail_book.specs.Seen.{BookSeen}
 use Rattle.tail_book.specs.declared.place.Place.TheVariants.{After}
 use Rattle.tail_book.specs.Lookup.{activities}
-use Rattle.tail_book.specs.inside.Order.{EachAtMost}
+use Rattle.tail_book.specs.CounterOrder.{EachAtMost}
 use Rattle.branch_marks.specs.declared.fact.Fact.{Fact}
 use Rattle.branch_marks.specs.Floors.{lesser, lesser_floor, stepped_floor}
 use Rattle.branch_marks.specs.inside.FloorLaws.{LesserInAnyOrder}

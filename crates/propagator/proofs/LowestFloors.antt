@@ -8,8 +8,10 @@ use Rattle.tail_book.specs.Seen.{BookSeen, CounterSeen}
 use Rattle.tail_book.specs.declared.place.Place.TheVariants.{After}
 use Rattle.tail_book.specs.Lookup.{activities, aircraft}
 use Rattle.tail_book.specs.Counters.{step, step_one, step_from, WithinLimits}
-use Rattle.tail_book.specs.inside.Order.{EachAtMost, EachAtMostChains, EachAtMostItself, StepsKeepOrder, LowerStaysWithin}
-use Rattle.tail_book.specs.inside.Tests.{within_limits, LimitsDecide}
+use Rattle.tail_book.specs.CounterOrder.{EachAtMost}
+use Rattle.tail_book.specs.inside.Order.{EachAtMostChains, EachAtMostItself, StepsKeepOrder, LowerStaysWithin}
+use Rattle.tail_book.specs.LegalTests.{within_limits}
+use Rattle.tail_book.specs.inside.Tests.{LimitsDecide}
 use Rattle.branch_marks.specs.Floors.{lesser, lesser_floor}
 use Rattle.branch_marks.specs.Following.{CannotGoBy}
 use Rattle.floor_rows.specs.inside.FloorRow.{FloorRowSeen, floor_in, IsRowOf, IsSetAt}

@@ -1,9 +1,8 @@
 -- What marks leave open once one fact more is among them. To be alive, to go on and to end are each an `and` over all
 -- facts, so with the fact at their end each is what it was, `and` what that fact lets. Where the fact lets it, nothing
 -- changes; a link asks this of both its ends too. And what is as usable as before brings the same floor.
-use Rattle.std.specs.Prelude.{◌&&◌, ◌||◌, not, nat_eq, if◌then◌else◌}
+use Rattle.std.specs.Prelude.{◌&&◌, ◌||◌, not, nat_eq, if◌then◌else◌, ◌≢◌}
 use Rattle.std.proofs.Common.{◌≡◌, ◌∙◌, ℕ, ℤ, Bool, true, false, List, [], ◌∷◌, ◌++◌, refl, sym, ap, Option, None, Some, inl, inr}
-use Rattle.std.specs.Prelude.{◌≢◌}
 use Rattle.std.specs.List.{list_all}
 use Rattle.std.proofs.lemmas.Bool.{ne_eqb, eq-eqb}
 use Rattle.std.proofs.lemmas.Bool.Decides.{eqb_tells}
@@ -12,10 +11,10 @@ use Rattle.tail_book.specs.Seen.{BookSeen}
 use Rattle.tail_book.specs.declared.place.Place.{Place}
 use Rattle.tail_book.specs.declared.place.Place.TheVariants.{Carry, After}
 use Rattle.tail_book.specs.Counters.{step}
-use Rattle.tail_book.specs.inside.Tests.{is_allowed, is_link, within_limits}
+use Rattle.tail_book.specs.LegalTests.{is_allowed, is_link, within_limits}
 use Rattle.branch_marks.specs.declared.fact.Fact.{Fact}
 use Rattle.branch_marks.specs.declared.fact.Fact.TheVariants.{Bar, Must}
-use Rattle.branch_marks.specs.inside.MarkTests.{is_alive, is_alive_at, is_usable, may_end, lets_fly, lets_go, lets_end}
+use Rattle.branch_marks.specs.MarkTests.{is_alive, is_alive_at, is_usable, may_end, lets_fly, lets_go, lets_end}
 use Rattle.branch_marks.specs.Floors.{stepped_floor}
 
 -- three equations of tests

@@ -8,9 +8,11 @@ use Rattle.tail_book.specs.Seen.{BookSeen}
 use Rattle.tail_book.specs.Lookup.{activities, aircraft}
 use Rattle.branch_marks.specs.declared.fact.Fact.{Fact}
 use Rattle.branch_marks.specs.declared.fact.Fact.TheVariants.{Must}
-use Rattle.branch_marks.specs.inside.Below.{some_below, count_below}
-use Rattle.branch_marks.specs.inside.FactTests.{same_fact, has_fact, HasFactDecides}
-use Rattle.branch_marks.specs.inside.MarkTests.{is_alive, AliveDecides}
+use Rattle.branch_marks.specs.Below.{some_below, count_below}
+use Rattle.branch_marks.specs.FactTests.{same_fact, has_fact}
+use Rattle.branch_marks.specs.inside.FactTests.{HasFactDecides}
+use Rattle.branch_marks.specs.MarkTests.{is_alive}
+use Rattle.branch_marks.specs.inside.MarkTests.{AliveDecides}
 use Rattle.branch_marks.specs.Following.{IsOnlyCarrier}
 use Rattle.std.proofs.lemmas.Bool.Decides.{eqb_tells}
 use Rattle.branch_marks.specs.MarksSeen.{MarksSeen}

@@ -12,7 +12,8 @@ use Rattle.tail_book.specs.Numbers.{contains}
 use Rattle.connection_net.specs.inside.Laws.{PredecessorsAreLinks, SuccessorsAreLinks}
 use Rattle.connection_net.specs.Net.{net_of, predecessors_in, successors_in}
 use Rattle.branch_marks.specs.declared.fact.Fact.{Fact}
-use Rattle.branch_marks.specs.inside.MarkTests.{is_usable, may_end, UsableDecides, MayEndDecides}
+use Rattle.branch_marks.specs.MarkTests.{is_usable, may_end}
+use Rattle.branch_marks.specs.inside.MarkTests.{UsableDecides, MayEndDecides}
 use Rattle.branch_marks.specs.Floors.{stepped_floor}
 use Rattle.branch_marks.specs.Following.{IsDeadBy}
 use Rattle.floor_rows.specs.inside.FloorRow.{FloorRowSeen, floor_in, IsSetAt}

@@ -11,11 +11,14 @@ use Rattle.tail_book.specs.declared.place.Place.{Place}
 use Rattle.tail_book.specs.declared.place.Place.TheVariants.{Carry, After}
 use Rattle.tail_book.specs.Counters.{step}
 use Rattle.tail_book.specs.Lookup.{activities, aircraft, carry_of}
-use Rattle.tail_book.specs.inside.Order.{EachAtMost, EachAtMostChains, StepsKeepOrder, LowerStaysWithin}
+use Rattle.tail_book.specs.CounterOrder.{EachAtMost}
+use Rattle.tail_book.specs.inside.Order.{EachAtMostChains, StepsKeepOrder, LowerStaysWithin}
 use Rattle.tail_book.specs.inside.Sound.{IsBook}
-use Rattle.tail_book.specs.inside.Tests.{is_allowed, is_link, within_limits, LimitsDecide}
+use Rattle.tail_book.specs.LegalTests.{is_allowed, is_link, within_limits}
+use Rattle.tail_book.specs.inside.Tests.{LimitsDecide}
 use Rattle.branch_marks.specs.declared.fact.Fact.{Fact}
-use Rattle.branch_marks.specs.inside.MarkTests.{is_alive, is_alive_at, is_usable, lets_fly, lets_go, UsableDecides}
+use Rattle.branch_marks.specs.MarkTests.{is_alive, is_alive_at, is_usable, lets_fly, lets_go}
+use Rattle.branch_marks.specs.inside.MarkTests.{UsableDecides}
 use Rattle.branch_marks.specs.Floors.{lesser, lesser_floor, stepped_floor, floor_at, FloorsAreLow}
 use Rattle.floor_rows.specs.inside.LeastOver.{floor_of, least_over, brought, brought_first, FloorsAreLeast}
 use Rattle.propagator.specs.inside.Rising.{IsLowFor}

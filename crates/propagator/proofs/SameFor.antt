@@ -1,7 +1,6 @@
 -- Where marks leave an aircraft the same links, its floors are built from the same parts, and so is what is dead for it.
-use Rattle.std.specs.Prelude.{◌&&◌, ◌||◌, not, nat_le}
+use Rattle.std.specs.Prelude.{◌&&◌, ◌||◌, not, nat_le, ◌≢◌}
 use Rattle.std.proofs.Common.{◌≡◌, ◌∙◌, ℕ, zero, suc, ℤ, ◌+◌, Bool, true, false, List, [], ◌∷◌, ◌++◌, refl, sym, ap, subst, get_or, Option, None, Some}
-use Rattle.std.specs.Prelude.{◌≢◌}
 use Rattle.std.proofs.lemmas.Bool.{ne_eqb}
 use Rattle.tail_book.specs.Seen.{BookSeen}
 use Rattle.tail_book.specs.declared.place.Place.{Place}
@@ -9,7 +8,8 @@ use Rattle.tail_book.specs.declared.place.Place.TheVariants.{Carry, After}
 use Rattle.tail_book.specs.Lookup.{activities, carry_of}
 use Rattle.branch_marks.specs.declared.fact.Fact.{Fact}
 use Rattle.branch_marks.specs.declared.fact.Fact.TheVariants.{Bar, Must}
-use Rattle.branch_marks.specs.inside.MarkTests.{is_alive, is_before, lets_go, lets_end, AliveDecides, UsableDecides, MayEndDecides}
+use Rattle.branch_marks.specs.MarkTests.{is_alive, is_before, lets_go, lets_end}
+use Rattle.branch_marks.specs.inside.MarkTests.{AliveDecides, UsableDecides, MayEndDecides}
 use Rattle.branch_marks.specs.Floors.{lesser_floor, stepped_floor, least_from, floor_by, floors_below, floors, floor_at}
 use Rattle.branch_marks.specs.Following.{IsDeadBy, IsDead}
 use Rattle.propagator.specs.inside.SameFor.{SameFor}

@@ -11,12 +11,14 @@ use Rattle.tail_book.specs.Seen.{BookSeen}
 use Rattle.tail_book.specs.declared.place.Place.TheVariants.{After}
 use Rattle.tail_book.specs.Lookup.{activities, aircraft}
 use Rattle.tail_book.specs.Counters.{step}
-use Rattle.tail_book.specs.inside.Tests.{within_limits, LimitsDecide}
+use Rattle.tail_book.specs.LegalTests.{within_limits}
+use Rattle.tail_book.specs.inside.Tests.{LimitsDecide}
 use Rattle.branch_marks.specs.declared.fact.Fact.{Fact}
 use Rattle.branch_marks.specs.declared.fact.Fact.TheVariants.{Bar, Must, Cut, Tie}
 use Rattle.branch_marks.specs.Marks.{IsAlive, IsUsable, LetsFly, LetsGo}
-use Rattle.branch_marks.specs.inside.MarkTests.{is_usable, lets_fly, lets_go, AliveDecides, UsableDecides}
-use Rattle.branch_marks.specs.inside.Below.{some_below}
+use Rattle.branch_marks.specs.MarkTests.{is_usable, lets_fly, lets_go}
+use Rattle.branch_marks.specs.inside.MarkTests.{AliveDecides, UsableDecides}
+use Rattle.branch_marks.specs.Below.{some_below}
 use Rattle.branch_marks.specs.Following.{CannotGoBy, IsDeadBy, IsDeadConnection, IsShut}
 use Rattle.floor_rows.specs.inside.LeastOver.{floor_of}
 use Rattle.floor_rows.specs.inside.Neighbours.{goes_on_to}

@@ -10,11 +10,11 @@ ghost use Rattle.std.specs.Prelude.{◌≡◌, ◌<◌, ℕ, ℤ, List, true, fa
 ghost use Rattle.tail_book.specs.Lookup.{activities, aircraft};
 ghost use Rattle.turn_rules.specs.inside.FreeBefore.{IsFreeBefore};
 ghost use Rattle.tail_book.specs.declared.place.Place.TheVariants.{After as PlaceAfter};
-ghost use Rattle.tail_book.specs.inside.Order.{EachAtMost};
+ghost use Rattle.tail_book.specs.CounterOrder.{EachAtMost};
 ghost use Rattle.branch_marks.specs.declared.fact.Fact.{Fact as MarkFact};
 ghost use Rattle.branch_marks.specs.Floors.{lesser, lesser_floor};
 ghost use Rattle.branch_marks.specs.inside.MarkTables.{AreMarksOf};
-ghost use Rattle.branch_marks.specs.inside.MarkTests.{is_usable};
+ghost use Rattle.branch_marks.specs.MarkTests.{is_usable};
 ghost use Rattle.connection_net.specs.Net.{net_of};
 ghost use Rattle.floor_rows.specs.inside.FloorRow.{floor_in, IsRowOf, IsSetAt};
 ghost use Rattle.floor_rows.specs.inside.LeastOver.{brought, brought_first, floor_of};

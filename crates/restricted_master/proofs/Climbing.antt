@@ -6,9 +6,9 @@ use Rattle.std.proofs.lemmas.Int.{ints}
 use Rattle.std.proofs.lemmas.Bool.{both_ways, cases_eq}
 use Rattle.std.specs.Prelude.{if◌then◌else◌, IsSome, is_some}
 use Rattle.tail_book.specs.Seen.{BookSeen}
-use Rattle.tail_book.specs.inside.Seen.{CostTableSeen}
+use Rattle.tail_book.specs.TableSeen.{CostTableSeen}
 use Rattle.tail_book.specs.Lookup.{activities}
-use Rattle.tail_book.specs.inside.CostTable.{cost_unit}
+use Rattle.tail_book.specs.CostTable.{cost_unit}
 use Rattle.branch_marks.specs.Bound.{bound_of}
 use Rattle.branch_marks.specs.Pool.{Pooled, sum_in}
 use Rattle.restricted_master.specs.inside.Moving.{is_due, IsSettledAt, IsWork, Sweeps, Visits}

@@ -5,7 +5,7 @@ use Rattle.std.proofs.Common.{◌≡◌, ◌⊎◌, ◌<◌, ◌+◌, ◌≤ℤ�
 use Rattle.std.proofs.lemmas.Int.{ints, clamps}
 use Rattle.std.proofs.lemmas.Bool.{cases_eq, both_ways, and_from, and_parts}
 use Rattle.std.specs.Prelude.{int_lt, ◌&&◌}
-use Rattle.tail_book.specs.inside.Sound.{IsWithin}
+use Rattle.tail_book.specs.Ranges.{IsWithin}
 use Rattle.restricted_master.specs.inside.Choices.{IsSmallWeight}
 use Rattle.restricted_master.specs.inside.Least.{IsLeastBelow, lighter, is_lighter}
 use Rattle.restricted_master.proofs.Members.{true_or_false}

@@ -8,13 +8,13 @@ use Rattle.std.proofs.lemmas.Bool.{eq-eqb, eqb-true}
 use Rattle.std.proofs.lemmas.List.{ext_get_or, get_or_default}
 use Rattle.std.proofs.lemmas.List.FromFn.{length-map-range_with_len, get_or-map-range_with_len}
 use Rattle.std.specs.Option.{unwrap_or}
-use Rattle.tail_book.specs.inside.Sums.{total}
+use Rattle.tail_book.specs.Sums.{total}
 use Rattle.std.specs.Prelude.{All}
 use Rattle.tail_book.specs.Seen.{BookSeen}
-use Rattle.tail_book.specs.inside.Seen.{CostTableSeen}
+use Rattle.tail_book.specs.TableSeen.{CostTableSeen}
 use Rattle.tail_book.specs.declared.place.Place.TheVariants.{Carry}
 use Rattle.tail_book.specs.Lookup.{activities, aircraft}
-use Rattle.tail_book.specs.inside.CostTable.{IsCostTable, IsInBox, IsTableFor, box_end}
+use Rattle.tail_book.specs.CostTable.{IsCostTable, IsInBox, IsTableFor, box_end}
 use Rattle.tail_book.specs.inside.RouteBounds.{ReducedCostsAreSmall}
 use Rattle.branch_marks.specs.Bound.{value_of}
 use Rattle.branch_marks.specs.Weights.{weight, dual}

@@ -10,11 +10,11 @@ use Rattle.std.proofs.lemmas.List.FromFn.{length-map-range_with_len, get_or-map-
 use Rattle.std.specs.Prelude.{All, filter}
 use Rattle.std.specs.Option.{unwrap_or}
 use Rattle.tail_book.specs.Seen.{BookSeen}
-use Rattle.tail_book.specs.inside.Seen.{CostTableSeen}
+use Rattle.tail_book.specs.TableSeen.{CostTableSeen}
 use Rattle.tail_book.specs.Lookup.{activities, aircraft}
 use Rattle.tail_book.specs.Numbers.{contains}
-use Rattle.tail_book.specs.inside.CostTable.{IsInBox}
-use Rattle.tail_book.specs.inside.Sums.{total}
+use Rattle.tail_book.specs.CostTable.{IsInBox}
+use Rattle.tail_book.specs.Sums.{total}
 use Rattle.branch_marks.specs.Bound.{value_of}
 use Rattle.branch_marks.specs.Weights.{dual}
 use Rattle.branch_marks.specs.Pool.{Pooled, LeastInIsLeast, least_in, sum_in, values_in}

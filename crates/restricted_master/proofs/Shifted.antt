@@ -7,11 +7,11 @@ use Rattle.std.proofs.lemmas.Bool.{cases_eq, both_ways, eq-eqb, and_from, and_pa
 use Rattle.std.proofs.lemmas.List.{length-set, get_or-set_same, get_or-set_other}
 use Rattle.std.specs.Prelude.{nat_eq, not, ◌&&◌, ◌||◌, if◌then◌else◌, int_lt, cond}
 use Rattle.tail_book.specs.Seen.{BookSeen}
-use Rattle.tail_book.specs.inside.Seen.{CostTableSeen}
+use Rattle.tail_book.specs.TableSeen.{CostTableSeen}
 use Rattle.tail_book.specs.declared.place.Place.{Place}
 use Rattle.tail_book.specs.declared.place.Place.TheVariants.{Carry, After}
 use Rattle.tail_book.specs.Numbers.{contains}
-use Rattle.tail_book.specs.inside.CostTable.{cost_unit, route_cost_in}
+use Rattle.tail_book.specs.CostTable.{cost_unit, route_cost_in}
 use Rattle.tail_book.specs.inside.Rising.{IsRisingFrom}
 use Rattle.branch_marks.specs.Pool.{Pooled}
 use Rattle.branch_marks.specs.Settled.{with_dual}

@@ -1,9 +1,9 @@
 -- What dropping the routes that do not fit leaves: the others, in their order, each with its cost.
 use Rattle.std.specs.Prelude.{◌≡◌, Bool, List, filter}
 use Rattle.tail_book.specs.Seen.{BookSeen}
-use Rattle.tail_book.specs.inside.Seen.{CostTableSeen}
+use Rattle.tail_book.specs.TableSeen.{CostTableSeen}
 use Rattle.branch_marks.specs.declared.fact.Fact.{Fact}
-use Rattle.branch_marks.specs.inside.MarkTests.{fits}
+use Rattle.branch_marks.specs.MarkTests.{fits}
 use Rattle.branch_marks.specs.Pool.{Pooled}
 use Rattle.restricted_master.specs.Seen.{PoolSeen}
 use Rattle.restricted_master.specs.Pool.{IsPoolFor}

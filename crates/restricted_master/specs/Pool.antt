@@ -3,8 +3,8 @@ use Rattle.std.specs.Prelude.{◌≡◌, ℕ, ◌<◌, List, [], All, Any, map, 
 use Rattle.tail_book.specs.Seen.{BookSeen}
 use Rattle.tail_book.specs.declared.place.Place.TheVariants.{Carry}
 use Rattle.tail_book.specs.Lookup.{activities, aircraft}
-use Rattle.tail_book.specs.inside.Seen.{CostTableSeen}
-use Rattle.tail_book.specs.inside.CostTable.{route_cost_in}
+use Rattle.tail_book.specs.TableSeen.{CostTableSeen}
+use Rattle.tail_book.specs.CostTable.{route_cost_in}
 use Rattle.tail_book.specs.inside.Rising.{IsRisingFrom}
 use Rattle.branch_marks.specs.Pool.{Pooled}
 use Rattle.restricted_master.specs.Seen.{PoolSeen}

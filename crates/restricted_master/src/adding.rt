@@ -7,7 +7,7 @@
 ghost use Rattle.std.specs.Prelude.{◌≡◌, ◌<◌, ◌≤◌, ◌+◌, ◌↔◌, ◌^◌, ◌++◌, ◌∷◌, [], Contains, IfOk, IsTrue, MatchOption, OnErr, length, vec_capacity, vec_len};
 ghost use Rattle.tail_book.specs.Lookup.{activities, aircraft};
 ghost use Rattle.tail_book.specs.declared.place.Place.TheVariants.{Carry};
-ghost use Rattle.tail_book.specs.inside.CostTable.{IsTableFor, route_cost_in};
+ghost use Rattle.tail_book.specs.CostTable.{IsTableFor, route_cost_in};
 ghost use Rattle.tail_book.specs.inside.Rising.{IsRisingFrom};
 ghost use Rattle.restricted_master.specs.Adding.{Adds};
 ghost use Rattle.restricted_master.specs.Pool.{entry_at, IsPoolFor};

@@ -5,7 +5,7 @@
 
 ghost use Rattle.std.specs.Prelude.{◌≡◌, pos, ◌-ℤ◌, ◌^◌};
 ghost use Rattle.std.specs.Int.{int_max, int_min};
-ghost use Rattle.tail_book.specs.inside.Sound.{IsWithin};
+ghost use Rattle.tail_book.specs.Ranges.{IsWithin};
 ghost use Rattle.restricted_master.specs.inside.Choices.{price_of, taken_at, IsSmall, IsSmallChoice};
 
 /// The least weight of an aircraft's routes that have an activity, with the activity's dual left out, and that of its

@@ -7,8 +7,8 @@
 ghost use Rattle.std.specs.Prelude.{◌≡◌, ℕ, ◌<◌, ◌≤◌, ◌-ℤ◌, ◌^◌, if◌then◌else◌, All, length, pos};
 ghost use Rattle.tail_book.specs.Lookup.{activities, aircraft};
 ghost use Rattle.tail_book.specs.Numbers.{contains};
-ghost use Rattle.tail_book.specs.inside.CostTable.{box_end, IsInBox};
-ghost use Rattle.tail_book.specs.inside.Sound.{IsWithin};
+ghost use Rattle.tail_book.specs.CostTable.{box_end, IsInBox};
+ghost use Rattle.tail_book.specs.Ranges.{IsWithin};
 ghost use Rattle.branch_marks.specs.Bound.{value_of};
 ghost use Rattle.branch_marks.specs.Weights.{dual};
 ghost use Rattle.branch_marks.specs.Settled.{with_dual};

@@ -8,9 +8,9 @@
 
 ghost use Rattle.std.specs.Prelude.{◌≡◌, ℕ, ◌<◌, ◌≤ℤ◌, ◌≤◌, ◌-ℤ◌, ◌^◌, pos, true, IfOk, OnErr, length};
 ghost use Rattle.tail_book.specs.Lookup.{activities, aircraft};
-ghost use Rattle.tail_book.specs.inside.CostTable.{IsTableFor};
-ghost use Rattle.tail_book.specs.inside.Sound.{IsWithin};
-ghost use Rattle.tail_book.specs.inside.Sums.{total};
+ghost use Rattle.tail_book.specs.CostTable.{IsTableFor};
+ghost use Rattle.tail_book.specs.Ranges.{IsWithin};
+ghost use Rattle.tail_book.specs.Sums.{total};
 ghost use Rattle.branch_marks.specs.Pool.{sum_in, values_in};
 ghost use Rattle.branch_marks.specs.Settled.{AreDuals, IsSettledOver};
 ghost use Rattle.restricted_master.specs.Pool.{HasRoutes, IsPoolFor};

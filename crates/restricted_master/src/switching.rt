@@ -6,7 +6,7 @@
 
 ghost use Rattle.std.specs.Prelude.{◌≡◌, ℕ, ◌<◌, ◌≤ℤ◌, ◌≤◌, ◌^◌, pos, ◌-ℤ◌, length};
 ghost use Rattle.std.specs.Int.{int_max, int_min};
-ghost use Rattle.tail_book.specs.inside.Sound.{IsWithin};
+ghost use Rattle.tail_book.specs.Ranges.{IsWithin};
 ghost use Rattle.restricted_master.specs.inside.Choices.{IsSmall, IsSmallChoice, IsTaken, IsTakenOnce, IsBest, choice_at, part_at};
 
 use crate::choice::{Choice, greater, lesser};

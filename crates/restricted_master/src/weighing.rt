@@ -5,8 +5,8 @@
 
 ghost use Rattle.std.specs.Prelude.{◌≡◌, ◌<◌, ◌-ℤ◌, ◌^◌, pos, All, length, if◌then◌else◌, nat_eq, Some};
 ghost use Rattle.tail_book.specs.Lookup.{aircraft};
-ghost use Rattle.tail_book.specs.inside.CostTable.{IsTableFor};
-ghost use Rattle.tail_book.specs.inside.Sound.{IsWithin};
+ghost use Rattle.tail_book.specs.CostTable.{IsTableFor};
+ghost use Rattle.tail_book.specs.Ranges.{IsWithin};
 ghost use Rattle.branch_marks.specs.Weights.{duals_on};
 ghost use Rattle.branch_marks.specs.Pool.{least_in, least_with};
 ghost use Rattle.branch_marks.specs.Settled.{AreDuals};

@@ -8,7 +8,7 @@ use Rattle.tail_book.specs.declared.place.Place.{Place}
 use Rattle.tail_book.specs.declared.place.Place.TheVariants.{Carry, After}
 use Rattle.tail_book.specs.Lookup.{activities}
 use Rattle.tail_book.specs.Link.{IsLink}
-use Rattle.tail_book.specs.inside.Place.{IsBefore}
+use Rattle.tail_book.specs.Place.{IsBefore}
 use Rattle.tail_book.specs.inside.Rising.{LinksRise, IsRisingFrom}
 use Rattle.tail_book.specs.inside.RouteBounds.{ReducedCostsAreSmall}
 use Rattle.tail_book.specs.inside.Sound.{IsBook}

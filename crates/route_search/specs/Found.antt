@@ -1,7 +1,7 @@
 -- What a search within a cut answers: the least weight where that is within the cut, and else that nothing is.
 use Rattle.std.specs.Prelude.{ℕ, ℤ, pos, ◌+ℤ◌, ◌≤ℤ◌, List}
 use Rattle.tail_book.specs.Seen.{BookSeen}
-use Rattle.tail_book.specs.inside.Seen.{CostTableSeen}
+use Rattle.tail_book.specs.TableSeen.{CostTableSeen}
 use Rattle.branch_marks.specs.declared.fact.Fact.{Fact}
 use Rattle.branch_marks.specs.Weights.{WeighsAtLeast, IsLeastWeight, IsRouteOfWeight}
 use Rattle.route_search.specs.declared.found.Found.{Found}

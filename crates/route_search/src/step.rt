@@ -4,8 +4,8 @@
 ghost use Rattle.std.specs.Prelude.{◌≡◌, ◌<◌, ◌≤◌, ◌*◌, ◌≤ℤ◌, pos};
 ghost use Rattle.tail_book.specs.Lookup.{activities, aircraft};
 ghost use Rattle.tail_book.specs.Link.{IsLink};
-ghost use Rattle.tail_book.specs.inside.CostTable.{connection_cost_in};
-ghost use Rattle.tail_book.specs.inside.Place.{IsPlaceOf};
+ghost use Rattle.tail_book.specs.CostTable.{connection_cost_in};
+ghost use Rattle.tail_book.specs.Place.{IsPlaceOf};
 ghost use Rattle.turn_rules.specs.inside.FreeBefore.{IsFreeBefore};
 ghost use Rattle.branch_marks.specs.Weights.{arc_weight};
 ghost use Rattle.route_search.specs.inside.Task.{IsTask, IsAdded};

@@ -8,7 +8,7 @@
 ghost use Rattle.std.specs.Prelude.{◌≡◌, ◌<◌, ◌≤◌, IsTrue, length, Option, IfSome};
 ghost use Rattle.tail_book.specs.declared.place.Place.TheVariants.{Carry};
 ghost use Rattle.tail_book.specs.Lookup.{activities};
-ghost use Rattle.tail_book.specs.inside.Place.{IsBefore};
+ghost use Rattle.tail_book.specs.Place.{IsBefore};
 ghost use Rattle.tail_book.specs.inside.Rising.{IsRisingFrom};
 
 use crate::rest::Next;

@@ -1,7 +1,7 @@
 //! What one search is over: a book with its tables, marks and duals, and one aircraft. It only borrows these, so it is
 //! handed on as a copy.
 
-ghost use Rattle.tail_book.specs.inside.CostTable.{IsCostTable};
+ghost use Rattle.tail_book.specs.CostTable.{IsCostTable};
 ghost use Rattle.tail_book.specs.inside.Sound.{IsBook};
 
 use branch_marks::Marks;

@@ -2,7 +2,7 @@
 
 ghost use Rattle.std.specs.Prelude.{◌<◌, IsTrue};
 ghost use Rattle.tail_book.specs.Lookup.{activities, aircraft};
-ghost use Rattle.tail_book.specs.inside.CostTable.{IsTableFor};
+ghost use Rattle.tail_book.specs.CostTable.{IsTableFor};
 ghost use Rattle.turn_rules.specs.inside.PermissionTable.{ArePermissionsOf};
 ghost use Rattle.maint_counters.specs.inside.StepTable.{IsStepTableOf};
 ghost use Rattle.plan_report.specs.inside.Report.{HasPlanFor};

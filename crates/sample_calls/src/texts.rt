@@ -5,7 +5,8 @@ ghost use Rattle.std.specs.Prelude.{◌≡◌, ◌<◌, ◌≤◌, ◌++◌, pos
 ghost use Rattle.std.specs.Fmt.{signed_decimal};
 ghost use Rattle.tail_book.specs.Link.{gap};
 ghost use Rattle.tail_book.specs.Lookup.{activities, activity_of, aircraft};
-ghost use Rattle.tail_book.specs.inside.Sound.{IsMoment, IsWithin};
+ghost use Rattle.tail_book.specs.Ranges.{IsWithin};
+ghost use Rattle.tail_book.specs.inside.Sound.{IsMoment};
 ghost use Rattle.tail_text.specs.Number.{number_of};
 ghost use Rattle.tail_text.specs.Stamp.{stamp_of};
 ghost use Rattle.sample_calls.specs.Texts.{later};

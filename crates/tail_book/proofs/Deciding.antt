@@ -20,7 +20,7 @@ use Rattle.tail_book.specs.Link.{port, free_from, turn_time, IsLink, IsAllowedAt
 use Rattle.tail_book.specs.Counters.{step, WithinLimits}
 use Rattle.tail_book.specs.Route.{IsLegalFrom, IsLegalRoute}
 use Rattle.tail_book.specs.Plan.{times_flown, route_of, IsLegalPlan}
-use Rattle.tail_book.specs.inside.Tests.{is_allowed, is_allowed_at, is_link, within_limits, is_legal_from, is_legal_route, are_legal_below, are_flown_once_below, is_legal_plan}
+use Rattle.tail_book.specs.LegalTests.{is_allowed, is_allowed_at, is_link, within_limits, is_legal_from, is_legal_route, are_legal_below, are_flown_once_below, is_legal_plan}
 
 pub always : Decides true ⊤
 always = ((λ h. tt), (λ h. refl))

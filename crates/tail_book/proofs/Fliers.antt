@@ -20,12 +20,12 @@ use Rattle.tail_book.specs.Numbers.{contains}
 use Rattle.tail_book.specs.Lookup.{activities, aircraft, carry_of}
 use Rattle.tail_book.specs.Route.{IsLegalRoute}
 use Rattle.tail_book.specs.Plan.{times_flown, route_of, IsLegalPlan}
-use Rattle.tail_book.specs.inside.Place.{IsBefore}
+use Rattle.tail_book.specs.Place.{IsBefore}
 use Rattle.tail_book.specs.inside.Rising.{IsRisingFrom}
 use Rattle.tail_book.specs.inside.Sound.{IsBook}
 use Rattle.tail_book.specs.inside.Sums.{IsPartition}
 use Rattle.tail_book.specs.inside.Partition.{all_flown}
-use Rattle.tail_book.specs.inside.Fliers.{flier, fliers_of, route_by, plan_by}
+use Rattle.tail_book.specs.Fliers.{flier, fliers_of, route_by, plan_by}
 use Rattle.tail_book.proofs.Sums.{count_here, count_other}
 use Rattle.tail_book.proofs.Timed.{timed_of}
 use Rattle.tail_book.proofs.Rise.{rises_from}

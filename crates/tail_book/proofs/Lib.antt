@@ -17,6 +17,7 @@ pub mod RouteBounds
 pub mod RisingLists
 pub mod FlownTimes
 pub mod Fliers
+pub mod InTurn
 pub mod Renumbered
 pub mod Worked
 pub mod WorkedRoutes

@@ -5,7 +5,7 @@
 use Rattle.std.proofs.Common.{◌≡◌, ℕ, ℤ, ◌+◌, ◌<◌, arith, List, [], ◌∷◌, ◌++◌, refl}
 use Rattle.std.specs.Prelude.{◌↔◌}
 use Rattle.tail_book.specs.Seen.{BookSeen}
-use Rattle.tail_book.specs.inside.Seen.{CostTableSeen}
+use Rattle.tail_book.specs.TableSeen.{CostTableSeen}
 use Rattle.tail_book.specs.declared.place.Place.{Place}
 use Rattle.tail_book.specs.declared.place.Place.TheVariants.{Carry, After}
 use Rattle.tail_book.specs.Lookup.{activities, carry_of}
@@ -14,8 +14,8 @@ use Rattle.tail_book.specs.Counters.{step, WithinLimits}
 use Rattle.tail_book.specs.Route.{IsLegalFrom, IsLegalRoute}
 use Rattle.tail_book.specs.inside.Route.{counters_from, place_after}
 use Rattle.tail_book.specs.Cost.{activity_cost, connection_cost, cost_from}
-use Rattle.tail_book.specs.inside.CostTable.{activity_cost_in, connection_cost_in, cost_from_in}
-use Rattle.tail_book.specs.inside.Place.{IsBefore}
+use Rattle.tail_book.specs.CostTable.{activity_cost_in, connection_cost_in, cost_from_in}
+use Rattle.tail_book.specs.Place.{IsBefore}
 use Rattle.tail_book.specs.inside.Rising.{IsRisingFrom}
 use Rattle.tail_book.specs.inside.OneMore.{GoesOnWith}
 

@@ -14,7 +14,7 @@ use Rattle.tail_book.specs.Lookup.{resets_of}
 use Rattle.tail_book.specs.Counters.{step, step_from, is_cleared, amount, WithinLimits}
 use Rattle.tail_book.specs.Route.{IsLegalFrom}
 use Rattle.tail_book.specs.inside.Route.{counters_from}
-use Rattle.tail_book.specs.inside.Order.{EachAtMost, each_at_most}
+use Rattle.tail_book.specs.CounterOrder.{EachAtMost, each_at_most}
 use Rattle.tail_book.proofs.Deciding.{int_le_tested, always, never}
 
 pub each_at_most_tested : (values others : List ℤ) → Decides (each_at_most values others) (EachAtMost values others)

@@ -13,7 +13,8 @@ use Rattle.tail_book.specs.Lookup.{activities, carry_of}
 use Rattle.tail_book.specs.Counters.{step}
 use Rattle.tail_book.specs.Route.{IsLegalFrom}
 use Rattle.tail_book.specs.Plan.{IsLegalPlan, route_of}
-use Rattle.tail_book.specs.inside.Sums.{total, sum_below, IsPartition}
+use Rattle.tail_book.specs.Sums.{total, sum_below}
+use Rattle.tail_book.specs.inside.Sums.{IsPartition}
 use Rattle.tail_book.specs.inside.Partition.{all_flown}
 use Rattle.tail_book.proofs.Sums.{total_of_two, total_of_partition, length_of_partition}
 

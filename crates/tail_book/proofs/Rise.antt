@@ -12,7 +12,7 @@ use Rattle.tail_book.specs.declared.place.Place.TheVariants.{Carry, After}
 use Rattle.tail_book.specs.Lookup.{activities}
 use Rattle.tail_book.specs.Link.{IsLink, turn_time}
 use Rattle.tail_book.specs.Route.{IsLegalFrom}
-use Rattle.tail_book.specs.inside.Place.{IsPlaceOf, IsBefore}
+use Rattle.tail_book.specs.Place.{IsPlaceOf, IsBefore}
 use Rattle.tail_book.specs.inside.Rising.{IsRisingFrom}
 use Rattle.tail_book.proofs.Timed.{IsTimed}
 

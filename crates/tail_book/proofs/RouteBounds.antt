@@ -9,16 +9,17 @@ use Rattle.std.proofs.lemmas.List.Elements.{All-head, All-tail, All-cons}
 use Rattle.std.proofs.Math.Nat.{mul-le-mul}
 use Rattle.std.specs.Prelude.{All}
 use Rattle.tail_book.specs.Seen.{BookSeen}
-use Rattle.tail_book.specs.inside.Seen.{CostTableSeen}
+use Rattle.tail_book.specs.TableSeen.{CostTableSeen}
 use Rattle.tail_book.specs.declared.place.Place.{Place}
 use Rattle.tail_book.specs.declared.place.Place.TheVariants.{After}
 use Rattle.tail_book.specs.Lookup.{activities}
 use Rattle.tail_book.specs.Cost.{cost_from}
-use Rattle.tail_book.specs.inside.CostTable.{IsCostTable, IsTableFor, IsInBox, box_end, cost_unit, cost_from_in, greatest_cost_in}
+use Rattle.tail_book.specs.CostTable.{IsCostTable, IsTableFor, IsInBox, box_end, cost_unit, cost_from_in, greatest_cost_in}
 use Rattle.tail_book.specs.inside.Bounds.{greatest_cost}
 use Rattle.tail_book.specs.inside.Rising.{IsRisingFrom}
-use Rattle.tail_book.specs.inside.Sound.{IsBook, IsWithin}
-use Rattle.tail_book.specs.inside.Sums.{total}
+use Rattle.tail_book.specs.Ranges.{IsWithin}
+use Rattle.tail_book.specs.inside.Sound.{IsBook}
+use Rattle.tail_book.specs.Sums.{total}
 use Rattle.tail_book.proofs.Costs.{route_most}
 use Rattle.tail_book.proofs.TableBounds.{route_most_in}
 

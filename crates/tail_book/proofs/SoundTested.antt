@@ -13,16 +13,18 @@ use Rattle.std.specs.Prelude.{All, AllPairs, nat_lt, nat_le, not, bytes_eq, unsi
 use Rattle.std.specs.List.{list_all}
 use Rattle.std.specs.Bool.{Decides}
 use Rattle.tail_book.specs.Seen.{ActivitySeen, TailSeen, CurfewSeen, CounterSeen, AirportSeen, RulesSeen, BookSeen}
-use Rattle.tail_book.specs.inside.Seen.{CostTableSeen}
+use Rattle.tail_book.specs.TableSeen.{CostTableSeen}
 use Rattle.tail_book.specs.declared.rules.AircraftType.{AircraftType}
 use Rattle.tail_book.specs.declared.rules.Band.{Band}
 use Rattle.tail_book.specs.declared.rules.CounterKind.{CounterKind}
 use Rattle.tail_book.specs.declared.rules.CounterKind.TheVariants.{Minutes, Landings, Days}
 use Rattle.tail_book.specs.Name.{is_name}
-use Rattle.tail_book.specs.inside.Sound.{IsWithin, IsLimit, IsActivity, IsTail, IsKind, IsAirport, IsCurfew, IsCounter, IsBand, IsRules, IsBook, is_none_or_below}
+use Rattle.tail_book.specs.Ranges.{IsWithin}
+use Rattle.tail_book.specs.inside.Sound.{IsLimit, IsActivity, IsTail, IsKind, IsAirport, IsCurfew, IsCounter, IsBand, IsRules, IsBook, is_none_or_below}
 use Rattle.tail_book.specs.ActivityOrder.{comes_before}
-use Rattle.tail_book.specs.inside.CostTable.{box_end, cost_unit, greatest_cost_in, IsCostTable}
-use Rattle.tail_book.specs.inside.SoundTests.{is_within, are_below, each_pair, is_activity, is_tail, is_kind, is_airport, is_curfew, is_limit, is_counter, is_band, are_rules, is_book, is_cost_table}
+use Rattle.tail_book.specs.CostTable.{box_end, cost_unit, greatest_cost_in, IsCostTable}
+use Rattle.tail_book.specs.Pairs.{each_pair}
+use Rattle.tail_book.specs.inside.SoundTests.{is_within, are_below, is_activity, is_tail, is_kind, is_airport, is_curfew, is_limit, is_counter, is_band, are_rules, is_book, is_cost_table}
 use Rattle.tail_book.proofs.Deciding.{int_le_tested, same_test}
 
 at_most_tested : (a b : ℕ) → Decides (nat_le a b) (a ≤ b)

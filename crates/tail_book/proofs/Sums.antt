@@ -10,7 +10,8 @@ use Rattle.std.proofs.lemmas.Bool.{eq-eqb, ne_eqb, both_ways}
 use Rattle.std.proofs.lemmas.List.Elements.{All-head, All-tail}
 use Rattle.std.proofs.lemmas.List.Sums.{sum_by-cons}
 use Rattle.std.specs.Prelude.{All, count_by, nat_eq}
-use Rattle.tail_book.specs.inside.Sums.{total, sum_below, IsPartition}
+use Rattle.tail_book.specs.Sums.{total, sum_below}
+use Rattle.tail_book.specs.inside.Sums.{IsPartition}
 
 pub total_of_two : (xs ys : List ℤ) → total (xs ++ ys) ≡ total xs +ℤ total ys
 total_of_two [] ys = omega (arith, ints)

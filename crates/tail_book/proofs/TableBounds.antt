@@ -7,7 +7,7 @@ use Rattle.std.proofs.lemmas.List.{length-append}
 use Rattle.std.specs.Prelude.{All}
 use Rattle.std.specs.List.{flat_map}
 use Rattle.tail_book.specs.Seen.{BookSeen}
-use Rattle.tail_book.specs.inside.Seen.{CostTableSeen}
+use Rattle.tail_book.specs.TableSeen.{CostTableSeen}
 use Rattle.tail_book.specs.Numbers.{int_le}
 use Rattle.tail_book.specs.declared.rules.Band.{Band}
 use Rattle.tail_book.specs.declared.place.Place.{Place}
@@ -15,7 +15,7 @@ use Rattle.tail_book.specs.declared.place.Place.TheVariants.{Carry, After}
 use Rattle.tail_book.specs.Link.{gap}
 use Rattle.tail_book.specs.Cost.{band_cost}
 use Rattle.tail_book.specs.Plan.{IsLegalPlan}
-use Rattle.tail_book.specs.inside.CostTable.{IsCostTable, IsTableFor, activity_cost_in, connection_cost_in, cost_from_in, cost_of_routes_in, plan_cost_in, greatest_cost_in}
+use Rattle.tail_book.specs.CostTable.{IsCostTable, IsTableFor, activity_cost_in, connection_cost_in, cost_from_in, cost_of_routes_in, plan_cost_in, greatest_cost_in}
 use Rattle.tail_book.specs.inside.Partition.{all_flown}
 use Rattle.tail_book.specs.inside.Sound.{IsBook}
 use Rattle.tail_book.proofs.Timed.{everywhere}

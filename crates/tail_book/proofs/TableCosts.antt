@@ -15,7 +15,7 @@ use Rattle.tail_book.specs.declared.place.Place.{Place}
 use Rattle.tail_book.specs.declared.place.Place.TheVariants.{Carry, After}
 use Rattle.tail_book.specs.Lookup.{activities, aircraft}
 use Rattle.tail_book.specs.Cost.{activity_cost, connection_cost, cost_from, cost_of_routes, plan_cost}
-use Rattle.tail_book.specs.inside.CostTable.{IsCostTable, IsTableFor, activity_cost_in, connection_cost_in, cost_from_in, cost_of_routes_in, plan_cost_in, activity_costs, costs_of}
+use Rattle.tail_book.specs.CostTable.{IsCostTable, IsTableFor, activity_cost_in, connection_cost_in, cost_from_in, cost_of_routes_in, plan_cost_in, activity_costs, costs_of}
 use Rattle.tail_book.specs.Plan.{IsLegalPlan}
 use Rattle.tail_book.specs.inside.Sound.{IsBook}
 use Rattle.tail_book.proofs.Costs.{activity_cost_most}

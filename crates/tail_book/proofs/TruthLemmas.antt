@@ -7,9 +7,8 @@ use Rattle.std.proofs.Common.{◌≡◌, ℕ, ◌≤◌, List, None, Some, ◌�
 use Rattle.tail_book.specs.Seen.{BookSeen}
 use Rattle.tail_book.specs.Plan.{IsLegalPlan}
 use Rattle.tail_book.specs.Cost.{plan_cost}
-use Rattle.tail_book.specs.inside.CostTable.{costs_of, plan_cost_in}
-use Rattle.tail_book.specs.Truth.{Costs, CostsAtLeastBy, IsPlanBy, SomePlanCostsBy, IsTrueClaimBy, HasItsPlanBy, IsTrueOutcomeBy, claim_of, IsTrueOutcome}
-use Rattle.tail_book.specs.inside.Truth.{IsTrueClaim, IsTrueClaimIn, IsTrueOutcomeIn}
+use Rattle.tail_book.specs.CostTable.{costs_of, plan_cost_in}
+use Rattle.tail_book.specs.Truth.{Costs, CostsAtLeastBy, IsPlanBy, SomePlanCostsBy, IsTrueClaimBy, HasItsPlanBy, IsTrueOutcomeBy, claim_of, IsTrueOutcome, IsTrueClaim, IsTrueClaimIn, IsTrueOutcomeIn}
 use Rattle.tail_book.specs.declared.claim.Claim.{Claim}
 use Rattle.tail_book.specs.declared.claim.Claim.TheVariants.{Optimal, Infeasible, Limit}
 use Rattle.tail_book.specs.declared.outcome.Outcome.{Outcome}

@@ -13,11 +13,11 @@ use Rattle.tail_book.specs.declared.rules.CounterKind.TheVariants.{Minutes, Land
 use Rattle.tail_book.specs.inside.Along.{counters_along}
 use Rattle.tail_book.specs.Counters.{step}
 use Rattle.tail_book.specs.Cost.{plan_cost}
-use Rattle.tail_book.specs.inside.CostTable.{activity_cost_in, box_end, costs_of, plan_cost_in}
+use Rattle.tail_book.specs.CostTable.{activity_cost_in, box_end, costs_of, plan_cost_in}
 use Rattle.tail_book.specs.Curfew.{is_curfewed}
 use Rattle.tail_book.specs.Link.{gap, is_connected}
 use Rattle.tail_book.specs.inside.Route.{counters_after}
-use Rattle.tail_book.specs.inside.Tests.{is_allowed, is_legal_plan, is_legal_route, is_link}
+use Rattle.tail_book.specs.LegalTests.{is_allowed, is_legal_plan, is_legal_route, is_link}
 use Rattle.tail_book.specs.Allowed.{is_permitted}
 
 -- a minute of 2025-03-03 UTC

@@ -4,11 +4,11 @@
 -- flown twice and one that nobody flies, and a plan with its fliers, each from the other.
 use Rattle.std.proofs.Common.{◌≡◌, ℕ, pos, negsuc, ◌*◌, true, false, List, [], ◌∷◌, Some, None, refl}
 use Rattle.tail_book.specs.declared.flown.Flown.TheVariants.{Never, Once, More}
-use Rattle.tail_book.specs.inside.Order.{each_at_most}
-use Rattle.tail_book.specs.inside.Sums.{total, sum_below}
+use Rattle.tail_book.specs.CounterOrder.{each_at_most}
+use Rattle.tail_book.specs.Sums.{total, sum_below}
 use Rattle.tail_book.specs.inside.Partition.{all_flown}
 use Rattle.tail_book.specs.inside.Flown.{flown_by, least_not_once}
-use Rattle.tail_book.specs.inside.Fliers.{flier, fliers_of, route_by, plan_by}
+use Rattle.tail_book.specs.Fliers.{flier, fliers_of, route_by, plan_by}
 
 -- equal values are at most one another, one that is higher is not, and as many are asked for
 equal_and_lower : each_at_most (pos 2 ∷ pos 3 ∷ []) (pos 2 ∷ pos 4 ∷ []) ≡ true

@@ -11,4 +11,14 @@ pub mod Route
 pub mod Cost
 pub mod Plan
 pub mod Truth
+pub mod TableSeen
+pub mod Place
+pub mod CostTable
+pub mod Fliers
+pub mod CounterOrder
+pub mod LegalTests
+pub mod Sums
+pub mod Ranges
+pub mod Pairs
+pub mod Faults
 pub mod inside

@@ -7,6 +7,8 @@ use Rattle.tail_book.specs.declared.claim.Claim.{Claim}
 use Rattle.tail_book.specs.declared.claim.Claim.TheVariants.{Optimal, Infeasible, Limit}
 use Rattle.tail_book.specs.declared.outcome.Outcome.{Outcome}
 use Rattle.tail_book.specs.declared.outcome.Outcome.TheVariants as outcome
+use Rattle.tail_book.specs.TableSeen.{CostTableSeen}
+use Rattle.tail_book.specs.CostTable.{plan_cost_in}
 
 -- what each plan costs, in cost units
 abbrev pub Costs : Type 0
@@ -61,3 +63,23 @@ IsPlanOf book = IsPlanBy (plan_cost book) book
 
 abbrev pub IsTrueOutcome : BookSeen → Outcome → Type 0
 IsTrueOutcome book = IsTrueOutcomeBy (plan_cost book) book
+
+-- the same by what the book itself says that plans cost
+abbrev pub CostsAtLeast : BookSeen → ℕ → Type 0
+CostsAtLeast book = CostsAtLeastBy (plan_cost book) book
+
+abbrev pub IsTrueClaim : BookSeen → Claim → Type 0
+IsTrueClaim book = IsTrueClaimBy (plan_cost book) book
+
+-- and by what a table for the book says
+abbrev pub CostsAtLeastIn : CostTableSeen → BookSeen → ℕ → Type 0
+CostsAtLeastIn table book = CostsAtLeastBy (plan_cost_in table book) book
+
+abbrev pub IsPlanIn : CostTableSeen → BookSeen → ℕ → List (List ℕ) → Type 0
+IsPlanIn table book = IsPlanBy (plan_cost_in table book) book
+
+abbrev pub IsTrueClaimIn : CostTableSeen → BookSeen → Claim → Type 0
+IsTrueClaimIn table book = IsTrueClaimBy (plan_cost_in table book) book
+
+abbrev pub IsTrueOutcomeIn : CostTableSeen → BookSeen → Outcome → Type 0
+IsTrueOutcomeIn table book = IsTrueOutcomeBy (plan_cost_in table book) book

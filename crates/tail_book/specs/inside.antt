@@ -1,11 +1,7 @@
 -- What only proofs, and calls further in, cite.
 pub mod NameParts
-pub mod Seen
 pub mod Sound
-pub mod Place
 pub mod Route
-pub mod CostTable
-pub mod Truth
 pub mod Rising
 pub mod Bounds
 pub mod Tests
@@ -18,5 +14,6 @@ pub mod Sums
 pub mod Partition
 pub mod Flown
 pub mod Fliers
+pub mod FlownInTurn
 pub mod Renumbered
 pub mod RouteBounds

@@ -10,7 +10,7 @@ ghost use Rattle.std.specs.List.{list_all};
 ghost use Rattle.tail_book.specs.Lookup.{activities, aircraft};
 ghost use Rattle.tail_book.specs.Cost.{activity_cost, band_cost};
 ghost use Rattle.tail_book.specs.Counters.{flown};
-ghost use Rattle.tail_book.specs.inside.CostTable.{activity_cost_in, activity_costs, box_end, costs_of, greatest_cost_in, IsCostTable};
+ghost use Rattle.tail_book.specs.CostTable.{activity_cost_in, activity_costs, box_end, costs_of, greatest_cost_in, IsCostTable};
 ghost use Rattle.tail_book.specs.inside.SoundTests.{keeps_maxima, sums_fit};
 
 use crate::limits::{BAND_COST_LIMIT, ENTRY_LIMIT};
@@ -34,8 +34,8 @@ pub struct CostTable {
 }
 
 impl Model for CostTable {
-    ghost use Rattle.tail_book.specs.inside.Seen.{CostTableSeen};
-    ghost use Rattle.tail_book.specs.inside.CostTable.{IsCostTable};
+    ghost use Rattle.tail_book.specs.TableSeen.{CostTableSeen};
+    ghost use Rattle.tail_book.specs.CostTable.{IsCostTable};
 
     ghost Value = { CostTableSeen };
 

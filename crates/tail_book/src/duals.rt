@@ -13,7 +13,7 @@ pub struct Duals {
 }
 
 impl Model for Duals {
-    ghost use Rattle.tail_book.specs.inside.Seen.{DualsSeen};
+    ghost use Rattle.tail_book.specs.TableSeen.{DualsSeen};
 
     ghost Value = { DualsSeen };
 

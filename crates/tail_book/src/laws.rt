@@ -5,7 +5,7 @@
 
 ghost use Rattle.tail_book.specs.inside.Rising.{LinksRise, LegalRoutesRise, EachIsFlownOnce};
 ghost use Rattle.tail_book.specs.inside.Bounds.{ActivitiesCostAtMost, ConnectionsCostAtMost, LegalPlansCostAtMost};
-ghost use Rattle.tail_book.specs.inside.CostTable.{IsCostTable};
+ghost use Rattle.tail_book.specs.CostTable.{IsCostTable};
 ghost use Rattle.tail_book.specs.inside.Sound.{IsBook};
 ghost use Rattle.tail_book.specs.inside.TableLaws.{OwnCostsAreForBook, OwnCostsOfActivities, OwnCostsOfConnections, OwnCostsOfRoutes, OwnCostsOfPlans, OwnCostsOfLegalPlans, OwnCostsKeepClaims, OwnCostsKeepOutcomes, LegalPlansCostAtMostIn};
 ghost use Rattle.tail_book.specs.inside.SoundTests.{BookDecides, CostTableDecides};
@@ -29,7 +29,7 @@ pub use bounds::{
 };
 pub use fliers::{
     fliers_fly, fliers_of_their_plan, plans_by_fliers_are_legal, plans_by_fliers_partition,
-    plans_of_their_fliers, routes_by_fliers_rise,
+    plans_of_their_fliers, routes_are_flown_in_turn, routes_by_fliers_rise,
 };
 pub use flown::{
     flown_is_count, flown_once_decides, flown_once_is_in_one_route, flown_with_one_more,

@@ -8,7 +8,8 @@ ghost use Rattle.std.specs.List.{list_all};
 ghost use Rattle.tail_book.specs.declared.limits.TheConstants.{VALUE_LIMIT};
 ghost use Rattle.tail_book.specs.inside.Sound.{is_none_or_below};
 ghost use Rattle.tail_book.specs.ActivityOrder.{comes_before};
-ghost use Rattle.tail_book.specs.inside.SoundTests.{is_within, is_moment, are_below, each_pair, lasts, is_timed, names_of_book, has_short_lists, is_activity, comes_in, has_short_marks, carries_each, is_tail, is_kind, is_airport, is_curfew, is_limit, is_counter, is_band, are_kinds, are_airports, are_counters, are_curfews, are_bands, are_rules, are_activities, are_tails, is_book};
+ghost use Rattle.tail_book.specs.Pairs.{each_pair};
+ghost use Rattle.tail_book.specs.inside.SoundTests.{is_within, is_moment, are_below, lasts, is_timed, names_of_book, has_short_lists, is_activity, comes_in, has_short_marks, carries_each, is_tail, is_kind, is_airport, is_curfew, is_limit, is_counter, is_band, are_kinds, are_airports, are_counters, are_curfews, are_bands, are_rules, are_activities, are_tails, is_book};
 
 use crate::limits::{
     ACTIVITY_LIMIT, AIRPORT_LIMIT, BAND_COST_LIMIT, BAND_LIMIT, BASE_LIMIT, COUNT_LIMIT,

@@ -5,7 +5,8 @@
 -- none.
 use Rattle.std.proofs.Common.{◌++◌, ◌≤◌, [], sym, List, ℕ, Option, Some, None, append_assoc, arith, inl, inr}
 use Rattle.std.proofs.lemmas.List.{append-nil}
-use Rattle.tail_outside.specs.Outside.{Adds, AddsFront, HasRisen, Takes, TakesFront}
+use Rattle.tail_book.specs.Faults.{HasRisen}
+use Rattle.tail_outside.specs.Outside.{Adds, AddsFront, Takes, TakesFront}
 use Rattle.tail_outside.specs.Shown.{SinkShown}
 
 -- a front of x is a front of x and y

@@ -1,10 +1,7 @@
 -- What the calls of files and sinks say of bytes and of faults.
-use Rattle.std.specs.Prelude.{ℕ, Bool, false, ◌≡◌, ◌⊎◌, ◌^◌, ◌-◌, ◌<◌, ◌≤◌, ⊤, List, ◌++◌, Option, Some, None}
+use Rattle.std.specs.Prelude.{ℕ, Bool, false, ◌≡◌, ◌≤◌, ⊤, List, ◌++◌, Option, Some, None}
 use Rattle.tail_outside.specs.Shown.{FilesShown, SinkShown}
-
--- a count rose in the call; one that stands at the end of its type counts as risen
-abbrev pub HasRisen : ℕ → ℕ → Type 0
-HasRisen old new = (old < new) ⊎ (new ≡ 2 ^ 64 - 1)
+use Rattle.tail_book.specs.Faults.{HasRisen}
 
 -- where the bytes were told, the piece was added
 abbrev pub Adds : Option (List ℕ) → Option (List ℕ) → List ℕ → Type 0

@@ -3,7 +3,7 @@
 ghost use Rattle.std.specs.Prelude.{◌≡◌, ◌≤◌, ◌^◌, ◌↔◌, ◌⊎◌, ◌++◌, [], ◌∷◌, length, option_map, position, IsTrue, IsOk, IfOk, IfSome, IsErr, OnOk, OnErr, IsErrOf};
 ghost use Rattle.std.specs.Str.{bytes_eq};
 ghost use Rattle.tail_outside.specs.inside.Held.{bytes_under, fails_next, one_more, files_at_first};
-ghost use Rattle.tail_outside.specs.Outside.{HasRisen};
+ghost use Rattle.tail_book.specs.Faults.{HasRisen};
 ghost use Rattle.tail_outside.specs.inside.Outside.{IsRead, SameOthers, with_piece};
 
 use crate::calls::Calls;

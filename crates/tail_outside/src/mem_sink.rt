@@ -2,7 +2,7 @@
 
 ghost use Rattle.std.specs.Prelude.{◌≡◌, ◌≤◌, ◌↔◌, ◌++◌, IsTrue, IsOk, IfOk, OnOk, OnErr, IsErrOf};
 ghost use Rattle.tail_outside.specs.inside.Held.{fails_next, one_more, sink_at_first};
-ghost use Rattle.tail_outside.specs.Outside.{HasRisen};
+ghost use Rattle.tail_book.specs.Faults.{HasRisen};
 
 use crate::calls::Calls;
 use crate::{Fault, Sink};

@@ -3,7 +3,7 @@
 //! The file that was read last stays open, so that a pipe can be read to its end without going back.
 
 ghost use Rattle.std.specs.Prelude.{◌≡◌, ◌≤◌, length, IfOk, IfErr, IsErr, OnOk};
-ghost use Rattle.tail_outside.specs.Outside.{HasRisen};
+ghost use Rattle.tail_book.specs.Faults.{HasRisen};
 
 use crate::{Failed, Fault, Files, Sink};
 use std::alloc::Global;

@@ -1,7 +1,7 @@
 -- When an answer is true, and what is printed for it.
 use Rattle.std.specs.Prelude.{ℕ, ◌≡◌, ◌<◌, ◌≤◌, ⊤, List, [], ◌∷◌, length, Option, Ok, Err, IfSome}
 use Rattle.tail_book.specs.Seen.{BookSeen, RawPlanSeen}
-use Rattle.tail_book.specs.inside.Truth.{IsTrueClaim}
+use Rattle.tail_book.specs.Truth.{IsTrueClaim}
 use Rattle.tail_outside.specs.Shown.{FilesShown}
 use Rattle.tail_text.specs.declared.refusal.Refusal.{Refusal}
 use Rattle.cert_checker.specs.Verdict.{verdict}

@@ -1,9 +1,8 @@
 -- What a run promises by its status, and when each status comes.
 use Rattle.std.specs.Prelude.{ℕ, ◌≡◌, ◌≢◌, ◌==◌, ◌≤◌, ◌⊎◌, List, [], length, Option, IfSome, Ok, cond}
 use Rattle.tail_book.specs.Seen.{BookSeen, RawPlanSeen}
-use Rattle.tail_book.specs.Truth.{IsPlanOf}
+use Rattle.tail_book.specs.Truth.{IsPlanOf, IsTrueClaim}
 use Rattle.tail_book.specs.declared.claim.Claim.{Claim}
-use Rattle.tail_book.specs.inside.Truth.{IsTrueClaim}
 use Rattle.tail_outside.specs.Outside.{Takes}
 use Rattle.tail_outside.specs.Shown.{FilesShown, SinkShown}
 use Rattle.cert_checker.specs.Certificate.{Accepts}

@@ -71,9 +71,9 @@ pub fn check_of<'a>(alloc: Global, words: &'a [String]) -> Result<Option<CheckNa
 #[cfg(test)]
 mod tests {
     use super::*;
+    use small_texts::words_of;
     use std::process::Abort;
     use std::test::Fail;
-    use trial_texts::words_of;
 
     fn named<'a>(
         timetable: &'a str,

@@ -5,7 +5,8 @@ use Rattle.std.proofs.Common.{◌≡◌, ◌≤◌, inl, inr, ℕ, List, [], Opt
 use Rattle.std.proofs.lemmas.List.{append-nil}
 use Rattle.std.specs.Prelude.{IfOk, IsErr}
 use Rattle.tail_outside.proofs.OutsideLemmas.{TakesFront-whole}
-use Rattle.tail_outside.specs.Outside.{Adds, HasRisen, OnlyRead, Takes, TakesFront}
+use Rattle.tail_book.specs.Faults.{HasRisen}
+use Rattle.tail_outside.specs.Outside.{Adds, OnlyRead, Takes, TakesFront}
 use Rattle.tail_outside.specs.Shown.{FilesShown, SinkShown}
 use Rattle.plan_report.specs.inside.Report.{HasPlanFor}
 use Rattle.run_frame.specs.Answer.{IsUnlessStopped}

@@ -20,8 +20,8 @@ use Rattle.plan_report.specs.Lines.{text_of}
 use Rattle.run_frame.specs.inside.Answer.{IsPrinted, status_of}
 use Rattle.run_frame.specs.declared.answer.Answer.{Answer}
 use Rattle.run_frame.specs.declared.answer.Answer.TheVariants.{Usage, Refused, Found, ReadFailed, Memory}
-use Rattle.trial_tables.specs.Making.{IsBookOfTrial, making_cost, making_plan}
-use Rattle.trial_tables.specs.Trial.{trial_of}
+use Rattle.seed_tables.specs.Making.{IsBookOfTrial, making_cost, making_plan}
+use Rattle.seed_tables.specs.Trial.{trial_of}
 use Rattle.tailplan.specs.Answers.{HasTree}
 use Rattle.tailplan.specs.Trials.{AgreesWith, IsTrial, IsTrialAnswer, IsTriedOf, TrialPromise, tried_lines, trial_text}
 use Rattle.tailplan.specs.declared.trial.TheConstants.{TRIAL_NODES}

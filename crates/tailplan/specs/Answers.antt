@@ -3,7 +3,7 @@ use Rattle.std.specs.Prelude.{ℕ, ◌≡◌, false, List, Option, Some, Ok, Err
 use Rattle.tail_book.specs.Seen.{BookSeen}
 use Rattle.tail_book.specs.Truth.{IsTrueOutcome}
 use Rattle.tail_book.specs.declared.outcome.Outcome.{Outcome}
-use Rattle.tail_book.specs.inside.CostTable.{costs_of}
+use Rattle.tail_book.specs.CostTable.{costs_of}
 use Rattle.tail_outside.specs.Shown.{FilesShown}
 use Rattle.tail_text.specs.declared.refusal.Refusal.{Refusal}
 use Rattle.book_maker.specs.Made.{book_of}

@@ -1,6 +1,7 @@
 -- What becomes of the files of a run: only the certificate's is written, and what it may then hold.
 use Rattle.std.specs.Prelude.{ℕ, ◌≡◌, ◌≢◌, ◌⊎◌, ◌≤◌, false, List, [], Option, None, Some, String, unwrap_or}
-use Rattle.tail_outside.specs.Outside.{HasRisen, OnlyRead, PieceHasFailed, SameNames}
+use Rattle.tail_book.specs.Faults.{HasRisen}
+use Rattle.tail_outside.specs.Outside.{OnlyRead, PieceHasFailed, SameNames}
 use Rattle.tail_outside.specs.Shown.{FilesShown, SinkShown}
 use Rattle.run_frame.specs.Spelled.{spelled}
 use Rattle.run_frame.specs.TableFiles.{AreGiven}

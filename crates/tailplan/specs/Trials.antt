@@ -15,8 +15,8 @@ use Rattle.run_frame.specs.Promise.{PrintsFront}
 use Rattle.run_frame.specs.Spelled.{spelled}
 use Rattle.run_frame.specs.declared.answer.Answer.{Answer}
 use Rattle.run_frame.specs.declared.answer.Answer.TheVariants.{Usage, Refused, Found, ReadFailed, Memory}
-use Rattle.trial_tables.specs.Making.{IsBookOfTrial, making_cost}
-use Rattle.trial_tables.specs.Trial.{trial_of}
+use Rattle.seed_tables.specs.Making.{IsBookOfTrial, making_cost}
+use Rattle.seed_tables.specs.Trial.{trial_of}
 use Rattle.tailplan.specs.Answers.{HasTree}
 use Rattle.tailplan.specs.Promises.{IsBound, Promise}
 use Rattle.tailplan.specs.Usage.{usage_line}

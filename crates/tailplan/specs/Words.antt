@@ -7,7 +7,7 @@ use Rattle.tail_text.specs.declared.bad.Bad.{Bad}
 use Rattle.branch_tree.specs.declared.limit.Limit.{Limit}
 use Rattle.branch_tree.specs.declared.limit.Limit.TheVariants.{Free, Nodes}
 use Rattle.run_frame.specs.Words.{matched, tables_command, tables_in}
-use Rattle.trial_tables.specs.declared.trial.TheConstants.{SEED_LIMIT}
+use Rattle.seed_tables.specs.declared.trial.TheConstants.{SEED_LIMIT}
 use Rattle.tailplan.specs.Tasks.{TaskNamesSeen}
 use Rattle.tailplan.specs.declared.words.TheConstants.{NODE_LIMIT}
 

@@ -2,8 +2,9 @@
 //! be told.
 
 ghost use Rattle.std.specs.Prelude.{◌≡◌, IfOk, IfSome, IsErr, IsTrue, None, Some, option_map};
-ghost use Rattle.tail_book.specs.inside.CostTable.{costs_of};
-ghost use Rattle.tail_outside.specs.Outside.{OnlyRead, HasRisen};
+ghost use Rattle.tail_book.specs.CostTable.{costs_of};
+ghost use Rattle.tail_book.specs.Faults.{HasRisen};
+ghost use Rattle.tail_outside.specs.Outside.{OnlyRead};
 ghost use Rattle.tail_outside.specs.Shown.{FilesShown};
 ghost use Rattle.plan_report.specs.inside.Report.{HasPlanFor};
 ghost use Rattle.run_frame.specs.inside.Answer.{IsAnswerTo, IsPrintable as IsPrintableBy};

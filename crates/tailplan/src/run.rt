@@ -1,7 +1,8 @@
 //! A whole run: the words, the three tables, the search for a least plan with its certificate, and what is printed; or a trial.
 
 ghost use Rattle.std.specs.Prelude.{◌≡◌, ◌≤◌, IfOk, IfSome, IsErr, IsSome, IsTrue, None, Ok, false, option_map};
-ghost use Rattle.tail_outside.specs.Outside.{HasRisen, OnlyRead, ReadHasFailed};
+ghost use Rattle.tail_book.specs.Faults.{HasRisen};
+ghost use Rattle.tail_outside.specs.Outside.{OnlyRead, ReadHasFailed};
 ghost use Rattle.plan_report.specs.inside.Report.{HasPlanFor};
 ghost use Rattle.run_frame.specs.inside.Answer.{IsAnswerTo, IsPrintable as IsPrintableBy};
 ghost use Rattle.run_frame.specs.Answer.{IsUnlessStopped};

@@ -19,15 +19,15 @@ mod words;
 
 use crate::run::solve_run;
 use book_maker::read_book;
+use small_texts::{
+    FLEET, ONE_AT_ARLANDA, RULES, Seen, THERE_AND_BACK, TIMETABLE, file_of, table_files, text_of,
+    words_of,
+};
 use std::alloc::Global;
 use std::process::Abort;
 use std::test::Fail;
 use tail_book::{Book, Memory};
 use tail_outside::{MemFile, MemFiles, MemSink};
-use trial_texts::{
-    FLEET, ONE_AT_ARLANDA, RULES, Seen, THERE_AND_BACK, TIMETABLE, file_of, table_files, text_of,
-    words_of,
-};
 
 const WORDS: [&str; 4] = ["tailplan", "t", "f", "r"];
 

@@ -7,8 +7,8 @@ ghost use Rattle.plan_report.specs.Report.{first_line};
 ghost use Rattle.tailplan.specs.Trials.{IsTrialAnswer, IsTriedOf, TrialPromise, check_line, lines_of_tried, size_line};
 ghost use Rattle.tailplan.specs.inside.Outcomes.{outcome_status};
 ghost use Rattle.tailplan.specs.inside.Trials.{IsYes};
-ghost use Rattle.trial_tables.specs.Making.{IsBookOfTrial};
-ghost use Rattle.trial_tables.specs.Trial.{trial_of};
+ghost use Rattle.seed_tables.specs.Making.{IsBookOfTrial};
+ghost use Rattle.seed_tables.specs.Trial.{trial_of};
 
 use crate::usage::usage_line;
 use book_maker::read_book;
@@ -18,11 +18,11 @@ use cert_checker::{Verdict, judge};
 use certified_search::{Certified, certified_search};
 use plan_report::{ReportFail, first_line, write_lines};
 use run_frame::{Answer, Finding, Status, print};
+use seed_tables::{SEED_LIMIT, seed_tables};
 use std::alloc::Global;
 use tail_book::{Book, CostTable, Memory, Outcome};
 use tail_outside::{MemSink, Sink};
 use tail_text::Line;
-use trial_tables::{SEED_LIMIT, trial_tables};
 
 /// The most nodes that the search of a trial counts.
 pub const TRIAL_NODES: u64 = 50;
@@ -132,7 +132,7 @@ fn trial_answer<J: Judge>(alloc: Global, seed: u64, judge: &mut J) -> Answer<Tri
     requires { seed ≤ SEED_LIMIT }
     ensures { IsTrialAnswer seed result }
 {
-    let trial = match trial_tables(alloc, seed) {
+    let trial = match seed_tables(alloc, seed) {
         Ok(trial) => trial,
         Err(_) => return Answer::Memory,
     };

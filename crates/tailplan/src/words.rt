@@ -10,10 +10,10 @@ ghost use Rattle.tailplan.specs.inside.Tasks.{task_names_seen};
 use branch_tree::Limit;
 use clap::{Arg, ArgMatches, Command};
 use run_frame::{TableNames, matched, tables_command, tables_in, value_of};
+use seed_tables::SEED_LIMIT;
 use std::alloc::{AllocError, Global};
 use tail_book::Memory;
 use tail_text::number;
-use trial_tables::SEED_LIMIT;
 
 /// The most nodes that a limit may name.
 pub const NODE_LIMIT: u64 = 1_000_000_000_000;
@@ -105,8 +105,8 @@ pub fn run_of<'a>(alloc: Global, words: &'a [String]) -> Result<Option<TaskNames
 #[cfg(test)]
 mod tests {
     use super::*;
+    use small_texts::words_of;
     use std::test::Fail;
-    use trial_texts::words_of;
 
     fn limited<'a>(
         timetable: &'a str,

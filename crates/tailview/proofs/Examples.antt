@@ -3,7 +3,7 @@
 -- is refused.
 use Rattle.std.proofs.Common.{◌≡◌, ℕ, true, false, List, [], ◌∷◌, Option, Some, None, codes, refl}
 use Rattle.clap.proofs.OnLiterals.{clap_on_literals}
-use Rattle.trial_texts.specs.inside.PlanWords.{ReadsPlans}
+use Rattle.small_texts.specs.inside.PlanWords.{ReadsPlans}
 use Rattle.tailview.specs.Texts.{ViewNamesSeen}
 use Rattle.tailview.specs.Words.{names_of}
 

@@ -30,7 +30,8 @@ use Rattle.run_frame.specs.Answer.{IsUnlessStopped}
 use Rattle.run_frame.specs.inside.TableFiles.{front}
 use Rattle.run_frame.specs.declared.answer.Answer.TheVariants.{ReadFailed}
 use Rattle.tailview.specs.Answers.{Answer, AreJudged, AreRefused, IsTrueAnswer, OfTexts, answer_text, view_in}
-use Rattle.tailview.specs.inside.Audits.{audit_status, drawn_cost, drawn_rules}
+use Rattle.tailview.specs.Drawn.{drawn_cost, drawn_rules}
+use Rattle.tailview.specs.inside.Audits.{audit_status}
 use Rattle.tailview.specs.Cases.{Case, case_of}
 use Rattle.tailview.specs.Promises.{IsVerdict, JudgesPlan, Promise, RefusesTexts}
 use Rattle.tailview.specs.inside.Texts.{text_fronts}

@@ -13,7 +13,7 @@ use Rattle.run_frame.specs.Answer.{IsTrueAnswer as IsTrueOf, lines_of}
 use Rattle.run_frame.specs.TableFiles.{OfHeld}
 use Rattle.run_frame.specs.declared.answer.Answer.{Answer as AnswerOf}
 use Rattle.tailview.specs.Cases.{case_of}
-use Rattle.tailview.specs.inside.Audits.{drawn_cost, drawn_rules}
+use Rattle.tailview.specs.Drawn.{drawn_cost, drawn_rules}
 use Rattle.tailview.specs.Texts.{MayReadTexts, texts_held, TextsSeen}
 use Rattle.tailview.specs.Usage.{usage_line}
 use Rattle.tailview.specs.Words.{names_of}

@@ -4,4 +4,5 @@ pub mod Words
 pub mod Cases
 pub mod Answers
 pub mod Promises
+pub mod Drawn
 pub mod inside

@@ -4,7 +4,8 @@
 ghost use Rattle.std.specs.Prelude.{◌≡◌, ◌≤◌, ℕ, [], false, List, OnErr, OnOk, IsErrOf};
 ghost use Rattle.plan_picture.specs.Picture.{page_lines};
 ghost use Rattle.plan_picture.specs.inside.Drawable.{IsDrawable};
-ghost use Rattle.tailview.specs.inside.Audits.{audit_status, drawn_cost, drawn_rules};
+ghost use Rattle.tailview.specs.Drawn.{drawn_cost, drawn_rules};
+ghost use Rattle.tailview.specs.inside.Audits.{audit_status};
 
 use plan_audit::{Audit, Broken};
 use plan_picture::{View, write_picture};

@@ -11,7 +11,7 @@ ghost use Rattle.run_frame.specs.declared.answer.Answer.TheVariants.{ReadFailed}
 ghost use Rattle.tailview.specs.Answers.{AreJudged, AreRefused, IsTrueAnswer, MayRead, view_in};
 ghost use Rattle.tailview.specs.Promises.{JudgesPlan, Promise, RefusesTexts};
 ghost use Rattle.tailview.specs.Words.{names_of};
-ghost use Rattle.tailview.specs.inside.Audits.{drawn_rules};
+ghost use Rattle.tailview.specs.Drawn.{drawn_rules};
 
 use crate::answer::Judged;
 use crate::texts::{Texts, read_texts};

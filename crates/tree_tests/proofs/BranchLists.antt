@@ -16,8 +16,10 @@ use Rattle.branch_marks.specs.declared.fact.Fact.{Fact}
 use Rattle.branch_marks.specs.declared.fact.Fact.TheVariants.{Bar, Must, Cut, Tie}
 use Rattle.branch_marks.specs.declared.fact.Pair.{Pair}
 use Rattle.branch_marks.specs.declared.fact.Pair.TheVariants.{Fly, Link}
-use Rattle.branch_marks.specs.inside.BranchTests.{is_undecided, UndecidedDecides}
-use Rattle.branch_marks.specs.inside.FactTests.{has_fact, HasFactDecides}
+use Rattle.branch_marks.specs.Undecided.{is_undecided}
+use Rattle.branch_marks.specs.inside.BranchTests.{UndecidedDecides}
+use Rattle.branch_marks.specs.FactTests.{has_fact}
+use Rattle.branch_marks.specs.inside.FactTests.{HasFactDecides}
 use Rattle.tree_tests.specs.declared.branches.Owed.{Owed}
 use Rattle.tree_tests.specs.inside.OpenBranches.{AreBehind, AreNewFacts, AreOnceBehind, owed_behind}
 

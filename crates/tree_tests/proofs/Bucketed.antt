@@ -6,9 +6,9 @@ use Rattle.std.specs.List.{list_any}
 use Rattle.std.proofs.Common.{◌≡◌, ◌∙◌, ℕ, ℤ, zero, suc, ◌+◌, ◌<◌, ◌≤◌, Bool, false, List, [], ◌∷◌, length, drop, refl, sym, ap, arith}
 use Rattle.std.proofs.lemmas.Bool.{ne_eqb, eq-eqb}
 use Rattle.tail_book.specs.Numbers.{int_le}
-use Rattle.tail_book.specs.inside.Order.{each_at_most}
+use Rattle.tail_book.specs.CounterOrder.{each_at_most}
 use Rattle.branch_marks.specs.Labels.{Label}
-use Rattle.branch_marks.specs.inside.FamilyTests.{covers}
+use Rattle.branch_marks.specs.FamilyTests.{covers}
 use Rattle.tree_tests.specs.inside.Buckets.{at_in, no_label}
 
 module _ (b : ℕ) (weight : ℤ) (values : List ℤ) where

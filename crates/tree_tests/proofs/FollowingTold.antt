@@ -11,9 +11,9 @@ use Rattle.tail_book.specs.declared.place.Place.TheVariants.{After}
 use Rattle.tail_book.specs.Lookup.{activities, aircraft}
 use Rattle.branch_marks.specs.declared.fact.Fact.{Fact}
 use Rattle.branch_marks.specs.Marks.{IsUsable}
-use Rattle.branch_marks.specs.inside.Below.{all_below}
-use Rattle.branch_marks.specs.inside.MarkTests.{is_alive}
-use Rattle.branch_marks.specs.inside.TreeTests.{is_hole}
+use Rattle.branch_marks.specs.Below.{all_below}
+use Rattle.branch_marks.specs.MarkTests.{is_alive}
+use Rattle.branch_marks.specs.TreeTests.{is_hole}
 use Rattle.branch_marks.specs.Following.{CannotGoBy}
 use Rattle.floor_rows.specs.inside.AskedLinks.{AreAsked}
 use Rattle.floor_rows.specs.inside.LeastOver.{floor_of}

@@ -9,14 +9,15 @@ use Rattle.tail_book.specs.Lookup.{activities, aircraft}
 use Rattle.tail_book.specs.Counters.{step}
 use Rattle.tail_book.specs.declared.place.Place.{Place}
 use Rattle.tail_book.specs.declared.place.Place.TheVariants.{Carry, After}
-use Rattle.tail_book.specs.inside.CostTable.{costs_of}
-use Rattle.tail_book.specs.inside.Tests.{within_limits}
+use Rattle.tail_book.specs.CostTable.{costs_of}
+use Rattle.tail_book.specs.LegalTests.{within_limits}
 use Rattle.connection_net.specs.Net.{net_of, heads_in, successors_in}
 use Rattle.connection_net.specs.inside.Laws.{HeadsAreLinks, RowsAreTheirPlaces, RowsRise, SuccessorsAreLinks}
 use Rattle.branch_marks.specs.declared.fact.Fact.{Fact}
 use Rattle.branch_marks.specs.Labels.{Label, label_after}
-use Rattle.branch_marks.specs.inside.FamilyTests.{goes_on, is_covered_by}
-use Rattle.branch_marks.specs.inside.MarkTests.{is_usable, UsableDecides}
+use Rattle.branch_marks.specs.FamilyTests.{goes_on, is_covered_by}
+use Rattle.branch_marks.specs.MarkTests.{is_usable}
+use Rattle.branch_marks.specs.inside.MarkTests.{UsableDecides}
 use Rattle.tree_tests.specs.inside.Ways.{WaysAreAll, ways_of}
 use Rattle.tree_tests.proofs.FollowingTold.{all_pass, one_fails}
 

@@ -9,13 +9,13 @@ use Rattle.std.proofs.lemmas.List.{get_or_default}
 use Rattle.tail_book.specs.Seen.{BookSeen}
 use Rattle.tail_book.specs.Lookup.{carry_of}
 use Rattle.tail_book.specs.declared.place.Place.TheVariants.{Carry, After}
-use Rattle.tail_book.specs.inside.CostTable.{costs_of}
-use Rattle.tail_book.specs.inside.SoundTests.{each_pair}
+use Rattle.tail_book.specs.CostTable.{costs_of}
+use Rattle.tail_book.specs.Pairs.{each_pair}
 use Rattle.branch_marks.specs.declared.fact.Fact.{Fact}
 use Rattle.branch_marks.specs.Labels.{Label}
-use Rattle.branch_marks.specs.inside.FamilyTests.{goes_on}
-use Rattle.branch_marks.specs.inside.MarkTests.{is_alive}
-use Rattle.branch_marks.specs.inside.TreeTests.{is_shown_family}
+use Rattle.branch_marks.specs.FamilyTests.{goes_on}
+use Rattle.branch_marks.specs.MarkTests.{is_alive}
+use Rattle.branch_marks.specs.TreeTests.{is_shown_family}
 use Rattle.tree_tests.specs.inside.Buckets.{IsFamilyOf, IsInOrder, no_label}
 
 -- what holds of each element is what a test of all answers

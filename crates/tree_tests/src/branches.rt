@@ -7,8 +7,8 @@
 ghost use Rattle.std.specs.Prelude.{◌≡◌, ◌<◌, ◌≤◌, ◌++◌, ◌∷◌, [], false, true, IfOk, All, length, take};
 ghost use Rattle.branch_marks.specs.Branches.{first_branch, second_branch};
 ghost use Rattle.branch_marks.specs.Facts.{IsFactOf};
-ghost use Rattle.branch_marks.specs.inside.BranchTests.{is_undecided};
-ghost use Rattle.branch_marks.specs.inside.FactTests.{has_fact};
+ghost use Rattle.branch_marks.specs.Undecided.{is_undecided};
+ghost use Rattle.branch_marks.specs.FactTests.{has_fact};
 ghost use Rattle.branch_marks.specs.inside.MarkTables.{AreMarksOf};
 ghost use Rattle.tree_tests.specs.inside.OpenBranches.{AreBranchesOf, AreOnce, BranchesAreNew, behind_of, owed_of};
 

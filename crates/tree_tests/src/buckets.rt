@@ -7,8 +7,8 @@
 ghost use Rattle.std.specs.Prelude.{◌≡◌, ◌<◌, ◌≤◌, ◌&&◌, ℕ, All, length};
 ghost use Rattle.tail_book.specs.Lookup.{activities};
 ghost use Rattle.tail_book.specs.Numbers.{int_le};
-ghost use Rattle.tail_book.specs.inside.Order.{each_at_most};
-ghost use Rattle.branch_marks.specs.inside.FamilyTests.{is_covered_by};
+ghost use Rattle.tail_book.specs.CounterOrder.{each_at_most};
+ghost use Rattle.branch_marks.specs.FamilyTests.{is_covered_by};
 ghost use Rattle.tree_tests.specs.inside.Buckets.{AreStarts, IsInOrder, IsLabelOf, IsStart, at_in};
 
 use crate::label::Label;

@@ -3,7 +3,7 @@
 
 ghost use Rattle.std.specs.Prelude.{◌≡◌, ◌<◌};
 ghost use Rattle.tail_book.specs.Lookup.{aircraft};
-ghost use Rattle.tail_book.specs.inside.Place.{IsPlaceOf};
+ghost use Rattle.tail_book.specs.Place.{IsPlaceOf};
 ghost use Rattle.tree_tests.specs.inside.Means.{AreMeansOf};
 ghost use Rattle.tree_tests.specs.inside.Ways.{WaysAreAll, WaysAreOfBook, ways_of};
 

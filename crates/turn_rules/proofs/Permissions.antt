@@ -6,7 +6,7 @@ use Rattle.std.specs.Prelude.{false}
 use Rattle.std.specs.List.{flat_map, range_with_len}
 use Rattle.tail_book.specs.Seen.{BookSeen}
 use Rattle.tail_book.specs.Lookup.{activities, aircraft}
-use Rattle.tail_book.specs.inside.Tests.{is_allowed}
+use Rattle.tail_book.specs.LegalTests.{is_allowed}
 use Rattle.tail_book.proofs.Rows.{entry, rows_length}
 use Rattle.turn_rules.specs.inside.PermissionTable.{allowed_to}
 

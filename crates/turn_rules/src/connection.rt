@@ -8,9 +8,10 @@ ghost use Rattle.tail_book.specs.declared.limits.TheConstants.{DAY, LAST_MOMENT}
 ghost use Rattle.tail_book.specs.Lookup.{activities, aircraft, kind_of, from_port, to_port, start_of, type_turn, port_turn};
 ghost use Rattle.tail_book.specs.Numbers.{int_le};
 ghost use Rattle.tail_book.specs.Link.{IsLink, port, free_from, gap, turn_time, is_connected};
-ghost use Rattle.tail_book.specs.inside.Sound.{IsWithin, IsMoment};
-ghost use Rattle.tail_book.specs.inside.Tests.{is_allowed_at, is_link};
-ghost use Rattle.tail_book.specs.inside.Place.{IsPlaceOf};
+ghost use Rattle.tail_book.specs.Ranges.{IsWithin};
+ghost use Rattle.tail_book.specs.inside.Sound.{IsMoment};
+ghost use Rattle.tail_book.specs.LegalTests.{is_allowed_at, is_link};
+ghost use Rattle.tail_book.specs.Place.{IsPlaceOf};
 ghost use Rattle.turn_rules.specs.inside.FreeBefore.{IsFreeBefore};
 
 use crate::permission::allowed;

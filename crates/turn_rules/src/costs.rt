@@ -5,9 +5,9 @@
 ghost use Rattle.std.specs.Prelude.{◌≡◌, ◌<◌, ◌≤◌, ◌+◌, ◌*◌, ◌^◌, ℕ, All};
 ghost use Rattle.tail_book.specs.Cost.{connection_cost};
 ghost use Rattle.tail_book.specs.Lookup.{activities, aircraft};
-ghost use Rattle.tail_book.specs.inside.CostTable.{IsTableFor, activity_cost_in, connection_cost_in};
-ghost use Rattle.tail_book.specs.inside.Place.{IsPlaceOf};
-ghost use Rattle.tail_book.specs.inside.Seen.{CostTableSeen};
+ghost use Rattle.tail_book.specs.CostTable.{IsTableFor, activity_cost_in, connection_cost_in};
+ghost use Rattle.tail_book.specs.Place.{IsPlaceOf};
+ghost use Rattle.tail_book.specs.TableSeen.{CostTableSeen};
 
 use crate::connection::gap;
 use tail_book::laws::costs_are_small;

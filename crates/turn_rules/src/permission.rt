@@ -10,7 +10,7 @@ ghost use Rattle.tail_book.specs.Numbers.{contains, is_none_or};
 ghost use Rattle.tail_book.specs.Lookup.{activities, aircraft, types_of, kind_of, tags_had, tags_needed, avoided, from_port, to_port, preassigned};
 ghost use Rattle.tail_book.specs.Curfew.{covers_type};
 ghost use Rattle.tail_book.specs.Allowed.{IsAllowed, is_permitted};
-ghost use Rattle.tail_book.specs.inside.Tests.{is_allowed};
+ghost use Rattle.tail_book.specs.LegalTests.{is_allowed};
 ghost use Rattle.turn_rules.specs.inside.CurfewTable.{AreCurfewsOf};
 
 use crate::curfew::{covers_type, curfewed};

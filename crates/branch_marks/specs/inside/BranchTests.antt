@@ -1,23 +1,14 @@
 -- Undecided pairs as a test, and how many of them marks leave: the measure by which a search ends.
-use Rattle.std.specs.Prelude.{ℕ, ◌+◌, ◌<◌, ◌≤◌, List, [], ◌∷◌, ◌++◌, Bool, true, false, ◌&&◌, not}
+use Rattle.std.specs.Prelude.{ℕ, ◌+◌, ◌<◌, ◌≤◌, List, [], ◌∷◌, ◌++◌, Bool, true, false}
 use Rattle.std.specs.Bool.{Decides}
 use Rattle.tail_book.specs.Seen.{BookSeen}
-use Rattle.tail_book.specs.declared.place.Place.TheVariants.{After}
 use Rattle.tail_book.specs.Lookup.{activities, aircraft}
 use Rattle.branch_marks.specs.declared.fact.Fact.{Fact}
-use Rattle.branch_marks.specs.declared.fact.Fact.TheVariants.{Must, Cut, Tie}
 use Rattle.branch_marks.specs.declared.fact.Pair.{Pair}
 use Rattle.branch_marks.specs.declared.fact.Pair.TheVariants.{Fly, Link}
-use Rattle.branch_marks.specs.inside.Below.{some_below, count_below}
-use Rattle.branch_marks.specs.inside.MarkTests.{is_alive, is_usable}
-use Rattle.branch_marks.specs.inside.FactTests.{has_fact}
+use Rattle.branch_marks.specs.Below.{count_below}
 use Rattle.branch_marks.specs.Branches.{first_branch, second_branch, IsUndecided}
-
--- the marks leave the pair undecided
-abbrev pub is_undecided : BookSeen → List Fact → Pair → Bool
-is_undecided book marks (Fly k a) = is_alive book marks k a && not (has_fact marks (Must k a))
-is_undecided book marks (Link a b) =
-    some_below (λ k. is_usable book marks k (After a) b) (aircraft book) && (not (has_fact marks (Cut a b)) && not (has_fact marks (Tie a b)))
+use Rattle.branch_marks.specs.Undecided.{is_undecided}
 
 -- the test is true exactly where they do
 abbrev pub UndecidedDecides : Type 0

@@ -4,7 +4,7 @@ use Rattle.tail_book.specs.declared.place.Place.{Place}
 use Rattle.tail_book.specs.declared.place.Place.TheVariants.{Carry, After}
 use Rattle.branch_marks.specs.declared.fact.Fact.{Fact}
 use Rattle.branch_marks.specs.declared.fact.Fact.TheVariants.{Bar, Must, Cut, Tie}
-use Rattle.branch_marks.specs.inside.MarkTests.{is_at}
+use Rattle.branch_marks.specs.MarkTests.{is_at}
 
 -- the least number of an activity behind the place
 abbrev pub first_after : Place → ℕ

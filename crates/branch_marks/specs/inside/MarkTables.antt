@@ -7,8 +7,8 @@ use Rattle.branch_marks.specs.declared.fact.Fact.{Fact}
 use Rattle.branch_marks.specs.declared.fact.Fact.TheVariants.{Bar, Must, Cut, Tie}
 use Rattle.branch_marks.specs.declared.named.Named.{Named}
 use Rattle.branch_marks.specs.declared.named.Named.TheVariants.{Nothing}
-use Rattle.branch_marks.specs.inside.FactTests.{same_fact}
-use Rattle.branch_marks.specs.inside.MarkTests.{is_alive}
+use Rattle.branch_marks.specs.FactTests.{same_fact}
+use Rattle.branch_marks.specs.MarkTests.{is_alive}
 use Rattle.branch_marks.specs.inside.BitRows.{BitRowsSeen, has_pair}
 use Rattle.branch_marks.specs.inside.Named.{named_by}
 use Rattle.branch_marks.specs.MarksSeen.{MarksSeen}

@@ -3,9 +3,9 @@
 
 ghost use Rattle.std.specs.Prelude.{◌≡◌, ◌<◌, ◌&&◌, ◌↔◌, IsTrue};
 ghost use Rattle.tail_book.specs.Lookup.{activities, aircraft};
-ghost use Rattle.tail_book.specs.inside.Place.{IsPlaceOf};
+ghost use Rattle.tail_book.specs.Place.{IsPlaceOf};
 ghost use Rattle.branch_marks.specs.Marks.{Fits};
-ghost use Rattle.branch_marks.specs.inside.MarkTests.{fits, is_usable};
+ghost use Rattle.branch_marks.specs.MarkTests.{fits, is_usable};
 ghost use Rattle.branch_marks.specs.inside.MarkTables.{AreMarksOf};
 
 use super::Marks;

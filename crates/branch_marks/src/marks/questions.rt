@@ -3,9 +3,9 @@
 ghost use Rattle.std.specs.Prelude.{◌≡◌, ◌<◌, ◌≤◌, ◌+◌, ◌↔◌, ◌&&◌, ℕ, true, false, IsTrue};
 ghost use Rattle.std.specs.List.{list_all, list_any};
 ghost use Rattle.tail_book.specs.Lookup.{activities, aircraft};
-ghost use Rattle.tail_book.specs.inside.Place.{IsPlaceOf};
+ghost use Rattle.tail_book.specs.Place.{IsPlaceOf};
 ghost use Rattle.branch_marks.specs.Marks.{IsAlive, IsUsable, MayEnd};
-ghost use Rattle.branch_marks.specs.inside.MarkTests.{is_alive, is_alive_at, is_usable, lets_go, may_end};
+ghost use Rattle.branch_marks.specs.MarkTests.{is_alive, is_alive_at, is_usable, lets_go, may_end};
 ghost use Rattle.branch_marks.specs.inside.Named.{named_by};
 ghost use Rattle.branch_marks.specs.inside.MarkTables.{AreMarksOf, given_to, is_must, tied_after, tied_before};
 ghost use Rattle.branch_marks.specs.inside.MarkParts.{first_after, is_no_must_in, leaves_link, ties_nothing, ties_only};

@@ -6,8 +6,8 @@ ghost use Rattle.std.specs.Prelude.{◌≡◌, ◌<◌, ◌≤◌, ℕ, true, fa
 ghost use Rattle.tail_book.specs.Lookup.{activities, aircraft};
 ghost use Rattle.branch_marks.specs.Facts.{IsFactOf};
 ghost use Rattle.branch_marks.specs.Following.{IsOnlyCarrier};
-ghost use Rattle.branch_marks.specs.inside.FactTests.{has_fact};
-ghost use Rattle.branch_marks.specs.inside.MarkTests.{is_alive};
+ghost use Rattle.branch_marks.specs.FactTests.{has_fact};
+ghost use Rattle.branch_marks.specs.MarkTests.{is_alive};
 ghost use Rattle.branch_marks.specs.inside.MarkTables.{AreMarksOf, IsFactWithin};
 ghost use Rattle.branch_marks.specs.declared.fact.Fact.{Fact as MarkFact};
 ghost use Rattle.branch_marks.specs.declared.fact.Fact.TheVariants.{Cut as FactCut, Must as FactMust};

@@ -1,7 +1,7 @@
 -- Inside a step on a node: its tools, its pool, the end that is found, and what was told when it stopped.
 use Rattle.std.specs.Prelude.{◌≡◌, ℕ, ℤ, ◌<◌, List, ◌++◌, All}
 use Rattle.tail_book.specs.Seen.{BookSeen}
-use Rattle.tail_book.specs.inside.Seen.{CostTableSeen}
+use Rattle.tail_book.specs.TableSeen.{CostTableSeen}
 use Rattle.tail_book.specs.Lookup.{aircraft}
 use Rattle.connection_net.specs.Seen.{NetSeen}
 use Rattle.branch_marks.specs.declared.fact.Fact.{Fact}

@@ -1,8 +1,8 @@
 -- What a look at a node under duals comes to: its end, or least routes whose sum leaves room below the target.
 use Rattle.std.specs.Prelude.{◌≡◌, ℕ, ℤ, ◌≤◌, List}
 use Rattle.tail_book.specs.Seen.{BookSeen}
-use Rattle.tail_book.specs.inside.Seen.{CostTableSeen}
-use Rattle.tail_book.specs.inside.CostTable.{plan_cost_in}
+use Rattle.tail_book.specs.TableSeen.{CostTableSeen}
+use Rattle.tail_book.specs.CostTable.{plan_cost_in}
 use Rattle.tail_book.specs.Plan.{IsLegalPlan}
 use Rattle.branch_marks.specs.declared.fact.Fact.{Fact}
 use Rattle.branch_marks.specs.Bound.{AreLeastWeights, lagrangian, bound_of}

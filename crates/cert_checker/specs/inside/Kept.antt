@@ -2,7 +2,7 @@
 use Rattle.std.specs.Prelude.{ℤ, pos, ◌≡◌, ◌<◌, ◌≤◌, ◌*◌, ◌^◌, ◌-ℤ◌, ⊤, List, [], Bool, true, false, not, ◌==◌, Option, Some, None, Result, Ok, Err, All, length}
 use Rattle.tail_book.specs.Seen.{BookSeen}
 use Rattle.tail_book.specs.Lookup.{activities, aircraft}
-use Rattle.tail_book.specs.inside.Sound.{IsWithin}
+use Rattle.tail_book.specs.Ranges.{IsWithin}
 use Rattle.branch_marks.specs.declared.fact.Fact.{Fact}
 use Rattle.branch_marks.specs.Labels.{Label}
 use Rattle.branch_marks.specs.ProofTree.{zero_duals}

@@ -5,8 +5,9 @@ use Rattle.std.specs.List.{filter, range_with_len}
 use Rattle.tail_book.specs.Seen.{BookSeen}
 use Rattle.tail_book.specs.Lookup.{activities, aircraft, is_flight, from_port, to_port, start_of, end_of, kind_of, type_turn, port_turn}
 use Rattle.tail_book.specs.Numbers.{int_le}
-use Rattle.tail_book.specs.inside.Sound.{IsMoment, IsWithin}
-use Rattle.tail_book.specs.inside.Tests.{is_allowed}
+use Rattle.tail_book.specs.Ranges.{IsWithin}
+use Rattle.tail_book.specs.inside.Sound.{IsMoment}
+use Rattle.tail_book.specs.LegalTests.{is_allowed}
 use Rattle.connection_net.specs.declared.aircraft_set.AircraftSet.{AircraftSet}
 use Rattle.connection_net.specs.declared.link_table.Leg.{Leg}
 use Rattle.connection_net.specs.declared.link_table.LinkTable.{LinkTable}

@@ -1,8 +1,8 @@
 -- How a dive goes on: marks and steps that grow together, and where it stands before a choice.
 use Rattle.std.specs.Prelude.{◌≡◌, ℕ, ℤ, List, ◌++◌, map}
 use Rattle.tail_book.specs.Seen.{BookSeen}
-use Rattle.tail_book.specs.inside.Seen.{CostTableSeen}
-use Rattle.tail_book.specs.inside.CostTable.{IsTableFor}
+use Rattle.tail_book.specs.TableSeen.{CostTableSeen}
+use Rattle.tail_book.specs.CostTable.{IsTableFor}
 use Rattle.connection_net.specs.Seen.{NetSeen}
 use Rattle.connection_net.specs.Net.{net_of}
 use Rattle.branch_marks.specs.declared.fact.Fact.{Fact}

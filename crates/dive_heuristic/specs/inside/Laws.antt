@@ -1,7 +1,7 @@
 -- Laws of dives, over the definitions alone: why each choice brings a dive nearer to its end.
 use Rattle.std.specs.Prelude.{ℕ, ℤ, ◌≤◌, ◌++◌, List}
 use Rattle.tail_book.specs.Seen.{BookSeen}
-use Rattle.tail_book.specs.inside.Seen.{CostTableSeen}
+use Rattle.tail_book.specs.TableSeen.{CostTableSeen}
 use Rattle.tail_book.specs.inside.Sound.{IsBook}
 use Rattle.branch_marks.specs.declared.fact.Fact.{Fact}
 use Rattle.branch_marks.specs.declared.fact.Pair.TheVariants.{Fly}

@@ -2,7 +2,8 @@
 use Rattle.std.specs.Prelude.{pos, ◌-ℤ◌, ◌≡◌, ◌≤◌, true, length, All}
 use Rattle.tail_book.specs.Name.{is_name}
 use Rattle.tail_book.specs.declared.limits.TheConstants.{AIRPORT_LIMIT, BAND_LIMIT, BASE_LIMIT, COUNTER_LIMIT, CURFEW_LIMIT, DAY, ITEM_LIMIT, STOP_LIMIT, TYPE_LIMIT}
-use Rattle.tail_book.specs.inside.Sound.{IsAirport, IsBand, IsKind, IsLimit, IsWithin}
+use Rattle.tail_book.specs.Ranges.{IsWithin}
+use Rattle.tail_book.specs.inside.Sound.{IsAirport, IsBand, IsKind, IsLimit}
 use Rattle.table_records.specs.inside.NameLists.{AreNames}
 use Rattle.fleet_rules.specs.RawRules.{RawCurfewSeen, RawCounterSeen, RawRulesSeen}
 

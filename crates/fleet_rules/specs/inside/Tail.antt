@@ -2,7 +2,8 @@
 use Rattle.std.specs.Prelude.{◌≡◌, ◌≤◌, true, List, length, All, pos}
 use Rattle.tail_book.specs.Name.{is_name}
 use Rattle.tail_book.specs.declared.limits.TheConstants.{FIXED_LIMIT, ITEM_LIMIT, VALUE_LIMIT}
-use Rattle.tail_book.specs.inside.Sound.{IsMoment, IsWithin}
+use Rattle.tail_book.specs.Ranges.{IsWithin}
+use Rattle.tail_book.specs.inside.Sound.{IsMoment}
 use Rattle.table_records.specs.inside.NameLists.{AreNames}
 use Rattle.fleet_rules.specs.declared.tail.RawCarry.{RawCarry}
 use Rattle.fleet_rules.specs.Tail.{RawTailSeen}

@@ -6,7 +6,7 @@ use Rattle.tail_book.specs.Lookup.{aircraft}
 use Rattle.branch_marks.specs.declared.fact.Fact.{Fact}
 use Rattle.branch_marks.specs.Following.{CannotGoBy}
 use Rattle.branch_marks.specs.Marks.{IsUsable}
-use Rattle.branch_marks.specs.inside.MarkTests.{is_alive}
+use Rattle.branch_marks.specs.MarkTests.{is_alive}
 use Rattle.floor_rows.specs.inside.LeastOver.{floor_of}
 
 -- the aircraft below n have been asked: whether one may use the link, and that none of them goes on

@@ -6,7 +6,7 @@ use Rattle.tail_book.specs.declared.place.Place.{Place}
 use Rattle.tail_book.specs.declared.place.Place.TheVariants.{Carry, After}
 use Rattle.tail_book.specs.Lookup.{activities, carry_of}
 use Rattle.branch_marks.specs.declared.fact.Fact.{Fact}
-use Rattle.branch_marks.specs.inside.MarkTests.{is_alive, is_usable}
+use Rattle.branch_marks.specs.MarkTests.{is_alive, is_usable}
 use Rattle.branch_marks.specs.Floors.{lesser_floor, stepped_floor, floor_at}
 
 -- the floor of aircraft k at activity a

@@ -7,10 +7,10 @@ use Rattle.tail_book.specs.declared.place.Place.TheVariants.{After}
 use Rattle.tail_book.specs.Lookup.{activities}
 use Rattle.tail_book.specs.Counters.{step}
 use Rattle.tail_book.specs.inside.Sound.{IsBook}
-use Rattle.tail_book.specs.inside.Tests.{within_limits}
+use Rattle.tail_book.specs.LegalTests.{within_limits}
 use Rattle.connection_net.specs.Net.{net_of, predecessors_in, successors_in}
 use Rattle.branch_marks.specs.declared.fact.Fact.{Fact}
-use Rattle.branch_marks.specs.inside.MarkTests.{is_usable}
+use Rattle.branch_marks.specs.MarkTests.{is_usable}
 use Rattle.branch_marks.specs.Following.{NoneGoesOn}
 use Rattle.floor_rows.specs.inside.LeastOver.{least_over, brought}
 

@@ -1,7 +1,7 @@
 -- What offers keep, for those who look for routes.
 use Rattle.std.specs.Prelude.{ℕ, ℤ, ◌≡◌, ◌≢◌, ◌<◌, ◌≤◌, ◌⊎◌, ◌↔◌, ◌^◌, List, Option, IfSome, length, slice_index_or}
 use Rattle.std.specs.List.{Contains}
-use Rattle.tail_book.specs.inside.Order.{EachAtMost}
+use Rattle.tail_book.specs.CounterOrder.{EachAtMost}
 use Rattle.label_store.specs.declared.offered.Offered.{Offered}
 use Rattle.label_store.specs.declared.offered.Offered.TheVariants.{Kept}
 use Rattle.label_store.specs.Seen.{StoreSeen}

@@ -1,7 +1,7 @@
 -- How large the values of counters are: within their limits, as large as can be counted on, and after a step.
 use Rattle.std.specs.Prelude.{ℕ, ℤ, pos, ◌+◌, ◌^◌, List, All}
 use Rattle.tail_book.specs.declared.limits.TheConstants.{COUNT_LIMIT}
-use Rattle.tail_book.specs.inside.Sound.{IsWithin}
+use Rattle.tail_book.specs.Ranges.{IsWithin}
 
 -- no value is below 0 or above what any limit can be: 10,000 days in minutes
 abbrev pub AreCounts : List ℤ → Type 0

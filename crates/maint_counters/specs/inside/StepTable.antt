@@ -5,7 +5,8 @@ use Rattle.tail_book.specs.Seen.{BookSeen, CounterSeen}
 use Rattle.tail_book.specs.Numbers.{contains, int_le}
 use Rattle.tail_book.specs.Lookup.{activities, aircraft, tail_of, is_flight, from_port, start_of, end_of, resets_of}
 use Rattle.tail_book.specs.Counters.{flown}
-use Rattle.tail_book.specs.inside.Sound.{IsWithin, IsMoment}
+use Rattle.tail_book.specs.Ranges.{IsWithin}
+use Rattle.tail_book.specs.inside.Sound.{IsMoment}
 use Rattle.tail_book.specs.declared.rules.CounterKind.{CounterKind}
 use Rattle.tail_book.specs.declared.rules.CounterKind.TheVariants.{Minutes, Landings, Days}
 use Rattle.turn_rules.specs.inside.NumberSet.{has}

@@ -3,7 +3,7 @@ use Rattle.std.specs.Prelude.{ℕ, List, map, nat_eq, ◌<◌}
 use Rattle.std.specs.List.{filter}
 use Rattle.tail_book.specs.Seen.{BookSeen}
 use Rattle.tail_book.specs.Lookup.{activities, aircraft}
-use Rattle.tail_book.specs.inside.Place.{IsPlaceOf}
+use Rattle.tail_book.specs.Place.{IsPlaceOf}
 use Rattle.plan_audit.specs.declared.leg.Leg.{Leg}
 
 -- the route of aircraft k among legs: the activities of its legs, in order

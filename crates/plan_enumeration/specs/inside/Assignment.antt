@@ -4,7 +4,7 @@ use Rattle.tail_book.specs.Seen.{BookSeen}
 use Rattle.tail_book.specs.Lookup.{activities, aircraft}
 use Rattle.tail_book.specs.Route.{IsLegalRoute}
 use Rattle.tail_book.specs.Cost.{plan_cost}
-use Rattle.tail_book.specs.inside.Fliers.{plan_by, route_by}
+use Rattle.tail_book.specs.Fliers.{plan_by, route_by}
 
 -- each activity that is assigned has an aircraft, and the routes so far are legal
 pub record IsLegalSoFar (book : BookSeen) (who : List ℕ) : Type 0 where

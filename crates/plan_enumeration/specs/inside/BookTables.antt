@@ -1,7 +1,7 @@
 -- What the enumeration asks of the book once: costs and permissions, which depend on no assignment.
 use Rattle.std.specs.Prelude.{◌≡◌}
 use Rattle.tail_book.specs.Seen.{BookSeen}
-use Rattle.tail_book.specs.inside.CostTable.{costs_of}
+use Rattle.tail_book.specs.CostTable.{costs_of}
 use Rattle.turn_rules.specs.inside.PermissionTable.{ArePermissionsOf}
 use Rattle.plan_enumeration.specs.declared.book_tables.BookTables.{BookTables}
 

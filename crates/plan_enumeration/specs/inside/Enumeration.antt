@@ -7,10 +7,10 @@ use Rattle.tail_book.specs.declared.limits.TheConstants.{COUNT_LIMIT, LEG_COST_L
 use Rattle.tail_book.specs.Lookup.{activities, aircraft, carry_of}
 use Rattle.tail_book.specs.Link.{IsLink}
 use Rattle.tail_book.specs.Counters.{step, WithinLimits}
-use Rattle.tail_book.specs.inside.Fliers.{route_by}
+use Rattle.tail_book.specs.Fliers.{route_by}
 use Rattle.tail_book.specs.inside.Route.{counters_after, place_after}
 use Rattle.tail_book.specs.Cost.{activity_cost, connection_cost}
-use Rattle.tail_book.specs.inside.Sound.{IsWithin}
+use Rattle.tail_book.specs.Ranges.{IsWithin}
 use Rattle.plan_enumeration.specs.declared.enumerate.Trial.{Trial}
 use Rattle.plan_enumeration.specs.declared.enumerate.Best.{Best}
 use Rattle.plan_enumeration.specs.declared.enumerate.Advance.{Advance}

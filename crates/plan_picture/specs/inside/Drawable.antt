@@ -2,7 +2,7 @@
 use Rattle.std.specs.Prelude.{ℕ, ℤ, pos, ◌-ℤ◌, ◌≡◌, ◌<◌, All, List, length}
 use Rattle.tail_book.specs.Seen.{BookSeen}
 use Rattle.tail_book.specs.Lookup.{activities, aircraft}
-use Rattle.tail_book.specs.inside.Sound.{IsWithin}
+use Rattle.tail_book.specs.Ranges.{IsWithin}
 use Rattle.plan_audit.specs.declared.broken.Broken.{Broken}
 use Rattle.plan_report.specs.inside.AuditText.{IsOfBook}
 

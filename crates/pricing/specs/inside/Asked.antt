@@ -1,9 +1,9 @@
 -- What each step of pricing is given: what is asked, and how far the labels are.
 use Rattle.std.specs.Prelude.{◌≡◌, ℕ, ℤ, ◌<◌, ◌+◌, List, length}
 use Rattle.tail_book.specs.Seen.{BookSeen}
-use Rattle.tail_book.specs.inside.Seen.{CostTableSeen}
+use Rattle.tail_book.specs.TableSeen.{CostTableSeen}
 use Rattle.tail_book.specs.Lookup.{activities, aircraft}
-use Rattle.tail_book.specs.inside.CostTable.{IsTableFor}
+use Rattle.tail_book.specs.CostTable.{IsTableFor}
 use Rattle.maint_counters.specs.declared.step_table.StepTable.{StepTable}
 use Rattle.maint_counters.specs.inside.StepTable.{IsStepTableOf}
 use Rattle.branch_marks.specs.declared.fact.Fact.{Fact}

@@ -1,7 +1,7 @@
 -- Buckets that are done: each usable link into their activities was tried.
 use Rattle.std.specs.Prelude.{ℕ, ℤ, ◌<◌, List, Contains}
 use Rattle.tail_book.specs.Seen.{BookSeen}
-use Rattle.tail_book.specs.inside.Seen.{CostTableSeen}
+use Rattle.tail_book.specs.TableSeen.{CostTableSeen}
 use Rattle.tail_book.specs.declared.place.Place.TheVariants.{Carry, After}
 use Rattle.branch_marks.specs.declared.fact.Fact.{Fact}
 use Rattle.branch_marks.specs.Marks.{IsUsable}

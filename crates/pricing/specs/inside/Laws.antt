@@ -1,10 +1,11 @@
 -- What offers keep of what pricing knows, and what follows when all buckets are done.
 use Rattle.std.specs.Prelude.{◌≡◌, ℕ, ℤ, pos, ◌^◌, ◌-ℤ◌, ◌<◌, List, length, Option, None, Some}
 use Rattle.tail_book.specs.Seen.{BookSeen}
-use Rattle.tail_book.specs.inside.Seen.{CostTableSeen}
+use Rattle.tail_book.specs.TableSeen.{CostTableSeen}
 use Rattle.tail_book.specs.Lookup.{activities, aircraft}
-use Rattle.tail_book.specs.inside.CostTable.{IsCostTable, IsTableFor}
-use Rattle.tail_book.specs.inside.Sound.{IsBook, IsWithin}
+use Rattle.tail_book.specs.CostTable.{IsCostTable, IsTableFor}
+use Rattle.tail_book.specs.Ranges.{IsWithin}
+use Rattle.tail_book.specs.inside.Sound.{IsBook}
 use Rattle.branch_marks.specs.declared.fact.Fact.{Fact}
 use Rattle.branch_marks.specs.DeadEnds.{IsStuck}
 use Rattle.branch_marks.specs.Families.{IsClosedFamily}

@@ -1,7 +1,7 @@
 -- Labels that wait at an airport, and when one of them stands for another.
 use Rattle.std.specs.Prelude.{ℕ, ℤ, pos, ◌≡◌, ◌+ℤ◌, ◌-ℤ◌, ◌≤ℤ◌, ◌<ℤ◌, ◌≤◌, ◌⊎◌, ⊤, ◌&&◌, if◌then◌else◌, Bool, true, List, [], ◌∷◌, All}
 use Rattle.tail_book.specs.Seen.{BookSeen, CounterSeen}
-use Rattle.tail_book.specs.inside.Seen.{CostTableSeen}
+use Rattle.tail_book.specs.TableSeen.{CostTableSeen}
 use Rattle.tail_book.specs.declared.place.Place.TheVariants.{After}
 use Rattle.tail_book.specs.declared.rules.Band.{Band}
 use Rattle.tail_book.specs.declared.rules.CounterKind.{CounterKind}
@@ -10,7 +10,7 @@ use Rattle.tail_book.specs.Numbers.{contains, int_le}
 use Rattle.tail_book.specs.Lookup.{from_port, end_of}
 use Rattle.tail_book.specs.Cost.{band_cost}
 use Rattle.tail_book.specs.Link.{gap}
-use Rattle.tail_book.specs.inside.Order.{EachAtMost}
+use Rattle.tail_book.specs.CounterOrder.{EachAtMost}
 use Rattle.maint_counters.specs.inside.Counts.{AreCounts}
 use Rattle.branch_marks.specs.Weights.{arc_weight}
 use Rattle.pricing.specs.Rows.{counters_of}

@@ -1,7 +1,7 @@
 -- What a pricer has made ready of a book.
 use Rattle.std.specs.Prelude.{◌≡◌, ◌+◌, length, IfSome}
 use Rattle.tail_book.specs.Seen.{BookSeen}
-use Rattle.tail_book.specs.inside.Seen.{CostTableSeen}
+use Rattle.tail_book.specs.TableSeen.{CostTableSeen}
 use Rattle.tail_book.specs.Lookup.{activities}
 use Rattle.maint_counters.specs.inside.StepTable.{IsStepTableOf}
 use Rattle.pricing.specs.declared.pricer.Pricer.{Pricer}

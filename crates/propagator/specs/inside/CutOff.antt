@@ -4,8 +4,8 @@ use Rattle.tail_book.specs.Seen.{BookSeen}
 use Rattle.tail_book.specs.declared.place.Place.TheVariants.{After}
 use Rattle.branch_marks.specs.declared.fact.Fact.{Fact}
 use Rattle.branch_marks.specs.declared.fact.Fact.TheVariants.{Must}
-use Rattle.branch_marks.specs.inside.FactTests.{has_fact}
-use Rattle.branch_marks.specs.inside.MarkTests.{is_usable}
+use Rattle.branch_marks.specs.FactTests.{has_fact}
+use Rattle.branch_marks.specs.MarkTests.{is_usable}
 
 -- what lies below c leads aircraft k to b, and to what comes later, over no link
 pub record IsCutOff (book : BookSeen) (marks : List Fact) (k b c : ℕ) : Type 0 where

@@ -2,7 +2,7 @@
 use Rattle.std.specs.Prelude.{ℕ, ℤ, ◌≡◌, ◌<◌, ◌++◌, List, Option, Some}
 use Rattle.tail_book.specs.Seen.{BookSeen}
 use Rattle.tail_book.specs.Lookup.{activities, aircraft}
-use Rattle.tail_book.specs.inside.Order.{EachAtMost}
+use Rattle.tail_book.specs.CounterOrder.{EachAtMost}
 use Rattle.tail_book.specs.inside.Sound.{IsBook}
 use Rattle.branch_marks.specs.declared.fact.Fact.{Fact}
 use Rattle.floor_rows.specs.inside.FloorRow.{FloorRowSeen, floor_in}

@@ -4,7 +4,7 @@ use Rattle.tail_book.specs.Seen.{BookSeen}
 use Rattle.tail_book.specs.declared.place.Place.{Place}
 use Rattle.branch_marks.specs.declared.fact.Fact.{Fact}
 use Rattle.branch_marks.specs.declared.fact.Fact.TheVariants.{Bar, Must}
-use Rattle.branch_marks.specs.inside.MarkTests.{is_alive, is_usable, may_end}
+use Rattle.branch_marks.specs.MarkTests.{is_alive, is_usable, may_end}
 use Rattle.branch_marks.specs.Floors.{floors}
 use Rattle.branch_marks.specs.Following.{IsDead}
 

@@ -3,7 +3,7 @@ use Rattle.std.specs.Prelude.{ℕ, ◌≡◌, ◌≢◌, ◌<◌, true, List}
 use Rattle.tail_book.specs.Seen.{BookSeen}
 use Rattle.tail_book.specs.Lookup.{activities}
 use Rattle.branch_marks.specs.declared.fact.Fact.{Fact}
-use Rattle.branch_marks.specs.inside.MarkTests.{is_alive}
+use Rattle.branch_marks.specs.MarkTests.{is_alive}
 use Rattle.branch_marks.specs.Following.{IsDead}
 use Rattle.branch_marks.specs.Floors.{floors}
 use Rattle.floor_rows.specs.inside.FloorRow.{FloorRowSeen}

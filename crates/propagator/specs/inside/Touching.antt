@@ -5,7 +5,7 @@ use Rattle.tail_book.specs.declared.place.Place.{Place}
 use Rattle.tail_book.specs.Lookup.{activities}
 use Rattle.tail_book.specs.Numbers.{contains}
 use Rattle.branch_marks.specs.declared.fact.Fact.{Fact}
-use Rattle.branch_marks.specs.inside.MarkTests.{is_alive, lets_go, lets_end}
+use Rattle.branch_marks.specs.MarkTests.{is_alive, lets_go, lets_end}
 use Rattle.branch_marks.specs.Following.{IsDeadBy, IsDead}
 use Rattle.floor_rows.specs.inside.FloorRow.{FloorRowSeen, floor_in, IsRowOf}
 use Rattle.branch_marks.specs.Floors.{floors}

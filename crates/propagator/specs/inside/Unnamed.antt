@@ -4,8 +4,8 @@ use Rattle.tail_book.specs.Seen.{BookSeen}
 use Rattle.tail_book.specs.Lookup.{activities, aircraft}
 use Rattle.branch_marks.specs.declared.fact.Fact.{Fact}
 use Rattle.branch_marks.specs.declared.fact.Fact.TheVariants.{Must}
-use Rattle.branch_marks.specs.inside.Below.{some_below, count_below}
-use Rattle.branch_marks.specs.inside.FactTests.{has_fact}
+use Rattle.branch_marks.specs.Below.{some_below, count_below}
+use Rattle.branch_marks.specs.FactTests.{has_fact}
 
 -- some Must gives a to an aircraft of the book
 abbrev pub is_named : BookSeen → List Fact → ℕ → Bool

@@ -1,10 +1,10 @@
 -- The choices that aircraft have of one activity: what each takes at a dual of it, and which dual is best.
 use Rattle.std.specs.Prelude.{◌≡◌, ℕ, ℤ, pos, ◌+ℤ◌, ◌-ℤ◌, ◌≤ℤ◌, ◌<ℤ◌, ◌<◌, ◌^◌, ◌⊎◌, ⊤, List, Option, Some, None, map, length, slice_index_or}
 use Rattle.std.specs.Int.{int_min, int_max}
-use Rattle.tail_book.specs.inside.Seen.{CostTableSeen}
-use Rattle.tail_book.specs.inside.CostTable.{IsInBox, cost_unit}
-use Rattle.tail_book.specs.inside.Sound.{IsWithin}
-use Rattle.tail_book.specs.inside.Sums.{total}
+use Rattle.tail_book.specs.TableSeen.{CostTableSeen}
+use Rattle.tail_book.specs.CostTable.{IsInBox, cost_unit}
+use Rattle.tail_book.specs.Ranges.{IsWithin}
+use Rattle.tail_book.specs.Sums.{total}
 use Rattle.restricted_master.specs.declared.choice.Choice.{Choice}
 
 -- the dual from which on an aircraft takes the activity: none where it has no route with it, the box's low end where it

@@ -1,8 +1,8 @@
 -- One dual moves: what it leaves settled, and what it gains, for one look, one visit and one sweep.
 use Rattle.std.specs.Prelude.{◌≡◌, ℕ, ℤ, pos, ◌+ℤ◌, ◌≤ℤ◌, ◌<ℤ◌, ◌<◌, List, Bool, true, false, length, slice_index_or}
 use Rattle.tail_book.specs.Seen.{BookSeen}
-use Rattle.tail_book.specs.inside.Seen.{CostTableSeen}
-use Rattle.tail_book.specs.inside.CostTable.{IsInBox, cost_unit}
+use Rattle.tail_book.specs.TableSeen.{CostTableSeen}
+use Rattle.tail_book.specs.CostTable.{IsInBox, cost_unit}
 use Rattle.tail_book.specs.Lookup.{activities}
 use Rattle.branch_marks.specs.Pool.{Pooled, sum_in}
 use Rattle.branch_marks.specs.Settled.{with_dual}

@@ -1,7 +1,7 @@
 -- Rows as they come: what was tried on the way from a place, as far as a limit.
 use Rattle.std.specs.Prelude.{ℕ, ℤ, suc, ◌+ℤ◌, ◌<ℤ◌, ◌<◌, ◌⊎◌, List, Contains}
 use Rattle.tail_book.specs.Seen.{BookSeen}
-use Rattle.tail_book.specs.inside.Seen.{CostTableSeen}
+use Rattle.tail_book.specs.TableSeen.{CostTableSeen}
 use Rattle.tail_book.specs.declared.place.Place.{Place}
 use Rattle.tail_book.specs.declared.place.Place.TheVariants.{Carry, After}
 use Rattle.tail_book.specs.Counters.{step, WithinLimits}

@@ -1,9 +1,9 @@
 -- What a search is over: a book with its tables, marks and duals, and one of its aircraft.
 use Rattle.std.specs.Prelude.{◌≡◌, ℕ, ℤ, pos, ◌*◌, ◌^◌, ◌+ℤ◌, ◌-ℤ◌, ◌≤ℤ◌, ◌<◌, List, length, slice_index_or}
 use Rattle.tail_book.specs.Seen.{BookSeen}
-use Rattle.tail_book.specs.inside.Seen.{CostTableSeen}
+use Rattle.tail_book.specs.TableSeen.{CostTableSeen}
 use Rattle.tail_book.specs.Lookup.{activities, aircraft}
-use Rattle.tail_book.specs.inside.CostTable.{IsTableFor, cost_unit, activity_cost_in}
+use Rattle.tail_book.specs.CostTable.{IsTableFor, cost_unit, activity_cost_in}
 use Rattle.maint_counters.specs.inside.StepTable.{IsStepTableOf}
 use Rattle.connection_net.specs.Net.{net_of}
 use Rattle.branch_marks.specs.inside.MarkTables.{AreMarksOf}

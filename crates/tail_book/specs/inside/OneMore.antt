@@ -1,7 +1,7 @@
 -- A route with one activity more at its end: what is asked of it, and what becomes of its counters, its place and its cost.
 use Rattle.std.specs.Prelude.{ℕ, ◌+◌, ◌<◌, ◌≡◌, ◌↔◌, List, [], ◌∷◌, ◌++◌}
 use Rattle.tail_book.specs.Seen.{BookSeen}
-use Rattle.tail_book.specs.inside.Seen.{CostTableSeen}
+use Rattle.tail_book.specs.TableSeen.{CostTableSeen}
 use Rattle.tail_book.specs.declared.place.Place.{Place}
 use Rattle.tail_book.specs.declared.place.Place.TheVariants.{Carry, After}
 use Rattle.tail_book.specs.Link.{IsLink}
@@ -9,8 +9,8 @@ use Rattle.tail_book.specs.Counters.{step, WithinLimits}
 use Rattle.tail_book.specs.Route.{IsLegalRoute}
 use Rattle.tail_book.specs.inside.Route.{counters_after, place_after}
 use Rattle.tail_book.specs.Cost.{activity_cost, connection_cost, route_cost}
-use Rattle.tail_book.specs.inside.CostTable.{activity_cost_in, connection_cost_in, route_cost_in}
-use Rattle.tail_book.specs.inside.Place.{IsBefore}
+use Rattle.tail_book.specs.CostTable.{activity_cost_in, connection_cost_in, route_cost_in}
+use Rattle.tail_book.specs.Place.{IsBefore}
 use Rattle.tail_book.specs.inside.Rising.{IsRisingFrom}
 
 -- where aircraft k is at the end of a route

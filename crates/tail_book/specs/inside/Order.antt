@@ -1,26 +1,12 @@
 -- The order of counter values: no higher before a step is no higher after it.
-use Rattle.std.specs.Prelude.{ℕ, ℤ, ◌≡◌, ◌≤ℤ◌, ⊤, Bool, true, false, ◌&&◌, List, [], ◌∷◌, length}
+use Rattle.std.specs.Prelude.{ℕ, ℤ, ◌≡◌, List, length}
 use Rattle.std.specs.Bool.{Decides}
 use Rattle.tail_book.specs.Seen.{CounterSeen, BookSeen}
 use Rattle.tail_book.specs.declared.place.Place.{Place}
-use Rattle.tail_book.specs.Numbers.{int_le}
 use Rattle.tail_book.specs.Counters.{step, WithinLimits}
 use Rattle.tail_book.specs.Route.{IsLegalFrom}
 use Rattle.tail_book.specs.inside.Route.{counters_from}
-
--- as many values as others, each at most the one at its place
-abbrev pub EachAtMost : List ℤ → List ℤ → Type 0
-EachAtMost [] [] = ⊤
-EachAtMost [] (other ∷ others) = ⊥
-EachAtMost (value ∷ values) [] = ⊥
-EachAtMost (value ∷ values) (other ∷ others) = (value ≤ℤ other) × EachAtMost values others
-
--- the test for it
-abbrev pub each_at_most : List ℤ → List ℤ → Bool
-each_at_most [] [] = true
-each_at_most [] (other ∷ others) = false
-each_at_most (value ∷ values) [] = false
-each_at_most (value ∷ values) (other ∷ others) = int_le value other && each_at_most values others
+use Rattle.tail_book.specs.CounterOrder.{EachAtMost, each_at_most}
 
 -- the test is true exactly where the fact holds
 abbrev pub EachAtMostDecides : Type 0

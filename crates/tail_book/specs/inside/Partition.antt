@@ -4,7 +4,8 @@ use Rattle.std.specs.List.{flat_map}
 use Rattle.tail_book.specs.Seen.{BookSeen}
 use Rattle.tail_book.specs.Lookup.{activities}
 use Rattle.tail_book.specs.Plan.{IsLegalPlan}
-use Rattle.tail_book.specs.inside.Sums.{total, sum_below, IsPartition}
+use Rattle.tail_book.specs.Sums.{total, sum_below}
+use Rattle.tail_book.specs.inside.Sums.{IsPartition}
 
 -- the activities of all routes, one route after the other
 abbrev pub all_flown : List (List ℕ) → List ℕ

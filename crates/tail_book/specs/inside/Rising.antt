@@ -4,7 +4,7 @@ use Rattle.tail_book.specs.Seen.{BookSeen}
 use Rattle.tail_book.specs.declared.place.Place.{Place}
 use Rattle.tail_book.specs.declared.place.Place.TheVariants.{Carry, After}
 use Rattle.tail_book.specs.Numbers.{contains}
-use Rattle.tail_book.specs.inside.Place.{IsBefore}
+use Rattle.tail_book.specs.Place.{IsBefore}
 use Rattle.tail_book.specs.Lookup.{activities, aircraft}
 use Rattle.tail_book.specs.Link.{IsLink}
 use Rattle.tail_book.specs.Route.{IsLegalRoute}

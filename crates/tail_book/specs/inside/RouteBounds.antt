@@ -2,15 +2,16 @@
 use Rattle.std.specs.Prelude.{ℕ, ℤ, pos, ◌+◌, ◌*◌, ◌^◌, ◌-ℤ◌, ◌<◌, ◌≤◌, List, All, length, map}
 use Rattle.tail_book.specs.declared.limits.TheConstants.{LEG_COST_LIMIT}
 use Rattle.tail_book.specs.Seen.{BookSeen}
-use Rattle.tail_book.specs.inside.Seen.{CostTableSeen}
+use Rattle.tail_book.specs.TableSeen.{CostTableSeen}
 use Rattle.tail_book.specs.declared.place.Place.{Place}
 use Rattle.tail_book.specs.Lookup.{activities}
 use Rattle.tail_book.specs.Cost.{cost_from}
-use Rattle.tail_book.specs.inside.CostTable.{IsCostTable, IsTableFor, IsInBox, cost_unit, cost_from_in, greatest_cost_in}
+use Rattle.tail_book.specs.CostTable.{IsCostTable, IsTableFor, IsInBox, cost_unit, cost_from_in, greatest_cost_in}
 use Rattle.tail_book.specs.inside.Bounds.{greatest_cost}
 use Rattle.tail_book.specs.inside.Rising.{IsRisingFrom}
-use Rattle.tail_book.specs.inside.Sound.{IsBook, IsWithin}
-use Rattle.tail_book.specs.inside.Sums.{total}
+use Rattle.tail_book.specs.Ranges.{IsWithin}
+use Rattle.tail_book.specs.inside.Sound.{IsBook}
+use Rattle.tail_book.specs.Sums.{total}
 
 -- numbers that rise below n are at most n
 abbrev pub RisingRoutesAreShort : Type 0

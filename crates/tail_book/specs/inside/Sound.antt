@@ -8,11 +8,7 @@ use Rattle.tail_book.specs.declared.rules.Band.{Band}
 use Rattle.tail_book.specs.declared.rules.CounterKind.{CounterKind}
 use Rattle.tail_book.specs.declared.rules.CounterKind.TheVariants.{Minutes, Landings, Days}
 use Rattle.tail_book.specs.ActivityOrder.{comes_before}
-
--- the number lies in the range, both ends included
-pub record IsWithin (low high z : ℤ) : Type 0 where
-  pub least : low ≤ℤ z
-  pub most : z ≤ℤ high
+use Rattle.tail_book.specs.Ranges.{IsWithin}
 
 -- a moment from 1970-01-01T00:00 to 2199-12-31T23:59, in minutes
 abbrev pub IsMoment : ℤ → Type 0

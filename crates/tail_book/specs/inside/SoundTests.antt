@@ -1,19 +1,20 @@
 -- What every book keeps, and what every cost table keeps, as tests that compute.
-use Rattle.std.specs.Prelude.{ℕ, ℤ, pos, ◌+ℤ◌, ◌-ℤ◌, ◌*◌, ◌+◌, ◌^◌, ◌%◌, ◌==◌, Bool, true, ◌&&◌, not, List, [], ◌∷◌, length, nat_lt, nat_le, unsigned_abs, bytes_eq}
+use Rattle.std.specs.Prelude.{ℕ, ℤ, pos, ◌+ℤ◌, ◌-ℤ◌, ◌*◌, ◌+◌, ◌^◌, ◌%◌, ◌==◌, Bool, ◌&&◌, not, List, length, nat_lt, nat_le, unsigned_abs, bytes_eq}
 use Rattle.std.specs.Bool.{Decides}
 use Rattle.std.specs.List.{list_all}
 use Rattle.tail_book.specs.declared.limits.TheConstants.{ACTIVITY_LIMIT, TAIL_LIMIT, TYPE_LIMIT, AIRPORT_LIMIT, CURFEW_LIMIT, COUNTER_LIMIT, BAND_LIMIT, ITEM_LIMIT, BASE_LIMIT, LAST_MOMENT, DAY, SPAN_LIMIT, OFFSET_LIMIT, STOP_LIMIT, VALUE_LIMIT, COUNT_LIMIT, RATE_LIMIT, FIXED_LIMIT, BAND_COST_LIMIT}
 use Rattle.tail_book.specs.Name.{is_name}
 use Rattle.tail_book.specs.Numbers.{int_le}
 use Rattle.tail_book.specs.Seen.{ActivitySeen, TailSeen, CurfewSeen, CounterSeen, AirportSeen, RulesSeen, BookSeen}
-use Rattle.tail_book.specs.inside.Seen.{CostTableSeen}
+use Rattle.tail_book.specs.TableSeen.{CostTableSeen}
 use Rattle.tail_book.specs.inside.Sound.{is_none_or_below, IsBook}
 use Rattle.tail_book.specs.ActivityOrder.{comes_before}
-use Rattle.tail_book.specs.inside.CostTable.{cost_unit, IsCostTable}
+use Rattle.tail_book.specs.CostTable.{cost_unit, IsCostTable}
 use Rattle.tail_book.specs.declared.rules.AircraftType.{AircraftType}
 use Rattle.tail_book.specs.declared.rules.Band.{Band}
 use Rattle.tail_book.specs.declared.rules.CounterKind.{CounterKind}
 use Rattle.tail_book.specs.declared.rules.CounterKind.TheVariants.{Minutes, Landings, Days}
+use Rattle.tail_book.specs.Pairs.{each_pair}
 
 -- the number lies in the range, both ends included
 abbrev pub is_within : ℤ → ℤ → ℤ → Bool
@@ -26,11 +27,6 @@ is_moment z = is_within (pos 0) LAST_MOMENT z
 -- each number is below n
 abbrev pub are_below : ℕ → List ℕ → Bool
 are_below n numbers = list_all (λ x. nat_lt x n) numbers
-
--- the test holds of each element and each later one
-abbrev pub each_pair : {X : Type 0} → (X → X → Bool) → List X → Bool
-each_pair test [] = true
-each_pair test (x ∷ xs) = list_all (test x) xs && each_pair test xs
 
 -- an activity with these ends lasts from 1 to 2,880 minutes
 abbrev pub lasts : ℤ → ℤ → Bool

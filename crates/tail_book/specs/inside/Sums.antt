@@ -1,15 +1,6 @@
 -- Sums of whole numbers over a list, and below a number.
-use Rattle.std.specs.Prelude.{ℕ, zero, suc, ℤ, pos, ◌+ℤ◌, ◌<◌, ◌≡◌, List, [], ◌∷◌, ◌++◌, All, length, map, count_by, nat_eq, slice_index_or}
-
--- the sum of a list
-abbrev pub total : List ℤ → ℤ
-total [] = pos 0
-total (z ∷ zs) = z +ℤ total zs
-
--- f 0 + f 1 + .. + f (n - 1)
-abbrev pub sum_below : ℕ → (ℕ → ℤ) → ℤ
-sum_below zero f = pos 0
-sum_below (suc n) f = f 0 +ℤ sum_below n (λ a. f (suc a))
+use Rattle.std.specs.Prelude.{ℕ, ℤ, pos, ◌+ℤ◌, ◌<◌, ◌≡◌, List, ◌++◌, All, length, map, count_by, nat_eq, slice_index_or}
+use Rattle.tail_book.specs.Sums.{total, sum_below}
 
 -- the sum of two lists together is that of both
 abbrev pub TotalOfTwoLists : Type 0

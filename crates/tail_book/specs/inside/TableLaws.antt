@@ -1,14 +1,13 @@
 -- What the book's own costs have to do with the book, and what a legal plan costs by a table at most.
 use Rattle.std.specs.Prelude.{ℕ, ◌<◌, ◌≤◌, ◌≡◌, ◌↔◌, List, All, length}
 use Rattle.tail_book.specs.Seen.{BookSeen}
-use Rattle.tail_book.specs.inside.Seen.{CostTableSeen}
+use Rattle.tail_book.specs.TableSeen.{CostTableSeen}
 use Rattle.tail_book.specs.declared.place.Place.{Place}
 use Rattle.tail_book.specs.Lookup.{activities, aircraft}
 use Rattle.tail_book.specs.Cost.{activity_cost, connection_cost, cost_from, plan_cost}
-use Rattle.tail_book.specs.inside.CostTable.{IsCostTable, IsTableFor, activity_cost_in, connection_cost_in, cost_from_in, plan_cost_in, greatest_cost_in, costs_of}
+use Rattle.tail_book.specs.CostTable.{IsCostTable, IsTableFor, activity_cost_in, connection_cost_in, cost_from_in, plan_cost_in, greatest_cost_in, costs_of}
 use Rattle.tail_book.specs.Plan.{IsLegalPlan}
-use Rattle.tail_book.specs.inside.Truth.{IsTrueClaim, IsTrueClaimIn, IsTrueOutcomeIn}
-use Rattle.tail_book.specs.Truth.{IsTrueOutcome}
+use Rattle.tail_book.specs.Truth.{IsTrueClaim, IsTrueClaimIn, IsTrueOutcomeIn, IsTrueOutcome}
 use Rattle.tail_book.specs.declared.claim.Claim.{Claim}
 use Rattle.tail_book.specs.declared.outcome.Outcome.{Outcome}
 use Rattle.tail_book.specs.inside.Sound.{IsBook}

@@ -2,7 +2,7 @@
 //! enough. With duals in the box every reduced cost lies within 2^61 of 0, and so fits 64 bits.
 
 ghost use Rattle.std.specs.Prelude.{◌≤◌, ◌+◌, ◌*◌, ◌^◌};
-ghost use Rattle.tail_book.specs.inside.CostTable.{box_end};
+ghost use Rattle.tail_book.specs.CostTable.{box_end};
 ghost use Rattle.tail_book.specs.inside.RouteBounds.{RisingRoutesAreShort, RisingRoutesAreBelow, RoutesCostAtMost, RisingRoutesCostAtMost, RoutesCostAtMostIn, RisingRoutesCostAtMostIn, ReducedCostsAreSmall};
 
 use super::every_cost_table_is_sound;

@@ -2,6 +2,7 @@
 //! through all assignments misses none.
 
 ghost use Rattle.tail_book.specs.inside.Fliers.{RoutesByFliersRise, PlansByFliersPartition, FliersOfTheirPlan, PlansByFliersAreLegal, FliersFly, PlansOfTheirFliers};
+ghost use Rattle.tail_book.specs.inside.FlownInTurn.{RoutesAreFlownInTurn};
 
 /// A route by fliers rises.
 pub fn routes_by_fliers_rise()
@@ -31,4 +32,9 @@ pub fn fliers_fly()
 /// The plan that the fliers of a legal plan give is that plan.
 pub fn plans_of_their_fliers()
     ensures { PlansOfTheirFliers }
+{}
+
+/// The route that fliers give an aircraft is found by one pass over them.
+pub fn routes_are_flown_in_turn()
+    ensures { RoutesAreFlownInTurn }
 {}

@@ -3,7 +3,8 @@ use Rattle.std.specs.Prelude.{ℕ, Bool, false, ◌≡◌, ◌≢◌, ◌⊎◌,
 use Rattle.std.proofs.Common.{◌∙◌, refl}
 use Rattle.std.proofs.Math.Nat.{le_refl, le_trans}
 use Rattle.tail_outside.specs.Shown.{FilesShown}
-use Rattle.tail_outside.specs.Outside.{HasRisen, SameNames, OnlyRead}
+use Rattle.tail_book.specs.Faults.{HasRisen}
+use Rattle.tail_outside.specs.Outside.{SameNames, OnlyRead}
 
 -- n bytes of the file at a place stand at the front of the buffer,
 -- and there are none exactly at the end of the file or where the buffer has no room

@@ -1,13 +1,13 @@
 //! Certificates that are accepted, and certificates that fail, each at its line.
 
 use super::fixtures::{Case, assert_ends_so, by_certificate};
-use std::alloc::{AllocError, Global};
-use std::process::Abort;
-use std::test::Fail;
-use trial_texts::{
+use small_texts::{
     AT_ONCE, CHEAP_AND_DEAR, DEAR_TYPE, FLEET, LONGER_TURN, ONE_AT_ARLANDA, RULES, THERE,
     THERE_AND_BACK, TIMETABLE, Typed,
 };
+use std::alloc::{AllocError, Global};
+use std::process::Abort;
+use std::test::Fail;
 
 // A quick flight and a slow one at the same time, a cheap aircraft and a dear one.
 fn same_time<'a>(judged: &'a [&'a str]) -> Typed<'a> {

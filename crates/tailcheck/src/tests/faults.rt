@@ -1,10 +1,10 @@
 //! Reads and writes that fail.
 
 use super::fixtures::{Case, assert_ends_so, by_plan, legal_run};
+use small_texts::{BROKEN, LEGAL, MISSING, NO_PLAN, Typed};
 use std::alloc::Global;
 use std::process::Abort;
 use std::test::Fail;
-use trial_texts::{BROKEN, LEGAL, MISSING, NO_PLAN, Typed};
 
 // Which put fails, and how a run ends.
 type PutRow<'a> = (u64, u8, &'a str);

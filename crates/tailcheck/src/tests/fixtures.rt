@@ -1,13 +1,13 @@
 //! Runs on texts, each with how it has to end.
 
 use crate::run::check_run;
+use small_texts::{
+    FLEET, LEGAL, ONE_AT_ARLANDA, RULES, THERE_AND_BACK, TIMETABLE, Typed, files_of, words_of,
+};
 use std::alloc::Global;
 use std::process::Abort;
 use std::test::Fail;
 use tail_outside::{MemFile, MemFiles, MemSink};
-use trial_texts::{
-    FLEET, LEGAL, ONE_AT_ARLANDA, RULES, THERE_AND_BACK, TIMETABLE, Typed, files_of, words_of,
-};
 
 /// A run: its words, the texts of its files, the calls of the files and of the sink that fail, and how it ends.
 #[derive(Clone, Copy, Debug)]

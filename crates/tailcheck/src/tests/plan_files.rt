@@ -1,13 +1,13 @@
 //! Plan files that are refused.
 
 use super::fixtures::{assert_ends_so, by_plan, each_plan_ends_so, ends_so_over, legal_run};
+use small_texts::{
+    FLEET, ONE_AT_ARLANDA, RULES, THERE_AND_BACK, TIMETABLE, Typed, file_of, table_files, text_of,
+};
 use std::alloc::{AllocError, Global};
 use std::process::Abort;
 use std::test::Fail;
 use tail_outside::MemFile;
-use trial_texts::{
-    FLEET, ONE_AT_ARLANDA, RULES, THERE_AND_BACK, TIMETABLE, Typed, file_of, table_files, text_of,
-};
 
 // Each refusal at its line.
 #[test]

@@ -1,12 +1,12 @@
 //! Plans that are legal, and plans that break rules.
 
 use super::fixtures::{each_plan_ends_so, each_row_ends_so};
-use std::test::Fail;
-use trial_texts::{
+use small_texts::{
     AT_ONCE, CHEAP_AND_DEAR, CHECK_IN_OSLO, DAILY_CHECK, DEAR_TYPE, FOUR_FLIGHTS, FOUR_TOO_CLOSE,
     NIGHT, ONE_AT_ARLANDA, ONE_EACH, THERE_AND_BACK, THREE_LANDINGS, TWO_AT_ARLANDA, TWO_HOURS,
     WITH_A_STOP,
 };
+use std::test::Fail;
 
 // The plans of two flights and one aircraft.
 #[test]

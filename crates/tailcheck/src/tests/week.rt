@@ -1,10 +1,10 @@
 //! A week of 97 activities and six aircraft, the one of the example tables, with the plan that was made for it by hand.
 
 use super::fixtures::{assert_ends_so, by_plan};
+use small_texts::{FLEET, TIMETABLE, Typed, WEEK_AIRCRAFT, WEEK_RULES, week_records};
 use std::alloc::Global;
 use std::process::Abort;
 use std::test::Fail;
-use trial_texts::{FLEET, TIMETABLE, Typed, WEEK_AIRCRAFT, WEEK_RULES, week_records};
 
 // The route of the first aircraft, with the check between its first day and its second.
 const FIRST_ROUTE: &str =

@@ -1,10 +1,10 @@
 //! Words that are refused, and names that are taken in their places.
 
 use super::fixtures::{Case, assert_ends_so, legal_run};
+use small_texts::MISPLACED;
 use std::alloc::Global;
 use std::process::Abort;
 use std::test::Fail;
-use trial_texts::MISPLACED;
 
 // Asserts that a run of these words over the files of a legal plan ends so.
 fn assert_words_end_so<'a>(

@@ -3,11 +3,11 @@
 use super::*;
 use cert_checker::{Verdict, judge};
 use run_frame::Ran;
-use tail_book::Claim;
-use trial_texts::{
+use small_texts::{
     AT_ONCE, CHEAP_AND_DEAR, DEAR_TYPE, LONGER_TURN, THERE, THREE_LANDINGS, TWO_AT_ARLANDA,
     WITH_A_STOP,
 };
+use tail_book::Claim;
 
 /// How a run ended, what it printed, and what the certificate's file holds then.
 #[derive(Debug, Drop)]

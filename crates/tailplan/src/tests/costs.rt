@@ -1,8 +1,8 @@
 //! What a plan costs: minutes by type, a fixed amount for each activity, and bands of connections.
 
 use super::{Case, each_ends_so};
+use small_texts::{DEAR_TYPE, ONE_AT_ARLANDA, RULES, THERE, THERE_AND_BACK};
 use std::test::Fail;
-use trial_texts::{DEAR_TYPE, ONE_AT_ARLANDA, RULES, THERE, THERE_AND_BACK};
 
 #[test]
 fn costs_decide(rt: HostRuntime) -> Result<(), Fail> {

@@ -1,11 +1,11 @@
 //! Counters of minutes, landings and days: limits, bases, stops, resets and what an aircraft comes in with.
 
 use super::{Case, each_ends_so};
-use std::test::Fail;
-use trial_texts::{
+use small_texts::{
     CHECK_IN_OSLO, DAILY_CHECK, FOUR_FLIGHTS, FOUR_TOO_CLOSE, ONE_AT_ARLANDA, RULES, THERE,
     THERE_AND_BACK, THREE_LANDINGS, TWO_AT_ARLANDA, TWO_HOURS, WITH_A_STOP,
 };
+use std::test::Fail;
 
 #[test]
 fn counters_are_kept(rt: HostRuntime) -> Result<(), Fail> {

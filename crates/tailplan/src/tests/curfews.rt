@@ -1,10 +1,10 @@
 //! Curfews: windows of local minutes, for starts or for landings, of some types or of all.
 
 use super::{Case, Run, USUAL, each_ends_so, each_run_ends_so};
-use std::test::Fail;
-use trial_texts::{
+use small_texts::{
     CHEAP_AND_DEAR, DEAR_TYPE, FLEET, NIGHT, ONE_AT_ARLANDA, RULES, THERE, TIMETABLE,
 };
+use std::test::Fail;
 
 #[test]
 fn curfews_are_kept(rt: HostRuntime) -> Result<(), Fail> {

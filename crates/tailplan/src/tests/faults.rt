@@ -1,8 +1,8 @@
 //! Reads and writes that fail, and files that aren't there.
 
 use super::{Run, USUAL, WORDS, each_run_ends_so, ends_failing};
+use small_texts::THERE;
 use std::test::Fail;
-use trial_texts::THERE;
 
 // A bad timetable, which has no header, a good fleet and good rules.
 const BAD: Run<'_> = Run {

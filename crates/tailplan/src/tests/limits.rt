@@ -1,10 +1,10 @@
 //! Limits of nodes: what is printed where the search counts no more, and where it ends before.
 
 use super::{Run, USUAL, each_run_ends_so};
-use std::test::Fail;
-use trial_texts::{
+use small_texts::{
     AT_ONCE, CHEAP_AND_DEAR, DEAR_TYPE, FLEET, ONE_AT_ARLANDA, RULES, THERE, TIMETABLE,
 };
+use std::test::Fail;
 
 const NO_NODE: &[&str] = &["tailplan", "t", "f", "r", "--nodes", "0"];
 

@@ -1,8 +1,8 @@
 //! Which activity may come after which: places, turns, and time on the ground.
 
 use super::{Case, each_ends_so};
+use small_texts::{LONGER_TURN, ONE_AT_ARLANDA, RULES, THERE, THERE_AND_BACK};
 use std::test::Fail;
-use trial_texts::{LONGER_TURN, ONE_AT_ARLANDA, RULES, THERE, THERE_AND_BACK};
 
 #[test]
 fn routes_are_linked(rt: HostRuntime) -> Result<(), Fail> {

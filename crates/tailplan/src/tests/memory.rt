@@ -5,9 +5,9 @@ use super::certificates::{Asked, CERTIFIED, CROSSED, LIMITED, Left, judged, left
 use super::*;
 use cert_checker::Verdict;
 use run_frame::NO_MEMORY;
+use small_texts::{THREE_LANDINGS, TWO_AT_ARLANDA, WITH_A_STOP};
 use std::process::{ExitCode, Termination};
 use tail_book::Claim;
-use trial_texts::{THREE_LANDINGS, TWO_AT_ARLANDA, WITH_A_STOP};
 
 /// A run, the status and text that it ends with, and what is claimed then.
 #[derive(Clone, Copy)]

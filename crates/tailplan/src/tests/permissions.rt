@@ -1,8 +1,8 @@
 //! Who may fly what: types, tags, avoided airports and preassignment.
 
 use super::{Case, each_ends_so};
+use small_texts::{CHEAP_AND_DEAR, DEAR_TYPE, RULES, THERE};
 use std::test::Fail;
-use trial_texts::{CHEAP_AND_DEAR, DEAR_TYPE, RULES, THERE};
 
 #[test]
 fn permissions_are_kept(rt: HostRuntime) -> Result<(), Fail> {

@@ -1,11 +1,11 @@
 //! Least plans: what is flown by whom, in which order, and what is printed of it.
 
 use super::{Case, Run, USUAL, each_ends_so, each_run_ends_so};
-use std::test::Fail;
-use trial_texts::{
+use small_texts::{
     AT_ONCE, CHEAP_AND_DEAR, DEAR_TYPE, FLEET, ONE_AT_ARLANDA, ONE_EACH, RULES, THERE,
     THERE_AND_BACK, TIMETABLE, TWO_AT_ARLANDA,
 };
+use std::test::Fail;
 
 #[test]
 fn least_plans_are_printed(rt: HostRuntime) -> Result<(), Fail> {

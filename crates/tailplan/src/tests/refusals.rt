@@ -1,12 +1,12 @@
 //! Refusals: each code at its place, and of two faults the one that is looked at first.
 
 use super::{Case, Run, USUAL, WORDS, each_ends_so, each_run_ends_so, ends_over};
-use std::alloc::Global;
-use std::test::Fail;
-use trial_texts::{
+use small_texts::{
     FLEET, ONE_AT_ARLANDA, RULES, THERE, THERE_AND_BACK, TIMETABLE, files_holding, table_files,
     text_of,
 };
+use std::alloc::Global;
+use std::test::Fail;
 
 const ARLANDA_AGAIN: &str = "[[airport]]\nname = \"ARN\"\noffset = 0\nturn = 0\n";
 

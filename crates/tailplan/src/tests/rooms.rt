@@ -2,10 +2,10 @@
 
 use super::{WORDS, usual_files};
 use crate::run::solve_run;
+use small_texts::{THERE_AND_BACK, TIMETABLE, text_of, words_of};
 use std::alloc::Global;
 use std::test::Fail;
 use tail_outside::{Files, SureFiles, SureSink};
-use trial_texts::{THERE_AND_BACK, TIMETABLE, text_of, words_of};
 
 // Whether a run over these files and a sink of so much room ends so.
 fn ends_within(

@@ -8,12 +8,12 @@ use branch_tree::Limit;
 use cert_checker::{Verdict, judge};
 use certified_search::certified_search;
 use run_frame::{Finding, NO_MEMORY};
+use small_texts::{FLEET, ONE_AT_ARLANDA, RULES, Seen, THERE_AND_BACK, TIMETABLE};
 use std::alloc::Global;
 use std::process::Abort;
 use std::test::Fail;
 use tail_book::{Book, Claim, CostTable, Memory, Outcome};
 use tail_outside::{MemFile, MemFiles, MemSink};
-use trial_texts::{FLEET, ONE_AT_ARLANDA, RULES, Seen, THERE_AND_BACK, TIMETABLE};
 
 const TRIAL: &[&str] = &["tailplan", "trial", "1"];
 

@@ -3,10 +3,10 @@
 use super::certificates::verdict_on;
 use super::{WORDS, seen_over};
 use cert_checker::Verdict;
+use small_texts::{FLEET, Seen, TIMETABLE, WEEK_AIRCRAFT, WEEK_RULES, table_files, week_records};
 use std::alloc::Global;
 use std::test::Fail;
 use tail_book::Claim;
-use trial_texts::{FLEET, Seen, TIMETABLE, WEEK_AIRCRAFT, WEEK_RULES, table_files, week_records};
 
 // How many lines a run printed.
 fn lines_of(seen: &Seen) -> u32 {

@@ -1,9 +1,9 @@
 //! The words of a run: which are taken, and what is printed for others.
 
 use super::{Run, USAGE, USUAL, each_run_ends_so, ends_over, push_text, seen_over, usual_files};
+use small_texts::{THERE_AND_BACK, TIMETABLE};
 use std::alloc::Global;
 use std::test::Fail;
-use trial_texts::{THERE_AND_BACK, TIMETABLE};
 
 // Words that name no three tables are refused, and no file is asked for: there is none.
 #[test]

@@ -1,8 +1,8 @@
 //! Reads and writes that fail.
 
 use super::fixtures::{WORDS, run_failing};
+use small_texts::{BROKEN, LEGAL, MISSING, NO_PLAN, files_of};
 use std::test::Fail;
-use trial_texts::{BROKEN, LEGAL, MISSING, NO_PLAN, files_of};
 
 // A write that fails ends a run, whichever line it is that of.
 #[test]

@@ -1,10 +1,10 @@
 //! Runs on texts.
 
 use crate::run::view_run;
+use small_texts::{ONE_AT_ARLANDA, Seen, THERE_AND_BACK, files_with, words_of};
 use std::alloc::Global;
 use std::test::Fail;
 use tail_outside::{MemFile, MemFiles, MemSink};
-use trial_texts::{ONE_AT_ARLANDA, Seen, THERE_AND_BACK, files_with, words_of};
 
 /// A run over these files, where these calls of the files and of the sink fail.
 pub fn run_failing(

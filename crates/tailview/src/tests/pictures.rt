@@ -1,11 +1,11 @@
 //! What is drawn: each kind of bar, what is marked between bars, and each broken rule.
 
 use super::fixtures::{run_failing, run_there_and_back, run_with};
-use std::alloc::Global;
-use std::test::Fail;
-use trial_texts::{
+use small_texts::{
     LEGAL, ONE_AT_ARLANDA, RULES, Seen, THERE_AND_BACK, TWO_AT_ARLANDA, Typed, files_of,
 };
+use std::alloc::Global;
+use std::test::Fail;
 
 // The picture of two flights: the cost, the aircraft, both bars at their minutes, and the turn between them.
 #[test]

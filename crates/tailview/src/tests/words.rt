@@ -1,9 +1,9 @@
 //! Words that are refused, and names that are taken in their places.
 
 use super::fixtures::run_failing;
+use small_texts::{LEGAL, MISPLACED, Seen, files_of};
 use std::alloc::Global;
 use std::test::Fail;
-use trial_texts::{LEGAL, MISPLACED, Seen, files_of};
 
 fn run_as(alloc: Global, words: &[&str]) -> Result<Seen, Fail> {
     run_failing(alloc, words, files_of(alloc, LEGAL)?, &[], &[])

@@ -1,7 +1,7 @@
 -- What judging reads of a book: the tables that its costs, its counters and its network give.
 use Rattle.std.specs.Prelude.{◌≡◌}
 use Rattle.tail_book.specs.Seen.{BookSeen}
-use Rattle.tail_book.specs.inside.CostTable.{costs_of}
+use Rattle.tail_book.specs.CostTable.{costs_of}
 use Rattle.maint_counters.specs.inside.StepTable.{IsStepTableOf}
 use Rattle.connection_net.specs.Net.{net_of}
 use Rattle.tree_tests.specs.declared.means.Means.{Means}

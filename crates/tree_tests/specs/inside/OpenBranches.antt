@@ -5,8 +5,8 @@ use Rattle.branch_marks.specs.Branches.{first_branch, second_branch}
 use Rattle.branch_marks.specs.Facts.{IsFactOf}
 use Rattle.branch_marks.specs.declared.fact.Fact.{Fact}
 use Rattle.branch_marks.specs.declared.fact.Pair.{Pair}
-use Rattle.branch_marks.specs.inside.BranchTests.{is_undecided}
-use Rattle.branch_marks.specs.inside.FactTests.{has_fact}
+use Rattle.branch_marks.specs.Undecided.{is_undecided}
+use Rattle.branch_marks.specs.FactTests.{has_fact}
 use Rattle.branch_marks.specs.inside.MarkTables.{AreMarksOf}
 use Rattle.tree_tests.specs.declared.branches.Branches.{Branches}
 use Rattle.tree_tests.specs.declared.branches.Owed.{Owed}

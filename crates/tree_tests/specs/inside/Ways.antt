@@ -6,7 +6,7 @@ use Rattle.tail_book.specs.declared.place.Place.TheVariants.{Carry, After}
 use Rattle.tail_book.specs.Lookup.{activities, aircraft}
 use Rattle.connection_net.specs.Net.{net_of, heads_in, successors_in}
 use Rattle.branch_marks.specs.declared.fact.Fact.{Fact}
-use Rattle.branch_marks.specs.inside.MarkTests.{is_usable}
+use Rattle.branch_marks.specs.MarkTests.{is_usable}
 
 -- from the carry-in to the heads of aircraft k, and from an activity to its successors
 abbrev pub ways_of : BookSeen → ℕ → Place → List ℕ

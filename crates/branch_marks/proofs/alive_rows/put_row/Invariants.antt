@@ -1,5 +1,5 @@
 use Rattle.std.specs.Prelude.{◌&&◌, ◌||◌, nat_eq, nat_lt}
-use Rattle.tail_book.specs.inside.Tests.{is_allowed}
+use Rattle.tail_book.specs.LegalTests.{is_allowed}
 use Rattle.branch_marks.specs.inside.BitRows.{AreChanged}
 use Rattle.branch_marks.proofs.alive_rows.put_row.Given as goal
 

@@ -2,7 +2,7 @@ use Rattle.std.proofs.Common.{◌≡◌, ◌∙◌, ◌+◌, ℕ, ℤ, rules, Li
 use Rattle.std.proofs.lemmas.List.{length_push}
 use Rattle.std.proofs.lemmas.List.Elements.{All-push}
 use Rattle.std.specs.Prelude.{All}
-use Rattle.tail_book.specs.inside.CostTable.{IsInBox}
+use Rattle.tail_book.specs.CostTable.{IsInBox}
 use Rattle.branch_tree.proofs.first_duals.first_duals.Goals as goal
 
 -- one dual more

@@ -1,6 +1,6 @@
 use Rattle.std.proofs.Common.{◌≡◌, length}
 use Rattle.std.specs.Prelude.{All}
-use Rattle.tail_book.specs.inside.CostTable.{IsInBox}
+use Rattle.tail_book.specs.CostTable.{IsInBox}
 use Rattle.branch_tree.proofs.first_duals.first_duals.Given as goal
 
 -- a dual in the box for each activity so far

@@ -1,7 +1,8 @@
 use Rattle.std.proofs.Common.{◌≡◌, ◌∙◌, ◌+◌, ◌<◌, ℕ, ℤ, pos, ◌+ℤ◌, arith, List, [], ◌∷◌, length, take, get_or, ap}
 use Rattle.std.proofs.lemmas.Int.{ints}
 use Rattle.std.proofs.lemmas.List.{take_more}
-use Rattle.tail_book.specs.inside.Sums.{total, TotalOfTwoLists}
+use Rattle.tail_book.specs.Sums.{total}
+use Rattle.tail_book.specs.inside.Sums.{TotalOfTwoLists}
 use Rattle.branch_tree.proofs.leaf.total_of.Goals as goal
 
 alone_total : (z : ℤ) → total (z ∷ []) ≡ z

@@ -1,5 +1,5 @@
 use Rattle.std.proofs.Common.{◌≡◌, ◌*◌, ◌^◌, pos, ◌+ℤ◌, ◌≤ℤ◌, take}
-use Rattle.tail_book.specs.inside.Sums.{total}
+use Rattle.tail_book.specs.Sums.{total}
 use Rattle.branch_tree.proofs.leaf.total_of.Given as goal
 
 -- the values before the next one are added, and each is of 64 bits

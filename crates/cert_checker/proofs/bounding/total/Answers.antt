@@ -1,7 +1,7 @@
 use Rattle.std.proofs.Common.{◌≡◌, ◌+◌, ◌<◌, ◌+ℤ◌, ℕ, ℤ, pos, arith, List, length, drop, get_or, ap}
 use Rattle.std.proofs.lemmas.Int.{ints}
 use Rattle.std.proofs.lemmas.List.{drop_more}
-use Rattle.tail_book.specs.inside.Sums.{total}
+use Rattle.tail_book.specs.Sums.{total}
 use Rattle.cert_checker.proofs.bounding.total.Goals as goal
 
 total_left : (xs : List ℤ) (i : ℕ) → i < length xs → total (drop i xs) ≡ get_or xs i (pos 0) +ℤ total (drop (i + 1) xs)

@@ -1,6 +1,6 @@
 use Rattle.std.proofs.Common.{◌≡◌, ◌*◌, ◌^◌, drop, pos, ◌≤ℤ◌}
 use Rattle.std.specs.Prelude.{◌+ℤ◌}
-use Rattle.tail_book.specs.inside.Sums.{total}
+use Rattle.tail_book.specs.Sums.{total}
 use Rattle.cert_checker.proofs.bounding.total.Given as goal
 
 -- the duals that are left complete the sum, which is small so far

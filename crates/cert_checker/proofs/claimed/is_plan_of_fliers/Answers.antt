@@ -1,10 +1,10 @@
 use Rattle.std.proofs.Common.{◌≡◌, ◌∙◌, ℕ, None, Option, ap, List, length, sym, rules, subst}
 use Rattle.std.specs.Prelude.{◌==◌, ◌&&◌}
 use Rattle.tail_book.specs.Cost.{plan_cost}
-use Rattle.tail_book.specs.inside.CostTable.{IsTableFor}
-use Rattle.tail_book.specs.inside.Fliers.{plan_by}
-use Rattle.tail_book.specs.inside.Seen.{CostTableSeen}
-use Rattle.tail_book.specs.inside.Tests.{is_legal_plan}
+use Rattle.tail_book.specs.CostTable.{IsTableFor}
+use Rattle.tail_book.specs.Fliers.{plan_by}
+use Rattle.tail_book.specs.TableSeen.{CostTableSeen}
+use Rattle.tail_book.specs.LegalTests.{is_legal_plan}
 use Rattle.plan_audit.specs.inside.PlanCost.{IsPlanCost}
 use Rattle.cert_checker.proofs.Planned.{audited_is, unaudited_is}
 use Rattle.cert_checker.proofs.claimed.is_plan_of_fliers.Goals as goal

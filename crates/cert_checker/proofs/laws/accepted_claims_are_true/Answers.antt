@@ -1,7 +1,7 @@
 use Rattle.std.proofs.Common.{arith, subst, ◌≤◌, ℕ, List}
 use Rattle.tail_book.specs.Cost.{plan_cost}
 use Rattle.tail_book.specs.Plan.{IsLegalPlan}
-use Rattle.tail_book.specs.inside.CostTable.{costs_of}
+use Rattle.tail_book.specs.CostTable.{costs_of}
 use Rattle.cert_checker.specs.Certificate.{asked_of}
 use Rattle.cert_checker.proofs.Accepted.{claim_is_line, claim_true}
 use Rattle.cert_checker.proofs.laws.accepted_claims_are_true.Goals as goal

@@ -1,5 +1,5 @@
 use Rattle.std.proofs.Common.{◌∙◌, ◌++◌, ℕ, [], ◌∷◌, subst}
-use Rattle.tail_book.specs.inside.Seen.{CostTableSeen}
+use Rattle.tail_book.specs.TableSeen.{CostTableSeen}
 use Rattle.tail_outside.specs.Outside.{Adds, AddsFront}
 use Rattle.branch_tree.specs.Begun.{IsBegunFrom}
 use Rattle.branch_tree.specs.NodeEvents.{events_of}

@@ -1,4 +1,4 @@
-use Rattle.tail_book.specs.inside.CostTable.{costs_of}
+use Rattle.tail_book.specs.CostTable.{costs_of}
 use Rattle.tail_book.proofs.TableCosts.{own_costs_sound}
 use Rattle.certified_search.proofs.Accepted.{accepted}
 use Rattle.certified_search.proofs.laws.search_trees_are_accepted.Goals as goal

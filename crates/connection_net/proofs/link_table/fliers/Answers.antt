@@ -1,7 +1,7 @@
 use Rattle.std.proofs.Common.{◌∙◌, ◌≡◌, ap, arith, rules}
 use Rattle.std.specs.Prelude.{◌&&◌, nat_lt}
 use Rattle.tail_book.specs.Lookup.{aircraft}
-use Rattle.tail_book.specs.inside.Tests.{is_allowed}
+use Rattle.tail_book.specs.LegalTests.{is_allowed}
 use Rattle.connection_net.proofs.Links.{allowed_is_below}
 use Rattle.connection_net.proofs.link_table.fliers.Goals as goal
 

@@ -1,7 +1,7 @@
 use Rattle.std.proofs.Common.{◌≡◌, take}
 use Rattle.std.specs.List.{filter}
 use Rattle.tail_book.specs.declared.place.Place.TheVariants.{Carry}
-use Rattle.tail_book.specs.inside.Tests.{is_link}
+use Rattle.tail_book.specs.LegalTests.{is_link}
 use Rattle.connection_net.proofs.net.put_first.Given as goal
 
 -- those of the numbers so far

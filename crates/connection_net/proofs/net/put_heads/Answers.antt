@@ -1,7 +1,7 @@
 use Rattle.std.proofs.Common.{◌≡◌}
 use Rattle.std.specs.List.{filter}
 use Rattle.tail_book.specs.declared.place.Place.TheVariants.{Carry}
-use Rattle.tail_book.specs.inside.Tests.{is_link}
+use Rattle.tail_book.specs.LegalTests.{is_link}
 use Rattle.connection_net.specs.Net.{heads_of}
 use Rattle.connection_net.proofs.Among.{heads_among}
 use Rattle.connection_net.proofs.net.put_heads.Goals as goal

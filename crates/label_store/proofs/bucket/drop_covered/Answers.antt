@@ -1,6 +1,6 @@
 use Rattle.std.proofs.Common.{◌≡◌, ◌<◌, ◌≤◌, ◌*◌, arith, rules, length, get_or, set, take, ◌∙◌, ap, ap₂, sym, subst, true, false, refl}
 use Rattle.std.specs.Prelude.{not}
-use Rattle.tail_book.specs.inside.Order.{each_at_most}
+use Rattle.tail_book.specs.CounterOrder.{each_at_most}
 use Rattle.label_store.specs.Buckets.{stays_beside}
 use Rattle.label_store.specs.inside.Packing.{part, IsPacked, HasMoved}
 use Rattle.label_store.proofs.Compaction.{compact_keep, compact_drop, same_compacts, compacted}

@@ -1,6 +1,6 @@
 use Rattle.std.proofs.Common.{◌≡◌, drop, length}
-use Rattle.tail_book.specs.inside.Tests.{is_legal_route, is_legal_from}
-use Rattle.tail_book.specs.inside.Place.{IsPlaceOf}
+use Rattle.tail_book.specs.LegalTests.{is_legal_route, is_legal_from}
+use Rattle.tail_book.specs.Place.{IsPlaceOf}
 use Rattle.maint_counters.specs.inside.Counts.{AreCounts}
 use Rattle.maint_counters.proofs.legal_route.walk.Given as goal
 

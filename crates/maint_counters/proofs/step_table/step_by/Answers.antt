@@ -1,7 +1,7 @@
 use Rattle.std.proofs.Common.{subst, IsTrue, pos, ◌+◌, ◌^◌, ◌≤ℤ◌}
 use Rattle.std.proofs.lemmas.List.Elements.{All-weaker}
 use Rattle.tail_book.specs.Counters.{WithinLimits}
-use Rattle.tail_book.specs.inside.Sound.{IsWithin}
+use Rattle.tail_book.specs.Ranges.{IsWithin}
 use Rattle.maint_counters.proofs.CountLemmas.{counts_of}
 use Rattle.maint_counters.proofs.step_table.step_by.Goals as goal
 

@@ -6,7 +6,7 @@ use Rattle.std.specs.Prelude.{◌&&◌, FitsSigned}
 use Rattle.tail_book.specs.Lookup.{start_of}
 use Rattle.tail_book.specs.Numbers.{int_le}
 use Rattle.tail_book.specs.Link.{free_from}
-use Rattle.tail_book.specs.inside.Sound.{IsWithin}
+use Rattle.tail_book.specs.Ranges.{IsWithin}
 use Rattle.tail_book.specs.Counters.{step_one}
 use Rattle.maint_counters.specs.inside.StepTable.{counter_of, no_counter}
 use Rattle.maint_counters.proofs.StepLemmas.{step_from-more, within_limits-more}

@@ -1,6 +1,6 @@
 use Rattle.std.proofs.Common.{◌≡◌, ◌≤◌, ℕ, pos, ◌++◌, take, drop, get_or}
 use Rattle.tail_book.specs.Counters.{step_from}
-use Rattle.tail_book.specs.inside.Tests.{within_limits}
+use Rattle.tail_book.specs.LegalTests.{within_limits}
 use Rattle.maint_counters.specs.inside.Counts.{GrowByAStep}
 use Rattle.turn_rules.specs.inside.FreeBefore.{IsFreeBefore}
 use Rattle.maint_counters.proofs.step_table.step_rows.Given as goal

@@ -1,6 +1,6 @@
 use Rattle.std.proofs.Common.{◌≡◌, ◌∙◌, sym, ap, rules, true, false, arith, ◌<◌, ◌≤◌, length}
 use Rattle.tail_book.specs.Lookup.{aircraft}
-use Rattle.tail_book.specs.inside.Tests.{is_legal_route}
+use Rattle.tail_book.specs.LegalTests.{is_legal_route}
 use Rattle.plan_audit.proofs.Deciding.{routes-refused, routes-legal, route-more, read-route}
 use Rattle.plan_audit.proofs.legal_plan.are_legal_routes.Goals as goal
 

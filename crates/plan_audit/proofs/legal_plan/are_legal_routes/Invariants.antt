@@ -1,6 +1,6 @@
 use Rattle.std.proofs.Common.{◌≡◌, ◌<◌, ℕ, true, length}
 use Rattle.tail_book.specs.Plan.{route_of}
-use Rattle.tail_book.specs.inside.Tests.{is_legal_route}
+use Rattle.tail_book.specs.LegalTests.{is_legal_route}
 use Rattle.plan_audit.proofs.legal_plan.are_legal_routes.Given as goal
 
 -- the routes so far are legal

@@ -1,5 +1,5 @@
 use Rattle.std.proofs.Common.{◌≡◌, ◌+◌, drop}
-use Rattle.tail_book.specs.inside.CostTable.{plan_cost_in, cost_of_routes_in}
+use Rattle.tail_book.specs.CostTable.{plan_cost_in, cost_of_routes_in}
 use Rattle.plan_audit.proofs.plan_cost.plan_cost.Given as goal
 
 -- the cost so far, and that of the routes that are left

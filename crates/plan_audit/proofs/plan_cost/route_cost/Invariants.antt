@@ -1,6 +1,6 @@
 use Rattle.std.proofs.Common.{◌≡◌, ◌+◌, drop}
-use Rattle.tail_book.specs.inside.CostTable.{route_cost_in, cost_from_in}
-use Rattle.tail_book.specs.inside.Place.{IsPlaceOf}
+use Rattle.tail_book.specs.CostTable.{route_cost_in, cost_from_in}
+use Rattle.tail_book.specs.Place.{IsPlaceOf}
 use Rattle.plan_audit.proofs.plan_cost.route_cost.Given as goal
 
 -- the cost so far, and that of the rest of the route

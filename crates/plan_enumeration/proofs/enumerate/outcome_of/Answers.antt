@@ -2,7 +2,7 @@ use Rattle.std.proofs.Common.{◌≡◌, ◌∙◌, List, ℕ, ap, rules, subst,
 use Rattle.tail_book.specs.Lookup.{aircraft}
 use Rattle.tail_book.specs.Truth.{IsTrueOutcome}
 use Rattle.tail_book.specs.declared.outcome.Outcome.TheVariants as outcome
-use Rattle.tail_book.specs.inside.Fliers.{plan_by}
+use Rattle.tail_book.specs.Fliers.{plan_by}
 use Rattle.plan_enumeration.proofs.Truth.{best_is_least, none_is_legal}
 use Rattle.plan_enumeration.proofs.enumerate.outcome_of.Goals as goal
 

@@ -1,6 +1,6 @@
 use Rattle.std.proofs.Common.{◌≡◌, ◌++◌, drop}
 use Rattle.tail_book.specs.declared.place.Place.TheVariants.{Carry}
-use Rattle.tail_book.specs.inside.Place.{IsPlaceOf}
+use Rattle.tail_book.specs.Place.{IsPlaceOf}
 use Rattle.plan_picture.specs.Rows.{route_lines}
 use Rattle.plan_picture.proofs.rows.add_route.Given as goal
 

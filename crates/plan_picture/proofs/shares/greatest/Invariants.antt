@@ -1,5 +1,5 @@
 use Rattle.std.proofs.Common.{◌≡◌, drop, length}
-use Rattle.tail_book.specs.inside.Place.{IsPlaceOf}
+use Rattle.tail_book.specs.Place.{IsPlaceOf}
 use Rattle.maint_counters.specs.inside.Counts.{AreCountable}
 use Rattle.plan_picture.specs.Shares.{greatest, greatest_from}
 use Rattle.plan_picture.proofs.shares.greatest.Given as goal

@@ -2,7 +2,7 @@ use Rattle.std.proofs.Common.{◌∙◌, ℤ, pos, ◌-ℤ◌, ◌^◌, List, ru
 use Rattle.std.specs.Prelude.{IsTrue}
 use Rattle.std.proofs.lemmas.Int.{to_z-of_z}
 use Rattle.tail_book.specs.declared.place.Place.{Place}
-use Rattle.tail_book.specs.inside.Sound.{IsWithin}
+use Rattle.tail_book.specs.Ranges.{IsWithin}
 use Rattle.pricing.specs.Rows.{weight_of}
 use Rattle.pricing.specs.inside.Truth.{IsNext, place_of, row_after}
 use Rattle.pricing.proofs.fill.try_row.Goals as goal

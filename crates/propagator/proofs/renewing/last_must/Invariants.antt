@@ -1,7 +1,7 @@
 use Rattle.std.proofs.Common.{◌≡◌, ◌<◌, ◌≤◌, ◌-◌, true}
 use Rattle.tail_book.specs.Lookup.{activities}
 use Rattle.branch_marks.specs.declared.fact.Fact.TheVariants.{Must}
-use Rattle.branch_marks.specs.inside.FactTests.{has_fact}
+use Rattle.branch_marks.specs.FactTests.{has_fact}
 use Rattle.propagator.specs.inside.CutOff.{IsCutOff}
 use Rattle.propagator.proofs.renewing.last_must.Given as goal
 

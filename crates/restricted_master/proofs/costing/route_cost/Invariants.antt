@@ -1,6 +1,6 @@
 use Rattle.std.proofs.Common.{◌≡◌, ◌+◌, ◌*◌, ◌≤◌, drop}
-use Rattle.tail_book.specs.inside.CostTable.{cost_from_in, route_cost_in}
-use Rattle.tail_book.specs.inside.Place.{IsPlaceOf}
+use Rattle.tail_book.specs.CostTable.{cost_from_in, route_cost_in}
+use Rattle.tail_book.specs.Place.{IsPlaceOf}
 use Rattle.restricted_master.proofs.costing.route_cost.Given as goal
 
 -- what is left is missing, and each activity adds at most both maxima

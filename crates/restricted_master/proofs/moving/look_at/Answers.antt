@@ -1,6 +1,6 @@
 use Rattle.std.proofs.Common.{◌≡◌, ◌<◌, ◌∙◌, ◌+ℤ◌, ◌≤ℤ◌, ℤ, List, Option, Some, None, w64, to_z, of_z, arith, pos, ap, sym, subst, refl, rules, length}
 use Rattle.std.proofs.lemmas.Int.{ints}
-use Rattle.tail_book.specs.inside.CostTable.{cost_unit}
+use Rattle.tail_book.specs.CostTable.{cost_unit}
 use Rattle.branch_marks.specs.Pool.{sum_in}
 use Rattle.branch_marks.specs.Weights.{dual}
 use Rattle.restricted_master.specs.inside.Choices.{IsBetter}

@@ -1,7 +1,7 @@
 use Rattle.std.proofs.Common.{◌∙◌, ap, pos, arith}
 use Rattle.std.proofs.lemmas.Int.{ints}
 use Rattle.tail_book.specs.Lookup.{activities}
-use Rattle.tail_book.specs.inside.Sums.{total}
+use Rattle.tail_book.specs.Sums.{total}
 use Rattle.branch_marks.specs.Pool.{sum_in}
 use Rattle.restricted_master.specs.inside.Least.{greatest_sum}
 use Rattle.restricted_master.proofs.Climbing.{room_falls, some_is, sweeps_false, sweeps_no_less, sweeps_same_sum, sweeps_true}

@@ -1,6 +1,6 @@
 use Rattle.std.proofs.Common.{◌≡◌, ◌<◌, ◌≤ℤ◌, ◌+ℤ◌, ℕ, pos, true, false, length}
 use Rattle.tail_book.specs.Lookup.{aircraft}
-use Rattle.tail_book.specs.inside.CostTable.{cost_unit}
+use Rattle.tail_book.specs.CostTable.{cost_unit}
 use Rattle.branch_marks.specs.Pool.{sum_in}
 use Rattle.restricted_master.specs.inside.Least.{IsWeighed}
 use Rattle.restricted_master.specs.inside.Moving.{is_due, IsWork}

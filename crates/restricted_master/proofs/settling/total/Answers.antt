@@ -2,7 +2,7 @@ use Rattle.std.proofs.Common.{◌≡◌, ◌<◌, ◌+ℤ◌, ◌+◌, ◌^◌, 
 use Rattle.std.proofs.lemmas.Int.{ints}
 use Rattle.std.proofs.lemmas.List.{drop_more}
 use Rattle.std.specs.Int.{w128}
-use Rattle.tail_book.specs.inside.Sums.{total}
+use Rattle.tail_book.specs.Sums.{total}
 use Rattle.restricted_master.proofs.settling.total.Goals as goal
 
 added : (list : List ℤ) (i : ℕ) (sum : ℤ) → i < length list → (sum +ℤ total (drop i list)) ≡ total list

@@ -1,6 +1,6 @@
 use Rattle.std.proofs.Common.{◌≡◌, ◌+ℤ◌, ◌-ℤ◌, ◌*◌, ◌^◌, pos, drop}
-use Rattle.tail_book.specs.inside.Sound.{IsWithin}
-use Rattle.tail_book.specs.inside.Sums.{total}
+use Rattle.tail_book.specs.Ranges.{IsWithin}
+use Rattle.tail_book.specs.Sums.{total}
 use Rattle.restricted_master.proofs.settling.total.Given as goal
 
 -- what is left is missing; and each number adds at most 2^63

@@ -1,5 +1,5 @@
 use Rattle.std.proofs.Common.{◌≡◌, ◌+ℤ◌, ◌-ℤ◌, ◌*◌, ◌+◌, ◌^◌, pos, drop}
-use Rattle.tail_book.specs.inside.Sound.{IsWithin}
+use Rattle.tail_book.specs.Ranges.{IsWithin}
 use Rattle.restricted_master.specs.inside.Choices.{all_taken, part_at}
 use Rattle.restricted_master.proofs.switching.part_at.Given as goal
 

@@ -1,6 +1,6 @@
 use Rattle.std.proofs.Common.{arith}
 use Rattle.tail_book.specs.Allowed.{IsAllowed}
-use Rattle.tail_book.specs.inside.Tests.{is_allowed}
+use Rattle.tail_book.specs.LegalTests.{is_allowed}
 use Rattle.sample_calls.proofs.Found.{found-next}
 use Rattle.sample_calls.proofs.fliers.who_may_fly.Goals as goal
 

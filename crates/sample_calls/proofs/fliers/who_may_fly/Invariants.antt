@@ -1,4 +1,4 @@
-use Rattle.tail_book.specs.inside.Tests.{is_allowed}
+use Rattle.tail_book.specs.LegalTests.{is_allowed}
 use Rattle.sample_calls.proofs.Found.{AreFound}
 use Rattle.sample_calls.proofs.fliers.who_may_fly.Given as goal
 

@@ -1,6 +1,6 @@
 use Rattle.std.proofs.Common.{arith, sym}
 use Rattle.std.proofs.Math.Numerals.{add-one}
-use Rattle.tail_book.specs.inside.CostTable.{activity_costs}
+use Rattle.tail_book.specs.CostTable.{activity_costs}
 use Rattle.tail_book.proofs.Rows.{rows_more}
 use Rattle.tail_book.proofs.cost_table.costs_of_all.Goals as goal
 

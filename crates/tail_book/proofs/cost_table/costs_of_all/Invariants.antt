@@ -1,6 +1,6 @@
 use Rattle.std.proofs.Common.{◌≡◌}
 use Rattle.std.specs.List.{flat_map, range_with_len}
-use Rattle.tail_book.specs.inside.CostTable.{activity_costs}
+use Rattle.tail_book.specs.CostTable.{activity_costs}
 use Rattle.tail_book.proofs.cost_table.costs_of_all.Given as goal
 
 -- the costs of the aircraft so far

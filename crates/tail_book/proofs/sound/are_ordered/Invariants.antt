@@ -1,6 +1,6 @@
 use Rattle.std.proofs.Common.{◌≡◌, length}
 use Rattle.tail_book.specs.ActivityOrder.{comes_before}
-use Rattle.tail_book.specs.inside.SoundTests.{each_pair}
+use Rattle.tail_book.specs.Pairs.{each_pair}
 use Rattle.tail_book.proofs.sound.are_ordered.Given as goal
 
 -- what is left decides

@@ -1,5 +1,5 @@
 use Rattle.std.proofs.Common.{◌≡◌, not, bytes_eq, length}
-use Rattle.tail_book.specs.inside.SoundTests.{each_pair}
+use Rattle.tail_book.specs.Pairs.{each_pair}
 use Rattle.tail_book.proofs.sound.names_differ.Given as goal
 
 -- what is left decides

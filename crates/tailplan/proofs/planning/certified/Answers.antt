@@ -2,7 +2,7 @@ use Rattle.std.proofs.Common.{[], Result, IfOk, inr, refl, ap, subst}
 use Rattle.std.specs.Prelude.{unwrap_or}
 use Rattle.tail_book.specs.Truth.{IsTrueOutcome}
 use Rattle.tail_book.specs.declared.outcome.Outcome.{Outcome}
-use Rattle.tail_book.specs.inside.CostTable.{costs_of}
+use Rattle.tail_book.specs.CostTable.{costs_of}
 use Rattle.tail_outside.specs.inside.OverFile.{shown_over}
 use Rattle.branch_tree.specs.SearchTree.{IsSearchTree, SearchTree}
 use Rattle.branch_tree.specs.declared.stop.Stop.{Stop}

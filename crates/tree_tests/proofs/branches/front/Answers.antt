@@ -1,9 +1,8 @@
-use Rattle.std.proofs.Common.{List, [], sym, subst}
+use Rattle.std.proofs.Common.{List, [], sym, subst, ◌≡◌, ◌<◌, false, arith, length}
 use Rattle.std.specs.Prelude.{slice_index_or}
 use Rattle.branch_marks.specs.declared.fact.Fact.{Fact}
 use Rattle.branch_marks.specs.declared.fact.Fact.TheVariants.{Bar}
-use Rattle.branch_marks.specs.inside.FactTests.{has_fact}
-use Rattle.std.proofs.Common.{◌≡◌, ◌<◌, false, arith, length}
+use Rattle.branch_marks.specs.FactTests.{has_fact}
 use Rattle.tree_tests.proofs.BranchLists.{once_at}
 use Rattle.tree_tests.proofs.branches.front.Goals as goal
 

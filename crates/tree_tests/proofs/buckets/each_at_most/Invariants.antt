@@ -1,5 +1,5 @@
 use Rattle.std.proofs.Common.{◌≡◌, drop}
-use Rattle.tail_book.specs.inside.Order.{each_at_most}
+use Rattle.tail_book.specs.CounterOrder.{each_at_most}
 use Rattle.tree_tests.proofs.buckets.each_at_most.Given as goal
 
 -- the values that are left decide

@@ -3,7 +3,7 @@ use Rattle.std.specs.Prelude.{slice_index_or}
 use Rattle.std.proofs.lemmas.Int.{to_z-of_z}
 use Rattle.std.proofs.lemmas.List.{get_or_default}
 use Rattle.branch_marks.specs.Labels.{Label}
-use Rattle.branch_marks.specs.inside.FamilyTests.{is_covered_by}
+use Rattle.branch_marks.specs.FamilyTests.{is_covered_by}
 use Rattle.tree_tests.specs.inside.Buckets.{at_in, no_label}
 use Rattle.tree_tests.proofs.Bucketed.{behind_earlier, later_cover_nothing, one_less_by}
 use Rattle.tree_tests.proofs.buckets.is_covered.Goals as goal

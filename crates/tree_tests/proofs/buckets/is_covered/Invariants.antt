@@ -1,6 +1,6 @@
 use Rattle.std.proofs.Common.{◌<◌, ◌≤◌, ◌≡◌, length, drop}
 use Rattle.std.specs.List.{list_any}
-use Rattle.branch_marks.specs.inside.FamilyTests.{covers, is_covered_by}
+use Rattle.branch_marks.specs.FamilyTests.{covers, is_covered_by}
 use Rattle.tree_tests.specs.inside.Buckets.{at_in}
 use Rattle.tree_tests.proofs.buckets.is_covered.Given as goal
 

@@ -3,7 +3,7 @@ use Rattle.std.proofs.Common.{◌≡◌, drop}
 use Rattle.std.specs.List.{list_all}
 use Rattle.tail_book.specs.Numbers.{int_le}
 use Rattle.tail_book.specs.declared.place.Place.TheVariants.{After}
-use Rattle.branch_marks.specs.inside.MarkTests.{may_end}
+use Rattle.branch_marks.specs.MarkTests.{may_end}
 use Rattle.tree_tests.proofs.covering.ends_at_least.Given as goal
 
 -- the labels from i on decide

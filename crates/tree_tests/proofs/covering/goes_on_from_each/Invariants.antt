@@ -1,8 +1,8 @@
 use Rattle.std.proofs.Common.{◌≡◌, drop}
 use Rattle.std.specs.List.{list_all}
 use Rattle.tail_book.specs.declared.place.Place.TheVariants.{After}
-use Rattle.tail_book.specs.inside.CostTable.{costs_of}
-use Rattle.branch_marks.specs.inside.FamilyTests.{goes_on}
+use Rattle.tail_book.specs.CostTable.{costs_of}
+use Rattle.branch_marks.specs.FamilyTests.{goes_on}
 use Rattle.tree_tests.proofs.covering.goes_on_from_each.Given as goal
 
 -- the labels from i on decide

@@ -2,7 +2,7 @@ use Rattle.std.specs.Prelude.{not}
 use Rattle.std.proofs.Common.{◌≡◌, drop}
 use Rattle.std.specs.List.{list_all}
 use Rattle.tail_book.specs.declared.place.Place.TheVariants.{After}
-use Rattle.branch_marks.specs.inside.MarkTests.{may_end}
+use Rattle.branch_marks.specs.MarkTests.{may_end}
 use Rattle.tree_tests.proofs.covering.has_no_end.Given as goal
 
 -- the labels from i on decide

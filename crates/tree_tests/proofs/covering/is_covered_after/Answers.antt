@@ -2,10 +2,10 @@ use Rattle.std.specs.Prelude.{◌+ℤ◌}
 use Rattle.std.specs.Int.{w64, w128}
 use Rattle.std.proofs.Common.{◌≡◌, ◌∙◌, ℤ, ap, of_z, rules, to_z}
 use Rattle.std.proofs.lemmas.Int.{to_z-of_z}
-use Rattle.tail_book.specs.inside.CostTable.{costs_of}
-use Rattle.tail_book.specs.inside.Seen.{CostTableSeen}
+use Rattle.tail_book.specs.CostTable.{costs_of}
+use Rattle.tail_book.specs.TableSeen.{CostTableSeen}
 use Rattle.branch_marks.specs.Weights.{arc_weight}
-use Rattle.branch_marks.specs.inside.FamilyTests.{is_covered_by}
+use Rattle.branch_marks.specs.FamilyTests.{is_covered_by}
 use Rattle.tree_tests.proofs.covering.is_covered_after.Goals as goal
 
 -- what is asked for is the weight behind the link

@@ -2,11 +2,11 @@ use Rattle.std.specs.Prelude.{◌+ℤ◌}
 use Rattle.std.proofs.Common.{◌≡◌, ◌∙◌, ℤ, true, List, ap, sym, subst}
 use Rattle.std.proofs.lemmas.Int.{to_z-of_z}
 use Rattle.tail_book.specs.Counters.{step}
-use Rattle.tail_book.specs.inside.CostTable.{costs_of}
-use Rattle.tail_book.specs.inside.Tests.{within_limits}
+use Rattle.tail_book.specs.CostTable.{costs_of}
+use Rattle.tail_book.specs.LegalTests.{within_limits}
 use Rattle.branch_marks.specs.Weights.{arc_weight}
-use Rattle.branch_marks.specs.inside.FamilyTests.{is_covered_by}
-use Rattle.branch_marks.specs.inside.MarkTests.{is_usable}
+use Rattle.branch_marks.specs.FamilyTests.{is_covered_by}
+use Rattle.branch_marks.specs.MarkTests.{is_usable}
 use Rattle.tree_tests.proofs.MetWays.{met_open}
 use Rattle.tree_tests.proofs.covering.is_met.Goals as goal
 

@@ -1,6 +1,6 @@
 use Rattle.branch_marks.specs.Following.{IsDead}
 use Rattle.branch_marks.specs.declared.fact.Fact.TheVariants.{Bar}
-use Rattle.branch_marks.specs.inside.FollowingTests.{follows}
+use Rattle.branch_marks.specs.FollowingTests.{follows}
 use Rattle.tree_tests.proofs.FollowingTold.{one_test}
 use Rattle.tree_tests.proofs.following.bar_follows.Goals as goal
 

@@ -1,6 +1,6 @@
 use Rattle.branch_marks.specs.Following.{IsOnlyCarrier}
 use Rattle.branch_marks.specs.declared.fact.Fact.TheVariants.{Must}
-use Rattle.branch_marks.specs.inside.FollowingTests.{follows}
+use Rattle.branch_marks.specs.FollowingTests.{follows}
 use Rattle.tree_tests.proofs.FollowingTold.{one_test}
 use Rattle.tree_tests.proofs.following.must_follows.Goals as goal
 

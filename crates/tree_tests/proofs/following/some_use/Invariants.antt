@@ -1,7 +1,7 @@
 use Rattle.std.proofs.Common.{◌≡◌}
 use Rattle.tail_book.specs.declared.place.Place.TheVariants.{After}
-use Rattle.branch_marks.specs.inside.Below.{some_below}
-use Rattle.branch_marks.specs.inside.MarkTests.{is_usable}
+use Rattle.branch_marks.specs.Below.{some_below}
+use Rattle.branch_marks.specs.MarkTests.{is_usable}
 use Rattle.tree_tests.proofs.following.some_use.Given as goal
 
 -- the aircraft below k decide

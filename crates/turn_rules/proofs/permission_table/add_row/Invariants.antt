@@ -1,6 +1,6 @@
 use Rattle.std.proofs.Common.{◌≡◌, ◌++◌, map}
 use Rattle.std.specs.List.{range_with_len}
-use Rattle.tail_book.specs.inside.Tests.{is_allowed}
+use Rattle.tail_book.specs.LegalTests.{is_allowed}
 use Rattle.turn_rules.proofs.permission_table.add_row.Given as goal
 
 -- the answers for the activities so far stand behind those for the aircraft before

@@ -1,5 +1,5 @@
 use Rattle.std.proofs.Common.{arith, ◌+◌}
-use Rattle.tail_book.specs.inside.CostTable.{greatest_cost_in}
+use Rattle.tail_book.specs.CostTable.{greatest_cost_in}
 use Rattle.branch_marks.proofs.laws.showing.shown_trees_refute.Goals as goal
 
 pub returns : goal.returns

@@ -1,5 +1,5 @@
 use Rattle.std.specs.List.{list_all}
-use Rattle.branch_marks.specs.inside.MarkTests.{may_end}
+use Rattle.branch_marks.specs.MarkTests.{may_end}
 use Rattle.branch_marks.specs.inside.MarkParts.{first_after, is_no_must_in, ties_nothing}
 use Rattle.branch_marks.proofs.Parts.{end_parts, first_fails, second_decides}
 use Rattle.branch_marks.proofs.marks.Marks.ends_at.Goals as goal

@@ -1,7 +1,7 @@
 use Rattle.std.specs.List.{list_all}
 use Rattle.std.specs.Prelude.{◌&&◌}
 use Rattle.tail_book.specs.Link.{is_connected}
-use Rattle.branch_marks.specs.inside.MarkTests.{is_alive, is_alive_at, is_usable, lets_go}
+use Rattle.branch_marks.specs.MarkTests.{is_alive, is_alive_at, is_usable, lets_go}
 use Rattle.branch_marks.proofs.Parts.{usable_parts, first_fails, second_decides}
 use Rattle.branch_marks.proofs.marks.Marks.is_usable.Goals as goal
 

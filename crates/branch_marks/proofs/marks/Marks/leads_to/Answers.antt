@@ -2,7 +2,7 @@ use Rattle.std.proofs.Common.{◌≡◌, ◌∙◌, ◌<◌, arith, false, nat_l
 use Rattle.std.proofs.lemmas.Bool.{false_from_ne_true}
 use Rattle.std.proofs.lemmas.Bool.Decides.{nat_tests}
 use Rattle.tail_book.specs.Lookup.{activities}
-use Rattle.branch_marks.specs.inside.MarkTests.{is_usable}
+use Rattle.branch_marks.specs.MarkTests.{is_usable}
 use Rattle.branch_marks.proofs.marks.Marks.leads_to.Goals as goal
 
 -- a number that is no activity's is linked from nowhere

@@ -1,6 +1,6 @@
 use Rattle.std.specs.List.{list_all}
 use Rattle.std.specs.Prelude.{◌&&◌}
-use Rattle.branch_marks.specs.inside.MarkTests.{lets_go}
+use Rattle.branch_marks.specs.MarkTests.{lets_go}
 use Rattle.branch_marks.specs.inside.MarkParts.{first_after, is_no_must_in, leaves_link, ties_only}
 use Rattle.branch_marks.proofs.Parts.{go_parts, first_fails, second_decides}
 use Rattle.branch_marks.proofs.marks.Marks.lets_go.Goals as goal

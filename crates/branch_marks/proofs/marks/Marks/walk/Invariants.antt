@@ -1,6 +1,6 @@
 use Rattle.std.proofs.Common.{◌≡◌, drop}
-use Rattle.tail_book.specs.inside.Place.{IsPlaceOf}
-use Rattle.branch_marks.specs.inside.MarkTests.{fits, fits_from}
+use Rattle.tail_book.specs.Place.{IsPlaceOf}
+use Rattle.branch_marks.specs.MarkTests.{fits, fits_from}
 use Rattle.branch_marks.proofs.marks.Marks.walk.Given as goal
 
 -- what is left decides, from a place of the book

@@ -1,6 +1,6 @@
 use Rattle.std.proofs.Common.{◌∙◌, ap, sym, List, ℤ}
 use Rattle.std.specs.Prelude.{◌+ℤ◌}
-use Rattle.tail_book.specs.inside.Sums.{total}
+use Rattle.tail_book.specs.Sums.{total}
 use Rattle.branch_marks.specs.Bound.{rounded_up}
 use Rattle.cert_checker.specs.Judging.{lower}
 use Rattle.cert_checker.proofs.Closing.{close_bound, close_short}

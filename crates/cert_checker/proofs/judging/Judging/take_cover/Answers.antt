@@ -2,7 +2,7 @@ use Rattle.std.proofs.Common.{◌≡◌, ◌∙◌, ◌+◌, ◌*◌, ◌^◌, �
 use Rattle.std.specs.Prelude.{◌-ℤ◌, not}
 use Rattle.std.specs.Int.{w128}
 use Rattle.std.proofs.lemmas.Int.{to_z-of_z}
-use Rattle.tail_book.specs.inside.Sound.{IsWithin}
+use Rattle.tail_book.specs.Ranges.{IsWithin}
 use Rattle.cert_checker.proofs.Keeping.{begun_leaf, cover_place, more_values, owes_alone}
 use Rattle.cert_checker.proofs.judging.Judging.take_cover.Goals as goal
 

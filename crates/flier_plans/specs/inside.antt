@@ -1,2 +1,0 @@
--- What only proofs, and calls further in, cite.
-pub mod FlownInTurn

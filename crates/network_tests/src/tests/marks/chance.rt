@@ -1,0 +1,182 @@
+//! Marks by chance: the tables say what a walk over the facts says.
+
+ghost use Rattle.branch_marks.specs.inside.MarkTables.{AreMarksOf};
+
+use super::{book, is_place_of};
+use branch_marks::{Fact, Marks};
+use dice::Dice;
+use small_books::marks;
+use std::alloc::Global;
+use std::test::Fail;
+use tail_book::*;
+use turn_rules::{allowed, link};
+
+fn fact(dice: &mut Dice) -> Fact {
+    match dice.below(4) {
+        0 => Fact::Bar(dice.below(2), dice.below(5)),
+        1 => Fact::Must(dice.below(2), dice.below(5)),
+        2 => Fact::Cut(dice.below(5), dice.below(5)),
+        _ => Fact::Tie(dice.below(5), dice.below(5)),
+    }
+}
+
+fn facts(dice: &mut Dice, alloc: Global) -> Result<Vec<Fact>, Memory> {
+    let mut facts = Vec::new(alloc);
+    for _ in 0..dice.below(7) {
+        facts.push(fact(dice))?;
+    }
+    Ok(facts)
+}
+
+fn is_at(from: Place, a: u32) -> bool {
+    from == Place::After(a)
+}
+
+fn is_before(from: Place, a: u32) -> bool {
+    match from {
+        Place::Carry => true,
+        Place::After(x) => x < a,
+    }
+}
+
+// What one fact says, as the definition has it.
+fn lets_fly(fact: &Fact, k: u32, a: u32) -> bool {
+    match *fact {
+        Fact::Bar(j, c) => j != k || c != a,
+        Fact::Must(j, c) => c != a || j == k,
+        _ => true,
+    }
+}
+
+fn lets_go(fact: &Fact, k: u32, from: Place, b: u32) -> bool {
+    match *fact {
+        Fact::Bar(_, _) => true,
+        Fact::Must(j, c) => j != k || !is_before(from, c) || b <= c,
+        Fact::Cut(c, d) => !is_at(from, c) || d != b,
+        Fact::Tie(c, d) => is_at(from, c) == (d == b),
+    }
+}
+
+fn lets_end(fact: &Fact, k: u32, from: Place) -> bool {
+    match *fact {
+        Fact::Must(j, c) => j != k || !is_before(from, c),
+        Fact::Tie(c, _) => !is_at(from, c),
+        _ => true,
+    }
+}
+
+fn walk_alive(may: bool, facts: &[Fact], k: u32, a: u32) -> bool {
+    for fact in facts {
+        if !lets_fly(fact, k, a) {
+            return false;
+        }
+    }
+    may
+}
+
+fn walk_go(linked: bool, facts: &[Fact], k: u32, from: Place, b: u32) -> bool {
+    for fact in facts {
+        if !lets_go(fact, k, from, b) {
+            return false;
+        }
+    }
+    linked
+}
+
+fn walk_alive_at(facts: &[Fact], k: u32, from: Place) -> bool {
+    match from {
+        Place::Carry => true,
+        Place::After(x) => walk_alive(true, facts, k, x),
+    }
+}
+
+fn walk_end(facts: &[Fact], k: u32, from: Place) -> bool {
+    for fact in facts {
+        if !lets_end(fact, k, from) {
+            return false;
+        }
+    }
+    true
+}
+
+// Whether the tables say of a link what the walk says, and whether it is usable; nothing where it is none of the book.
+fn link_as_walked(book: &Book, marks: &Marks, link_of: (u32, Place, u32)) -> Option<(bool, bool)>
+    requires { AreMarksOf book.now marks.now }
+{
+    let (k, from, b) = link_of;
+    if k as usize >= book.tails.len() || b as usize >= book.activities.len() {
+        return None;
+    }
+    if !is_place_of(book, from) {
+        return None;
+    }
+    let want = walk_go(link(book, k, from, b), marks.facts(), k, from, b)
+        && walk_alive_at(marks.facts(), k, from)
+        && walk_alive(true, marks.facts(), k, b);
+    Some((marks.usable(book, k, from, b) == want, want))
+}
+
+// The same of an activity and of a route's end there.
+fn end_as_walked(book: &Book, marks: &Marks, k: u32, a: u32) -> Option<(bool, bool)>
+    requires { AreMarksOf book.now marks.now }
+{
+    if k as usize >= book.tails.len() || a as usize >= book.activities.len() {
+        return None;
+    }
+    let (alive, place) = (
+        walk_alive(allowed(book, k, a), marks.facts(), k, a),
+        Place::After(a),
+    );
+    let ends = walk_end(marks.facts(), k, place);
+    Some((
+        marks.alive(book, k, a) == alive,
+        marks.may_end(book, k, place) == ends,
+    ))
+}
+
+// The same of a route's end at the carry-in.
+fn carry_as_walked(book: &Book, marks: &Marks, k: u32) -> Option<bool>
+    requires { AreMarksOf book.now marks.now }
+{
+    if k as usize >= book.tails.len() {
+        return None;
+    }
+    Some(marks.may_end(book, k, Place::Carry) == walk_end(marks.facts(), k, Place::Carry))
+}
+
+// Marks with these facts, for an aircraft: whether all answers are as walked, and how many links are usable.
+fn compare(alloc: Global, book: &Book, facts: &[Fact], k: u32) -> Result<(bool, u32), Fail> {
+    let marks = marks(alloc, book, facts)?;
+    let (mut same, mut usable) = (carry_as_walked(book, &marks, k) == Some(true), 0u32);
+    for b in 0..book.activities.len() as u32 {
+        same &= end_as_walked(book, &marks, k, b) == Some((true, true));
+        for x in 0..book.activities.len() as u32 {
+            let from = if x == b {
+                Place::Carry
+            } else {
+                Place::After(x)
+            };
+            let answer = link_as_walked(book, &marks, (k, from, b));
+            same &= answer == Some((true, true)) || answer == Some((true, false));
+            usable = usable.saturating_add((answer == Some((true, true))) as u32);
+        }
+    }
+    Ok((same, usable))
+}
+
+// Of 200 lists of up to six facts, some questions are answered yes and some no.
+#[test]
+fn tables_say_what_the_facts_say(rt: HostRuntime) -> Result<(), Fail> {
+    let book = book(rt.alloc())?;
+    let (mut dice, mut usable) = (Dice::new(1), 0u32);
+    for _ in 0..200 {
+        let facts = facts(&mut dice, rt.alloc())?;
+        for k in 0..2 {
+            let (same, found) = compare(rt.alloc(), &book, &facts, k)?;
+            assert!(rt; same, "{facts:?}: aircraft {k}");
+            usable = usable.saturating_add(found);
+        }
+    }
+    assert!(rt; usable > 500 && usable < 5000, "{usable} usable");
+    Ok(())
+}

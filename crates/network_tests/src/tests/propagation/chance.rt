@@ -1,0 +1,758 @@
+//! Books and marks by chance, beside a plain and slow program: each fact that is added follows in its turn, those about all
+//! aircraft wait for the floors, nothing is left, and no legal plan that keeps the marks is lost.
+
+ghost use Rattle.std.specs.Prelude.{◌≡◌, ◌<◌, List};
+ghost use Rattle.connection_net.specs.Net.{net_of};
+ghost use Rattle.branch_marks.specs.inside.MarkTables.{AreMarksOf};
+ghost use Rattle.branch_marks.specs.declared.fact.Fact.{Fact as MarkFact};
+ghost use Rattle.propagator.specs.Keeping.{IsKeptFor, IsMadeFor};
+
+use super::{closed, made};
+use branch_marks::{Fact, Marks};
+use connection_net::Net;
+use dice::Dice;
+use propagator::laws::kept_for_more;
+use propagator::{Closed, Propagator, close};
+use small_books::{Row, activities, flight, rules, tails};
+use std::alloc::Global;
+use std::test::Fail;
+use tail_book::*;
+use turn_rules::{allowed, link};
+
+// A fact, of which some are not of the book.
+fn fact_by(dice: &mut Dice) -> Fact {
+    match dice.below(6) {
+        0 => Fact::Bar(dice.below(3), dice.below(6)),
+        1 | 2 => Fact::Must(dice.below(3), dice.below(6)),
+        3 => Fact::Tie(dice.below(6), dice.below(6)),
+        _ => Fact::Cut(dice.below(6), dice.below(6)),
+    }
+}
+
+fn facts_by(alloc: Global, dice: &mut Dice) -> Result<Vec<Fact>, Memory> {
+    let mut facts = Vec::new(alloc);
+    for _ in 0..dice.below(4) {
+        facts.push(fact_by(dice))?;
+    }
+    Ok(facts)
+}
+
+// Minutes flown and landings, cleared by stops at ARN, and at both airports.
+fn two_counters(alloc: Global, dice: &mut Dice) -> Result<Vec<Counter>, Memory> {
+    let (hours, landings) = (
+        Name::new(b"hours".as_slice()),
+        Name::new(b"landings".as_slice()),
+    );
+    let stop = 30 + dice.below(120) as i64;
+    let (limit, most) = (120 + dice.below(60) as i64, 1 + dice.below(3) as i64);
+    let mut counters = Vec::new(alloc);
+    let rows: &[(Name, CounterKind, i64, &[u32], i64)] = &[
+        (hours, CounterKind::Minutes, limit, &[0], stop),
+        (landings, CounterKind::Landings, most, &[0, 1], 100),
+    ];
+    for &(name, kind, limit, bases, stop) in rows {
+        counters.push(Counter {
+            name,
+            kind,
+            limit,
+            bases: Vec::from_slice(alloc, bases)?,
+            stop,
+        })?;
+    }
+    Ok(counters)
+}
+
+// One to three aircraft.
+fn few_tails(alloc: Global, dice: &mut Dice) -> Result<Vec<Tail>, Memory> {
+    let (mut fleet, many) = (tails(alloc, &[0, 0, 0], 2)?, 1 + dice.below(3) as usize);
+    for k in 0..3 {
+        let carry = vec![in alloc; dice.below(60) as i64, dice.below(2) as i64]?;
+        let at = dice.below(2);
+        if let Some(tail) = fleet.get_mut(k) {
+            (tail.at, tail.carry) = (at, carry);
+        }
+    }
+    fleet.truncate(many);
+    Ok(fleet)
+}
+
+// Six flights of up to an hour and a half, each a while after the one before.
+fn six_flights(alloc: Global, dice: &mut Dice) -> Result<Vec<Row>, Memory> {
+    let (mut rows, mut start) = (Vec::new(alloc), 1000i64);
+    for _ in 0..6 {
+        let (from, long) = (dice.below(2), 20 + dice.below(70) as i64);
+        rows.push(flight((from, 1 - from), (start, start.saturating_add(long))))?;
+        start = start.saturating_add(1 + dice.below(120) as i64);
+    }
+    Ok(rows)
+}
+
+fn book_by_chance(alloc: Global, dice: &mut Dice) -> Result<Book, Fail> {
+    let rules = rules(alloc, 20, two_counters(alloc, dice)?, Vec::new(alloc))?;
+    let fleet = few_tails(alloc, dice)?;
+    made(activities(alloc, &six_flights(alloc, dice)?)?, fleet, rules)
+}
+
+// Two values, of the hours and of the landings.
+type Pair = (i64, i64);
+
+fn free(book: &Book, k: u32, from: Place) -> i64 {
+    match from {
+        Place::Carry => book.tails.get(k as usize).map_or(0, |t| t.ready),
+        Place::After(x) => book.activities.get(x as usize).map_or(0, |a| a.end),
+    }
+}
+
+fn carried(book: &Book, k: u32) -> Pair {
+    let carry = |c: usize| book
+        .tails
+        .get(k as usize)
+        .and_then(|t| t.carry.get(c))
+        .copied();
+    (carry(0).unwrap_or(0), carry(1).unwrap_or(0))
+}
+
+// What a counter is after an activity, and whether that is within its limit.
+fn counted(book: &Book, k: u32, from: Place, b: u32, c: usize, value: i64) -> (i64, bool) {
+    let (Some(counter), Some(activity)) = (
+        book.rules.counters.get(c),
+        book.activities.get(b as usize),
+    ) else {
+        return (0, false);
+    };
+    let stop = activity.start.saturating_sub(free(book, k, from));
+    let kept = if counter.bases.contains(&activity.from) && stop >= counter.stop {
+        0
+    } else {
+        value
+    };
+    let more = if c == 0 {
+        activity.end.saturating_sub(activity.start)
+    } else {
+        1
+    };
+    let value = kept.saturating_add(more);
+    (value, value <= counter.limit)
+}
+
+fn stepped(book: &Book, k: u32, from: Place, b: u32, values: Pair) -> Option<Pair> {
+    let (hours, fresh) = counted(book, k, from, b, 0, values.0);
+    let (landings, few) = counted(book, k, from, b, 1, values.1);
+    if fresh && few {
+        Some((hours, landings))
+    } else {
+        None
+    }
+}
+
+fn is_before(from: Place, a: u32) -> bool {
+    match from {
+        Place::Carry => true,
+        Place::After(x) => x < a,
+    }
+}
+
+fn lets_fly(fact: &Fact, k: u32, a: u32) -> bool {
+    match *fact {
+        Fact::Bar(j, c) => j != k || c != a,
+        Fact::Must(j, c) => c != a || j == k,
+        _ => true,
+    }
+}
+
+fn lets_go(fact: &Fact, k: u32, from: Place, b: u32) -> bool {
+    match *fact {
+        Fact::Bar(_, _) => true,
+        Fact::Must(j, c) => j != k || !is_before(from, c) || b <= c,
+        Fact::Cut(c, d) => from != Place::After(c) || d != b,
+        Fact::Tie(c, d) => (from == Place::After(c)) == (d == b),
+    }
+}
+
+fn lets_end(fact: &Fact, k: u32, from: Place) -> bool {
+    match *fact {
+        Fact::Must(j, c) => j != k || !is_before(from, c),
+        Fact::Tie(c, _) => from != Place::After(c),
+        _ => true,
+    }
+}
+
+fn alive(book: &Book, facts: &[Fact], k: u32, a: u32) -> bool {
+    if k as usize >= book.tails.len() || a as usize >= book.activities.len() {
+        return false;
+    }
+    for fact in facts {
+        if !lets_fly(fact, k, a) {
+            return false;
+        }
+    }
+    allowed(book, k, a)
+}
+
+fn linked(book: &Book, k: u32, from: Place, b: u32) -> bool {
+    if k as usize >= book.tails.len() || b as usize >= book.activities.len() {
+        return false;
+    }
+    match from {
+        Place::Carry => link(book, k, Place::Carry, b),
+        Place::After(x) => (x as usize) < book.activities.len()
+            && link(book, k, Place::After(x), b),
+    }
+}
+
+fn usable(book: &Book, facts: &[Fact], k: u32, from: Place, b: u32) -> bool {
+    for fact in facts {
+        if !lets_go(fact, k, from, b) {
+            return false;
+        }
+    }
+    let before = match from {
+        Place::Carry => true,
+        Place::After(x) => alive(book, facts, k, x),
+    };
+    before && alive(book, facts, k, b) && linked(book, k, from, b)
+}
+
+fn may_end(facts: &[Fact], k: u32, from: Place) -> bool {
+    for fact in facts {
+        if !lets_end(fact, k, from) {
+            return false;
+        }
+    }
+    true
+}
+
+// What a place brings to an activity.
+fn brought(
+    book: &Book,
+    facts: &[Fact],
+    k: u32,
+    from: Place,
+    b: u32,
+    floor: Option<Pair>,
+) -> Option<Pair> {
+    let values = floor?;
+    if usable(book, facts, k, from, b) {
+        stepped(book, k, from, b, values)
+    } else {
+        None
+    }
+}
+
+fn least(one: Option<Pair>, other: Option<Pair>) -> Option<Pair> {
+    match (one, other) {
+        (Some(v), Some(w)) => Some((v.0.min(w.0), v.1.min(w.1))),
+        (None, floor) => floor,
+        (floor, None) => floor,
+    }
+}
+
+fn floor_of(floors: &[Option<Pair>], a: u32) -> Option<Pair> {
+    floors.get(a as usize).copied().flatten()
+}
+
+fn floors(alloc: Global, book: &Book, facts: &[Fact], k: u32) -> Result<Vec<Option<Pair>>, Memory> {
+    let mut floors = Vec::new(alloc);
+    for b in 0..6 {
+        let mut floor = brought(book, facts, k, Place::Carry, b, Some(carried(book, k)));
+        for x in 0..b {
+            floor = least(
+                floor,
+                brought(book, facts, k, Place::After(x), b, floor_of(&floors, x)),
+            );
+        }
+        floors.push(floor)?;
+    }
+    Ok(floors)
+}
+
+fn goes_on(book: &Book, facts: &[Fact], k: u32, a: u32, floor: Option<Pair>) -> bool {
+    for b in 0..6 {
+        if brought(book, facts, k, Place::After(a), b, floor).is_some() {
+            return true;
+        }
+    }
+    false
+}
+
+// Dead on arrival, or a dead end.
+fn is_dead(alloc: Global, book: &Book, facts: &[Fact], k: u32, a: u32) -> Result<bool, Memory> {
+    let floor = floor_of(&floors(alloc, book, facts, k)?, a);
+    let stuck = !may_end(facts, k, Place::After(a)) && !goes_on(book, facts, k, a, floor);
+    Ok(alive(book, facts, k, a) && (floor.is_none() || stuck))
+}
+
+fn is_only_carrier(book: &Book, facts: &[Fact], k: u32, a: u32) -> bool {
+    for j in 0..3 {
+        if facts.contains(&Fact::Must(j, a)) || (j != k && alive(book, facts, j, a)) {
+            return false;
+        }
+    }
+    alive(book, facts, k, a)
+}
+
+fn is_dead_connection(
+    alloc: Global,
+    book: &Book,
+    facts: &[Fact],
+    a: u32,
+    b: u32,
+) -> Result<bool, Memory> {
+    let mut used = false;
+    for k in 0..3 {
+        if usable(book, facts, k, Place::After(a), b) {
+            let floor = floor_of(&floors(alloc, book, facts, k)?, a);
+            if brought(book, facts, k, Place::After(a), b, floor).is_some() {
+                return Ok(false);
+            }
+            used = true;
+        }
+    }
+    Ok(used && !facts.contains(&Fact::Cut(a, b)))
+}
+
+fn follows(alloc: Global, book: &Book, facts: &[Fact], fact: Fact) -> Result<bool, Memory> {
+    match fact {
+        Fact::Bar(k, a) => is_dead(alloc, book, facts, k, a),
+        Fact::Must(k, a) => Ok(is_only_carrier(book, facts, k, a)),
+        Fact::Cut(a, b) => is_dead_connection(alloc, book, facts, a, b),
+        Fact::Tie(_, _) => Ok(false),
+    }
+}
+
+// Whether something is dead for some aircraft.
+fn is_any_dead(alloc: Global, book: &Book, facts: &[Fact]) -> Result<bool, Memory> {
+    for k in 0..3 {
+        for a in 0..6 {
+            if is_dead(alloc, book, facts, k, a)? {
+                return Ok(true);
+            }
+        }
+    }
+    Ok(false)
+}
+
+// Whether anything follows at all.
+fn is_open(alloc: Global, book: &Book, facts: &[Fact]) -> Result<bool, Memory> {
+    for a in 0..6 {
+        for k in 0..3 {
+            if is_only_carrier(book, facts, k, a) {
+                return Ok(true);
+            }
+        }
+        for b in 0..6 {
+            if is_dead_connection(alloc, book, facts, a, b)? {
+                return Ok(true);
+            }
+        }
+    }
+    is_any_dead(alloc, book, facts)
+}
+
+// Whether the facts follow one after the other, those about all aircraft only where nothing is dead, and nothing is left.
+fn is_closed(alloc: Global, book: &Book, facts: &[Fact], added: &[Fact]) -> Result<bool, Memory> {
+    let mut so_far = Vec::from_slice(alloc, facts)?;
+    for fact in added {
+        let waits = match *fact {
+            Fact::Bar(_, _) => true,
+            _ => !is_any_dead(alloc, book, &so_far)?,
+        };
+        if !waits || so_far.contains(fact) || !follows(alloc, book, &so_far, *fact)? {
+            return Ok(false);
+        }
+        so_far.push(*fact)?;
+    }
+    Ok(!is_open(alloc, book, &so_far)?)
+}
+
+// The least activity that nobody may fly.
+fn least_hole(book: &Book, facts: &[Fact]) -> Closed {
+    for a in 0..6 {
+        if !alive(book, facts, 0, a) && !alive(book, facts, 1, a) && !alive(book, facts, 2, a) {
+            return Closed::Hole(a);
+        }
+    }
+    Closed::Fixed
+}
+
+// A plan as the aircraft of each activity.
+type Fliers = [u32; 6];
+
+fn flier(fliers: &Fliers, a: u32) -> u32 {
+    fliers.get(a as usize).copied().unwrap_or(9)
+}
+
+// How many plans there are for so many aircraft.
+fn plans_of(many: u32) -> u32 {
+    match many {
+        1 => 1,
+        2 => 64,
+        _ => 729,
+    }
+}
+
+// The plan of a number: its digits, of which there are as many as aircraft.
+fn plan(number: u32, many: u32) -> Fliers
+    requires { 0 < many }
+{
+    let (mut fliers, mut left) = ([0; 6], number);
+    for a in 0..6 {
+        fliers[a] = left % many;
+        left = left / many;
+    }
+    fliers
+}
+
+fn joined(fliers: &Fliers, a: u32, b: u32) -> bool {
+    for c in 0..6 {
+        if a < c && c < b && flier(fliers, c) == flier(fliers, a) {
+            return false;
+        }
+    }
+    a < b && flier(fliers, a) == flier(fliers, b)
+}
+
+fn holds(fact: &Fact, fliers: &Fliers) -> bool {
+    match *fact {
+        Fact::Bar(k, a) => flier(fliers, a) != k,
+        Fact::Must(k, a) => flier(fliers, a) == k,
+        Fact::Cut(a, b) => !joined(fliers, a, b),
+        Fact::Tie(a, b) => joined(fliers, a, b),
+    }
+}
+
+fn hold_all(facts: &[Fact], fliers: &Fliers) -> bool {
+    for fact in facts {
+        if !holds(fact, fliers) {
+            return false;
+        }
+    }
+    true
+}
+
+fn is_legal_route(book: &Book, fliers: &Fliers, k: u32) -> bool {
+    let (mut from, mut values) = (Place::Carry, carried(book, k));
+    for a in 0..6 {
+        if flier(fliers, a) == k {
+            let Some(next) = stepped(book, k, from, a, values) else {
+                return false;
+            };
+            if !linked(book, k, from, a) {
+                return false;
+            }
+            (from, values) = (Place::After(a), next);
+        }
+    }
+    true
+}
+
+// How many legal plans keep the marks, and whether one of them does not keep what was added.
+fn plans(book: &Book, facts: &[Fact], added: &[Fact]) -> (u32, bool) {
+    let (many, mut found, mut lost) = ((book.tails.len() as u32).max(1), 0u32, false);
+    for number in 0..plans_of(many) {
+        let fliers = plan(number, many);
+        let legal = is_legal_route(book, &fliers, 0)
+            && is_legal_route(book, &fliers, 1)
+            && is_legal_route(book, &fliers, 2);
+        if legal && hold_all(facts, &fliers) {
+            found = found.saturating_add(1);
+            lost |= !hold_all(added, &fliers);
+        }
+    }
+    (found, lost)
+}
+
+// The facts of the list that are of the book.
+fn of_book(alloc: Global, book: &Book, facts: &[Fact]) -> Result<Vec<Fact>, Memory> {
+    let mut kept = Vec::new(alloc);
+    for fact in facts {
+        if fact.is_of(book) && !kept.contains(fact) {
+            kept.push(*fact)?;
+        }
+    }
+    Ok(kept)
+}
+
+// How many of each kind were added, how many plans there were, and how many times each activity had somebody.
+#[derive(Debug, Drop)]
+struct Seen {
+    bars: u32,
+    musts: u32,
+    cuts: u32,
+    plans: u32,
+    fixed: u32,
+}
+
+impl Seen {
+    fn new() -> Seen {
+        Seen {
+            bars: 0,
+            musts: 0,
+            cuts: 0,
+            plans: 0,
+            fixed: 0,
+        }
+    }
+
+    fn count(&mut self, fact: &Fact) {
+        match *fact {
+            Fact::Bar(_, _) => self.bars = self.bars.saturating_add(1),
+            Fact::Must(_, _) => self.musts = self.musts.saturating_add(1),
+            _ => self.cuts = self.cuts.saturating_add(1),
+        }
+    }
+
+    fn note(&mut self, added: &[Fact], plans: u32, answer: Closed) {
+        for fact in added {
+            self.count(fact);
+        }
+        self.plans = self.plans.saturating_add(plans);
+        self.fixed = self.fixed.saturating_add((answer == Closed::Fixed) as u32);
+    }
+
+    fn is_often(&self) -> bool {
+        self.bars > 1000 && self.musts > 100 && self.cuts > 20
+    }
+
+    fn is_varied(&self) -> bool {
+        self.is_often() && self.plans > 20 && self.fixed > 20 && self.fixed < 280
+    }
+}
+
+// What is found of a book: whether each fact that was added followed in its turn and none is left, whether each legal plan
+// that keeps the marks keeps these facts, and whether the answer is right.
+#[derive(Debug, PartialEq, Drop)]
+struct Judged {
+    follow: bool,
+    keep: bool,
+    told: bool,
+}
+
+const RIGHT: Judged = Judged {
+    follow: true,
+    keep: true,
+    told: true,
+};
+
+// The facts of two lists.
+fn both(alloc: Global, facts: &[Fact], added: &[Fact]) -> Result<Vec<Fact>, Memory> {
+    let mut all = Vec::from_slice(alloc, facts)?;
+    for fact in added {
+        all.push(*fact)?;
+    }
+    Ok(all)
+}
+
+// What is found of a book with some facts, to which these were added, and what there was to be found.
+fn judge(
+    alloc: Global,
+    book: &Book,
+    facts: &[Fact],
+    added: &[Fact],
+    answer: Closed,
+    seen: &mut Seen,
+) -> Result<Judged, Memory> {
+    let (found, lost) = plans(book, facts, added);
+    let all = both(alloc, facts, added)?;
+    seen.note(added, found, answer);
+    Ok(Judged {
+        follow: is_closed(alloc, book, facts, added)?,
+        keep: !lost,
+        told: answer == least_hole(book, &all),
+    })
+}
+
+fn judge_by_chance(alloc: Global, dice: &mut Dice, seen: &mut Seen) -> Result<Judged, Fail> {
+    let book = book_by_chance(alloc, dice)?;
+    let facts = of_book(alloc, &book, &facts_by(alloc, dice)?)?;
+    let (added, answer) = closed(alloc, &book, &facts)?;
+    Ok(judge(alloc, &book, &facts, &added, answer, seen)?)
+}
+
+// 300 books with up to three facts. Each kind of fact is added often, there are plans to be lost, and both answers come.
+#[test]
+fn closed_as_the_rules_say(rt: HostRuntime) -> Result<(), Fail> {
+    let (mut dice, mut seen) = (Dice::new(3), Seen::new());
+    for round in 0..300 {
+        let judged = judge_by_chance(rt.alloc(), &mut dice, &mut seen)?;
+        assert!(rt; judged == RIGHT, "{round}");
+    }
+    assert!(rt; seen.is_varied(), "{seen:?}");
+    Ok(())
+}
+
+// Adds a fact to marks, if it is of the book.
+fn add(book: &Book, marks: &mut Marks, kept: &Propagator, fact: Fact) -> Result<(), Memory>
+    requires marks { AreMarksOf book.now marks.old }
+    requires kept { IsKeptFor book.now marks.old.facts kept.now }
+    ensures marks { AreMarksOf book.now marks.new }
+    ensures kept { IsKeptFor book.now marks.new.facts kept.now }
+{
+    kept_for_more();
+    if fact.is_of(book) {
+        marks.add(book, fact)?;
+    }
+    Ok(())
+}
+
+// Whether just these facts follow from marks anew, with this answer, and as the rules say.
+fn follow_anew(
+    alloc: Global,
+    book: &Book,
+    net: &Net,
+    mut marks: Marks,
+    list: &[Fact],
+    answer: Closed,
+) -> Result<bool, Memory>
+    requires net { net.now ≡ net_of book.now }
+    requires marks { AreMarksOf book.now marks }
+{
+    let before = Vec::from_slice(alloc, marks.facts())?;
+    let mut anew = Vec::new(alloc);
+    let told = close(alloc, book, net, &mut marks, &mut anew)?;
+    Ok(answer == told && are_same(list, &anew) && is_closed(alloc, book, &before, list)?)
+}
+
+fn are_same(facts: &[Fact], others: &[Fact]) -> bool {
+    facts.len() == others.len() && facts.iter().all(|fact| others.contains(fact))
+}
+
+// How many facts follow by a propagator that is kept, and whether the same follow anew, and as the rules say.
+fn follow(
+    alloc: Global,
+    book: &Book,
+    net: &Net,
+    marks: &mut Marks,
+    kept: &mut Propagator,
+) -> Result<(usize, bool), Memory>
+    requires net { net.now ≡ net_of book.now }
+    requires marks { AreMarksOf book.now marks.old }
+    requires kept { IsKeptFor book.now marks.old.facts kept.old }
+    ensures marks { AreMarksOf book.now marks.new }
+    ensures kept { IsKeptFor book.now marks.new.facts kept.new }
+{
+    let (before, mut list) = (marks.copy()?, Vec::new(alloc));
+    let answer = kept.close(book, net, marks, &mut list)?;
+    let same = follow_anew(alloc, book, net, before, &list, answer)?;
+    Ok((list.len(), same))
+}
+
+// The same for one fact more.
+fn follow_next(
+    alloc: Global,
+    book: &Book,
+    net: &Net,
+    marks: &mut Marks,
+    kept: &mut Propagator,
+    fact: Fact,
+) -> Result<(usize, bool), Memory>
+    requires net { net.now ≡ net_of book.now }
+    requires marks { AreMarksOf book.now marks.old }
+    requires kept { IsKeptFor book.now marks.old.facts kept.old }
+    ensures marks { AreMarksOf book.now marks.new }
+    ensures kept { IsKeptFor book.now marks.new.facts kept.new }
+{
+    add(book, marks, kept, fact)?;
+    follow(alloc, book, net, marks, kept)
+}
+
+// Facts that come one at a time: how many follow by a propagator that is kept, and whether always the same follow anew,
+// and as the rules say.
+fn follow_all(
+    alloc: Global,
+    book: &Book,
+    net: &Net,
+    marks: &mut Marks,
+    kept: &mut Propagator,
+    dice: &mut Dice,
+) -> Result<(usize, bool), Memory>
+    requires net { net.now ≡ net_of book.now }
+    requires marks { AreMarksOf book.now marks.old }
+    requires kept { IsKeptFor book.now marks.old.facts kept.old }
+{
+    let (mut many, mut same) = (0usize, true);
+    for _turn in 0..6 {
+        let (more, right) = follow_next(alloc, book, net, marks, kept, fact_by(dice))?;
+        many = many.saturating_add(more);
+        same &= right;
+    }
+    Ok((many, same))
+}
+
+fn follow_each(alloc: Global, book: &Book, dice: &mut Dice) -> Result<(usize, bool), Memory> {
+    let net = Net::new(alloc, book)?;
+    let mut marks = Marks::new(alloc, book)?;
+    let mut kept = Propagator::new(alloc, book)?;
+    follow_all(alloc, book, &net, &mut marks, &mut kept, dice)
+}
+
+// 200 books, with up to six facts that come one at a time: what follows is what follows anew, and what the rules say.
+#[test]
+fn kept_is_as_made_anew(rt: HostRuntime) -> Result<(), Fail> {
+    let (mut dice, mut many) = (Dice::new(11), 0usize);
+    for round in 0..200 {
+        let book = book_by_chance(rt.alloc(), &mut dice)?;
+        let (more, same) = follow_each(rt.alloc(), &book, &mut dice)?;
+        assert!(rt; same, "{round}");
+        many = many.saturating_add(more);
+    }
+    assert!(rt; many > 1000, "{many}");
+    Ok(())
+}
+
+// What follows from marks with one fact, by a propagator that forgets those before.
+fn follow_one(
+    alloc: Global,
+    book: &Book,
+    net: &Net,
+    kept: &mut Propagator,
+    fact: Fact,
+) -> Result<(usize, bool), Memory>
+    requires net { net.now ≡ net_of book.now }
+    requires made { IsMadeFor book.now kept.old }
+    ensures made { IsMadeFor book.now kept.new }
+{
+    let mut marks = Marks::new(alloc, book)?;
+    kept.forget();
+    follow_next(alloc, book, net, &mut marks, kept, fact)
+}
+
+// How many facts follow from marks with one fact each, and whether always the same follow anew, and as the rules say.
+fn follow_three(
+    alloc: Global,
+    book: &Book,
+    net: &Net,
+    kept: &mut Propagator,
+    dice: &mut Dice,
+) -> Result<(usize, bool), Memory>
+    requires net { net.now ≡ net_of book.now }
+    requires kept { (facts : List MarkFact) → IsKeptFor book.now facts kept.old }
+{
+    let (mut many, mut same) = (0usize, true);
+    for _turn in 0..3 {
+        let (more, right) = follow_one(alloc, book, net, kept, fact_by(dice))?;
+        many = many.saturating_add(more);
+        same &= right;
+    }
+    Ok((many, same))
+}
+
+fn follow_apart(alloc: Global, book: &Book, dice: &mut Dice) -> Result<(usize, bool), Memory> {
+    let net = Net::new(alloc, book)?;
+    let mut kept = Propagator::new(alloc, book)?;
+    follow_three(alloc, book, &net, &mut kept, dice)
+}
+
+// 100 books, three times marks of their own for each, by a propagator that forgets those before.
+#[test]
+fn forgotten_is_as_made_anew(rt: HostRuntime) -> Result<(), Fail> {
+    let (mut dice, mut many) = (Dice::new(17), 0usize);
+    for round in 0..100 {
+        let book = book_by_chance(rt.alloc(), &mut dice)?;
+        let (more, same) = follow_apart(rt.alloc(), &book, &mut dice)?;
+        assert!(rt; same, "{round}");
+        many = many.saturating_add(more);
+    }
+    assert!(rt; many > 300, "{many}");
+    Ok(())
+}

@@ -1,6 +1,0 @@
-use Rattle.propagator.specs.Keeping.{IsMadeFor}
-use Rattle.network_trials.proofs.tests.propagation.chance.follow_three.Given as goal
-
--- the propagator is of the book
-abbrev pub invariant-loop-turn : goal.invariant-loop-turn
-invariant-loop-turn l = IsMadeFor l.book l.kept

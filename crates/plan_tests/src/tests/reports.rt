@@ -1,0 +1,475 @@
+//! Reports, audits and plan files, on a book of three flights and two aircraft.
+
+ghost use Rattle.std.specs.Prelude.{◌≡◌, ◌<◌, IfOk, length, All};
+ghost use Rattle.tail_book.specs.Lookup.{activities, aircraft};
+ghost use Rattle.plan_report.specs.inside.AuditText.{AreOfBook};
+ghost use Rattle.plan_report.specs.inside.Report.{HasPlanFor, IsPlanFor};
+
+use plan_audit::{Audit, Broken};
+use plan_report::*;
+use small_books::{named_flight, named_tail};
+use std::alloc::Global;
+use std::process::Abort;
+use std::test::Fail;
+use tail_book::*;
+use tail_outside::MemSink;
+use tail_text::Stopped;
+
+// The numbers of the flights F1, F2 and F3, and of the aircraft A1 and A2.
+const F1: u32 = 0;
+
+const F2: u32 = 1;
+
+const F3: u32 = 2;
+
+const A1: u32 = 0;
+
+const A2: u32 = 1;
+
+fn flight(alloc: Global, id: Name, start: i64, end: i64) -> Activity {
+    named_flight(alloc, id, (0, 0), (start, end))
+}
+
+// One type, one airport, and a counter of minutes.
+fn rules(alloc: Global) -> Result<Rules, Memory>
+    ensures { IfOk result (λ r. length r.counters ≡ 1) }
+{
+    let kinds = vec![in alloc;
+        AircraftType {
+            name: Name::new(b"P".as_slice()),
+            rate: 1,
+            turn: 30
+        },
+    ]?;
+    let airports = vec![in alloc;
+        Airport {
+            name: Name::new(b"ARN".as_slice()),
+            offset: 60,
+            turn: 30
+        },
+    ]?;
+    let counter = Counter {
+        name: Name::new(b"fh".as_slice()),
+        kind: CounterKind::Minutes,
+        limit: 120,
+        bases: Vec::new(alloc),
+        stop: 60,
+    };
+    let counters = vec![in alloc; counter]?;
+    Ok(Rules {
+        kinds,
+        airports,
+        curfews: Vec::new(alloc),
+        counters,
+        bands: Vec::new(alloc),
+    })
+}
+
+fn tail(alloc: Global, name: Name) -> Result<Tail, Memory> {
+    let mut tail = named_tail(alloc, name, 0, 0, 0);
+    tail.carry = vec![in alloc; 0]?;
+    Ok(tail)
+}
+
+fn book(alloc: Global) -> Result<Book, Fail>
+    ensures activities { IfOk result (λ b. activities b ≡ 3) }
+    ensures aircraft { IfOk result (λ b. aircraft b ≡ 2) }
+    ensures counters { IfOk result (λ b. length b.rules.counters ≡ 1) }
+{
+    let rules = rules(alloc)?;
+    let first = tail(alloc, Name::new(b"A1".as_slice()))?;
+    let second = tail(alloc, Name::new(b"A2".as_slice()))?;
+    let tails = vec![in alloc; first, second]?;
+    let activities = vec![in alloc;
+        flight(alloc, Name::new(b"F1".as_slice()), 360, 420),
+        flight(alloc, Name::new(b"F2".as_slice()), 450, 510),
+        flight(alloc, Name::new(b"F3".as_slice()), 540, 600),
+    ]?;
+    match Book::new(activities, tails, rules) {
+        Some(book) => Ok(book),
+        None => Err(Fail::new("no book")),
+    }
+}
+
+// The plan of these two routes.
+fn plan(alloc: Global, book: &Book, first: &[u32], second: &[u32]) -> Result<Plan, Memory>
+    requires aircraft { aircraft book.now ≡ 2 }
+    requires first { All (λ a. a < activities book.now) first.now }
+    requires second { All (λ a. a < activities book.now) second.now }
+    ensures { IfOk result (IsPlanFor book.now) }
+{
+    let (first, second) = (Route(first.to_vec(alloc)?), Route(second.to_vec(alloc)?));
+    let listed = vec![in alloc; first, second]?;
+    Ok(Plan(listed))
+}
+
+// How the writing of a report ends where the put of this number fails, and what the sink took.
+fn reported(
+    alloc: Global,
+    book: &Book,
+    outcome: &Outcome,
+    failing: u64,
+) -> Result<(Result<(), ReportFail>, Vec<u8>), Fail>
+    requires { HasPlanFor book.now outcome.now }
+{
+    let mut sink = MemSink::new(alloc, vec![in alloc; failing]?)?;
+    let ended = write_report(alloc, book, outcome, &mut sink);
+    let taken = sink.bytes().to_vec(alloc)?;
+    Ok((ended, taken))
+}
+
+// The same of an audit.
+fn audited(
+    alloc: Global,
+    book: &Book,
+    audit: &Audit,
+    failing: u64,
+) -> Result<(Result<(), ReportFail>, Vec<u8>), Fail>
+    requires { AreOfBook book.now audit.now }
+{
+    let mut sink = MemSink::new(alloc, vec![in alloc; failing]?)?;
+    let ended = write_audit(alloc, book, audit, &mut sink);
+    let taken = sink.bytes().to_vec(alloc)?;
+    Ok((ended, taken))
+}
+
+fn add_name(text: &mut Vec<u8>, name: &Name, end: &[u8]) -> Result<(), Fail> {
+    text.extend_from_slice(name.as_bytes())?;
+    text.extend_from_slice(end)?;
+    Ok(())
+}
+
+// The names of a plan that was read, each with a comma behind it, and a semicolon behind each line.
+fn names_of(alloc: Global, plan: &RawPlan) -> Result<Vec<u8>, Fail> {
+    let mut text = Vec::new(alloc);
+    for line in plan.lines.iter() {
+        add_name(&mut text, &line.tail, b",".as_slice())?;
+        for id in line.ids.iter() {
+            add_name(&mut text, id, b",".as_slice())?;
+        }
+        text.extend_from_slice(b";".as_slice())?;
+    }
+    Ok(text)
+}
+
+// What the reading of a plan file answers: the names of the plan, or the line of the refusal.
+fn answered(alloc: Global, text: &[u8]) -> Result<Vec<u8>, Fail> {
+    match read_plan(alloc, text) {
+        Ok(plan) => names_of(alloc, &plan),
+        Err(Stopped::Refused(refusal)) => {
+            let line = refusal_line(alloc, refusal)?;
+            Ok(line.bytes().to_vec(alloc)?)
+        }
+        Err(Stopped::Memory) => Ok(b"no memory".to_vec(alloc)?),
+    }
+}
+
+// A text of a front, a piece so many times, and an end.
+fn repeated(
+    alloc: Global,
+    front: &[u8],
+    piece: &[u8],
+    times: u32,
+    end: &[u8],
+) -> Result<Vec<u8>, Fail> {
+    let mut text = front.to_vec(alloc)?;
+    for _ in 0..times {
+        text.extend_from_slice(piece)?;
+    }
+    text.extend_from_slice(end)?;
+    Ok(text)
+}
+
+// What the reading of such a text answers.
+fn answer_to(
+    alloc: Global,
+    front: &[u8],
+    piece: &[u8],
+    times: u32,
+    end: &[u8],
+) -> Result<Vec<u8>, Fail> {
+    let text = repeated(alloc, front, piece, times, end)?;
+    answered(alloc, &text)
+}
+
+// Whether what was taken is the front of a text, of so many bytes.
+fn is_front(taken: &[u8], text: &str, length: usize) -> bool {
+    taken.len() == length && text.as_bytes().starts_with(taken)
+}
+
+// Reports the outcome whole, and where each put fails in turn. What the sink took is the lines before it.
+fn fails_in_turn(
+    rt: &impl Abort,
+    alloc: Global,
+    book: &Book,
+    outcome: &Outcome,
+    whole: &str,
+) -> Result<(), Fail>
+    requires { HasPlanFor book.now outcome.now }
+{
+    for &(failing, ended, length) in &[
+        (0, Ok(()), 29),
+        (1, Err(ReportFail::Write), 0),
+        (2, Err(ReportFail::Write), 12),
+        (3, Err(ReportFail::Write), 22),
+        (4, Ok(()), 29),
+    ] {
+        let seen = reported(alloc, book, outcome, failing)?;
+        assert!(rt; seen.0 == ended, "at {failing}");
+        assert!(rt; is_front(&seen.1, whole, length), "at {failing}");
+    }
+    Ok(())
+}
+
+#[test]
+fn a_plan_is_reported(rt: HostRuntime) -> Result<(), Fail> {
+    let book = book(rt.alloc())?;
+    let outcome = Outcome::Optimal(plan(rt.alloc(), &book, &[F1, F3], &[F2])?, 180);
+    let whole = "optimal 180\nA1: F1 F3\nA2: F2\n";
+    fails_in_turn(&rt, rt.alloc(), &book, &outcome, whole)
+}
+
+// Whether an outcome is reported so.
+fn is_reported(alloc: Global, book: &Book, outcome: &Outcome, text: &str) -> Result<bool, Fail>
+    requires { HasPlanFor book.now outcome.now }
+{
+    let seen = reported(alloc, book, outcome, 0)?;
+    Ok(seen.1.as_slice() == text.as_bytes())
+}
+
+// The other outcomes: no plan, a bound with a plan that leaves an aircraft at home, and a bound alone.
+#[test]
+fn each_outcome_is_reported(rt: HostRuntime) -> Result<(), Fail> {
+    let book = book(rt.alloc())?;
+    let none = Outcome::Infeasible;
+    assert!(rt; is_reported(rt.alloc(), &book, &none, "infeasible\n")?);
+    let (low, nodes) = (u64::MAX, 3);
+    let above = Outcome::Above { low, nodes };
+    assert!(rt; is_reported(rt.alloc(), &book, &above, "limit 18446744073709551615 -\n")?);
+    let plan = plan(rt.alloc(), &book, &[], &[F1, F2, F3])?;
+    let (low, high) = (0, 180);
+    let between = Outcome::Between {
+        plan,
+        low,
+        high,
+        nodes,
+    };
+    let text = "limit 0 180\nA1:\nA2: F1 F2 F3\n";
+    assert!(rt; is_reported(rt.alloc(), &book, &between, text)?);
+    Ok(())
+}
+
+// What was written is read as the plan's names.
+#[test]
+fn a_report_is_read_back(rt: HostRuntime) -> Result<(), Fail> {
+    let book = book(rt.alloc())?;
+    let outcome = Outcome::Optimal(plan(rt.alloc(), &book, &[F2, F1], &[])?, u64::MAX);
+    let seen = reported(rt.alloc(), &book, &outcome, 0)?;
+    let names = answered(rt.alloc(), &seen.1)?;
+    assert!(rt; names.as_slice() == b"A1,F2,F1,;A2,;".as_slice());
+    Ok(())
+}
+
+// Asks that each text is answered with the one beside it.
+fn each_is_answered(rt: &impl Abort, alloc: Global, rows: &[(&[u8], &[u8])]) -> Result<(), Fail> {
+    for &(text, want) in rows {
+        let seen = answered(alloc, text)?;
+        assert!(rt; seen.as_slice() == want, "{text:?}");
+    }
+    Ok(())
+}
+
+// First lines of each form, and near misses.
+#[test]
+fn first_lines(rt: HostRuntime) -> Result<(), Fail> {
+    let rows: &[(&[u8], &[u8])] = &[
+        (b"optimal 0\n", b""),
+        (b"optimal 18446744073709551615\n", b""),
+        (b"limit 0 18446744073709551615\n", b""),
+        (b"limit 7 7\n", b""),
+        (b"limit 8 7\n", b""),
+        (b"\xEF\xBB\xBFoptimal 1\n", b""),
+        (b"", b"refused 3 plan 1\n"),
+        (b"\n", b"refused 3 plan 1\n"),
+        (b"optimal 1", b"refused 3 plan 1\n"),
+        (b"optimal 1\r\n", b"refused 3 plan 1\n"),
+        (
+            b"\xEF\xBB\xBF\xEF\xBB\xBFoptimal 1\n",
+            b"refused 3 plan 1\n",
+        ),
+        (b"\xEF\xBBoptimal 1\n", b"refused 3 plan 1\n"),
+        (b"optimal 01\n", b"refused 3 plan 1\n"),
+        (b"optimal +1\n", b"refused 3 plan 1\n"),
+        (b"optimal 18446744073709551616\n", b"refused 3 plan 1\n"),
+        (b"optimal\n", b"refused 3 plan 1\n"),
+        (b"optimal \n", b"refused 3 plan 1\n"),
+        (b"optimal  1\n", b"refused 3 plan 1\n"),
+        (b"optimal 1 \n", b"refused 3 plan 1\n"),
+        (b"optimal 1 2\n", b"refused 3 plan 1\n"),
+        (b" optimal 1\n", b"refused 3 plan 1\n"),
+        (b"Optimal 1\n", b"refused 3 plan 1\n"),
+        (b"limit 1\n", b"refused 3 plan 1\n"),
+        (b"limit 1 -\n", b"refused 3 plan 1\n"),
+        (b"limit 1 02\n", b"refused 3 plan 1\n"),
+        (b"limit 01 2\n", b"refused 3 plan 1\n"),
+        (b"limit 1 2 3\n", b"refused 3 plan 1\n"),
+        (b"infeasible\n", b"refused 3 plan 1\n"),
+        (b"legal 1\n", b"refused 3 plan 1\n"),
+        (b"infeasible\nA1\n", b"refused 3 plan 1\n"),
+    ];
+    each_is_answered(&rt, rt.alloc(), rows)
+}
+
+// Later lines: names need not be of any book, and may be repeated. The first bad line decides.
+#[test]
+fn later_lines(rt: HostRuntime) -> Result<(), Fail> {
+    let rows: &[(&[u8], &[u8])] = &[
+        (b"optimal 1\nA1: F1 F2\nA2:\n", b"A1,F1,F2,;A2,;"),
+        (b"limit 2 1\nA1: F1 F1\nA1: F9\n", b"A1,F1,F1,;A1,F9,;"),
+        (b"optimal 1\n7-b_C: 0\n", b"7-b_C,0,;"),
+        (
+            b"optimal 1\nabcdefghij012345: abcdefghij012345\n",
+            b"abcdefghij012345,abcdefghij012345,;",
+        ),
+        (b"optimal 1\nA1:\nA2:", b"refused 4 plan 3\n"),
+        (b"optimal 1\nA1: F1", b"refused 4 plan 2\n"),
+        (b"optimal 1\n\n", b"refused 4 plan 2\n"),
+        (b"optimal 1\nA1:\n\nA2:\n", b"refused 4 plan 3\n"),
+        (b"optimal 1\nA1: F1\r\n", b"refused 4 plan 2\n"),
+        (b"optimal 1\nA1:  F1\n", b"refused 4 plan 2\n"),
+        (b"optimal 1\nA1: F1 \n", b"refused 4 plan 2\n"),
+        (b"optimal 1\nA1: \n", b"refused 4 plan 2\n"),
+        (b"optimal 1\nA1:F1\n", b"refused 4 plan 2\n"),
+        (b"optimal 1\nA1 : F1\n", b"refused 4 plan 2\n"),
+        (b"optimal 1\nA1 F1\n", b"refused 4 plan 2\n"),
+        (b"optimal 1\nA1:: F1\n", b"refused 4 plan 2\n"),
+        (b"optimal 1\n: F1\n", b"refused 4 plan 2\n"),
+        (b"optimal 1\n A1: F1\n", b"refused 4 plan 2\n"),
+        (b"optimal 1\nA1: F1 -F2\n", b"refused 4 plan 2\n"),
+        (b"optimal 1\nA1: F1 F2:\n", b"refused 4 plan 2\n"),
+        (b"optimal 1\nA1:\tF1\n", b"refused 4 plan 2\n"),
+        (b"optimal 1\nA1: abcdefghij0123456\n", b"refused 4 plan 2\n"),
+        (b"optimal 1\nA1: \xC3\x85\n", b"refused 4 plan 2\n"),
+        (b"optimal 1\nA1: F\xFF\n", b"refused 4 plan 2\n"),
+        (
+            b"optimal 1\nA1: F1\n\xEF\xBB\xBFA2:\n",
+            b"refused 4 plan 3\n",
+        ),
+        (b"optimal 1\noptimal 1\n", b"refused 4 plan 2\n"),
+    ];
+    each_is_answered(&rt, rt.alloc(), rows)
+}
+
+// 200 later lines are taken, and one more is too many before it is looked at, but not before the lines above it.
+#[test]
+fn lines_too_many(rt: HostRuntime) -> Result<(), Fail> {
+    let front = b"optimal 1\n".as_slice();
+    let most = answer_to(rt.alloc(), front, b"A:\n", 199, b"B: F\n")?;
+    let names = repeated(rt.alloc(), b"", b"A,;", 199, b"B,F,;")?;
+    assert!(rt; most.as_slice() == names.as_slice());
+    for &(times, end, want) in &[
+        (200, b"A:\n".as_slice(), b"refused 10 plan 202\n".as_slice()),
+        (200, b"not a line", b"refused 10 plan 202\n"),
+        (201, b"A:\n", b"refused 10 plan 202\n"),
+        (199, b"A\nA:\n", b"refused 4 plan 201\n"),
+    ] {
+        let seen = answer_to(rt.alloc(), front, b"A:\n", times, end)?;
+        assert!(rt; seen.as_slice() == want, "{times} lines");
+    }
+    Ok(())
+}
+
+// 4,000 ids are taken, and one more is too many, but not before a bad one behind it.
+#[test]
+fn ids_too_many(rt: HostRuntime) -> Result<(), Fail> {
+    let front = b"optimal 1\nA1:".as_slice();
+    let most = answer_to(rt.alloc(), front, b" F", 4000, b"\n")?;
+    let names = repeated(rt.alloc(), b"A1,", b"F,", 4000, b";")?;
+    assert!(rt; most.as_slice() == names.as_slice());
+    for &(times, end, want) in &[
+        (4001, b"\n".as_slice(), b"refused 10 plan 2\n".as_slice()),
+        (4001, b"\nA2\n", b"refused 10 plan 2\n"),
+        (4001, b" -\n", b"refused 4 plan 2\n"),
+        (4001, b"", b"refused 4 plan 2\n"),
+    ] {
+        let seen = answer_to(rt.alloc(), front, b" F", times, end)?;
+        assert!(rt; seen.as_slice() == want, "{times} ids");
+    }
+    Ok(())
+}
+
+// A file of the greatest size is looked at, and one of a byte more is not.
+#[test]
+fn files_too_big(rt: HostRuntime) -> Result<(), Fail> {
+    for &(size, want) in &[
+        (16_777_216, b"refused 3 plan 1\n".as_slice()),
+        (16_777_217, b"refused 1 plan 0\n".as_slice()),
+    ] {
+        let text = vec![in rt.alloc(); b'\n'; size]?;
+        let seen = answered(rt.alloc(), &text)?;
+        assert!(rt; seen.as_slice() == want, "{size} bytes");
+    }
+    Ok(())
+}
+
+// Writes the audit whole, and where one put or another fails.
+fn audit_fails(
+    rt: &impl Abort,
+    alloc: Global,
+    book: &Book,
+    audit: &Audit,
+    whole: &str,
+) -> Result<(), Fail>
+    requires { AreOfBook book.now audit.now }
+{
+    for &(failing, ended, length) in &[
+        (0, Ok(()), 102),
+        (1, Err(ReportFail::Write), 0),
+        (2, Err(ReportFail::Write), 9),
+        (8, Err(ReportFail::Write), 85),
+        (9, Ok(()), 102),
+    ] {
+        let seen = audited(alloc, book, audit, failing)?;
+        assert!(rt; seen.0 == ended, "at {failing}");
+        assert!(rt; is_front(&seen.1, whole, length), "at {failing}");
+    }
+    Ok(())
+}
+
+// An audit with each kind of broken rule.
+#[test]
+fn broken_rules_are_written(rt: HostRuntime) -> Result<(), Fail> {
+    let book = book(rt.alloc())?;
+    let (f9, a7) = (Name::new(b"F9".as_slice()), Name::new(b"A7".as_slice()));
+    let rules = vec![in rt.alloc();
+        Broken::Unknown(f9),
+        Broken::Twice(a7),
+        Broken::Uncovered(F3),
+        Broken::NotAllowed(A1, F1),
+        Broken::Curfew(A2, F2),
+        Broken::NoLink(A2, F1),
+        Broken::Counter(A1, F3, 0),
+    ]?;
+    let whole = "broken 7\nunknown F9\ntwice A7\nuncovered F3\nnotallowed A1 F1\n\
+curfew A2 F2\nnolink A2 F1\ncounter A1 F3 fh\n";
+    audit_fails(&rt, rt.alloc(), &book, &Audit::Broken(rules), whole)
+}
+
+// Whether an audit is written so.
+fn is_written(alloc: Global, book: &Book, audit: &Audit, text: &str) -> Result<bool, Fail>
+    requires { AreOfBook book.now audit.now }
+{
+    let seen = audited(alloc, book, audit, 0)?;
+    Ok(seen.1.as_slice() == text.as_bytes())
+}
+
+// An audit of a legal plan, and one without broken rules.
+#[test]
+fn legal_plans_are_written(rt: HostRuntime) -> Result<(), Fail> {
+    let book = book(rt.alloc())?;
+    let legal = Audit::Legal(u64::MAX);
+    assert!(rt; is_written(rt.alloc(), &book, &legal, "legal 18446744073709551615\n")?);
+    let none = Audit::Broken(Vec::new(rt.alloc()));
+    assert!(rt; is_written(rt.alloc(), &book, &none, "broken 0\n")?);
+    Ok(())
+}

@@ -1,0 +1,82 @@
+//! Certificates of books by chance: what a search writes while it runs is accepted, for what it answers.
+
+ghost use Rattle.std.specs.Prelude.{◌≡◌};
+ghost use Rattle.tail_book.specs.CostTable.{costs_of};
+
+use super::book_by_chance;
+use branch_tree::Limit;
+use cert_checker::{Verdict, judge};
+use certified_search::{Certified, certified_search};
+use dice::Dice;
+use std::alloc::Global;
+use tail_book::*;
+use tail_outside::MemSink;
+
+// Whether what was written is accepted for what was found.
+fn is_accepted(alloc: Global, book: &Book, written: &Certified<MemSink>) -> bool {
+    match &written.found {
+        Ok(outcome) => {
+            judge(alloc, book, written.sink.bytes()) == Ok(Verdict::Yes(claim_of(outcome)))
+        }
+        Err(_) => false,
+    }
+}
+
+// Whether a search within the limit writes what is accepted.
+fn writes_so(alloc: Global, book: &Book, table: &CostTable, limit: Limit) -> bool
+    requires { table.now ≡ costs_of book.now }
+{
+    match MemSink::new(alloc, Vec::new(alloc)) {
+        Ok(sink) => {
+            let written = certified_search(alloc, book, table, limit, sink);
+            is_accepted(alloc, book, &written)
+        }
+        Err(_) => false,
+    }
+}
+
+// Without a limit, and at a few.
+const LIMITS: [Limit; 4] = [
+    Limit::Free,
+    Limit::Nodes(0),
+    Limit::Nodes(1),
+    Limit::Nodes(3),
+];
+
+// The number of the first limit at which another thing is written, if there is one.
+fn first_wrong(alloc: Global, book: &Book, table: &CostTable) -> Option<usize>
+    requires { table.now ≡ costs_of book.now }
+{
+    for number in 0..LIMITS.len() {
+        if !writes_so(alloc, book, table, LIMITS[number]) {
+            return Some(number);
+        }
+    }
+    None
+}
+
+// The same by the book's own costs.
+fn first_wrong_of(alloc: Global, book: &Book) -> Option<usize> {
+    match CostTable::of(alloc, book) {
+        Ok(table) => first_wrong(alloc, book, &table),
+        Err(_) => Some(0),
+    }
+}
+
+// The same of the next book.
+fn next_wrong(alloc: Global, dice: &mut Dice) -> Option<usize> {
+    match book_by_chance(alloc, dice) {
+        Some(book) => first_wrong_of(alloc, &book),
+        None => Some(0),
+    }
+}
+
+// Three hundred books.
+#[test]
+fn certificates_are_accepted(rt: HostRuntime) {
+    let mut dice = Dice::new(29);
+    for turn in 0..300u32 {
+        let wrong = next_wrong(rt.alloc(), &mut dice);
+        assert!(rt; wrong.is_none(), "book {turn}, limit {wrong:?}");
+    }
+}
