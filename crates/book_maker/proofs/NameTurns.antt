@@ -26,22 +26,12 @@ pub distinct-end : (names seen : List (List ℕ)) (i : ℕ) → length names ≤
 unfolding distinct_from
 distinct-end names seen i h = rw (drop_all i names h) refl
 
-pub is_seen : (seen : List (List ℕ)) (x : List ℕ) (added : Bool) → added ≡ not (list_any (bytes_eq x) seen) → added ≡ false → list_any (bytes_eq x) seen ≡ true
-is_seen seen x added e here = flipped (list_any (bytes_eq x) seen) (sym e ∙ here)
-  where
-    flipped : (b : Bool) → not b ≡ false → b ≡ true
-    flipped true h = refl
-    flipped false h = sym h
-
 pub is_new : (seen : List (List ℕ)) (x : List ℕ) (added : Bool) → added ≡ not (list_any (bytes_eq x) seen) → added ≡ true → list_any (bytes_eq x) seen ≡ false
 is_new seen x added e here = flipped (list_any (bytes_eq x) seen) (sym e ∙ here)
   where
     flipped : (b : Bool) → not b ≡ true → b ≡ false
     flipped true h = sym h
     flipped false h = refl
-
-pub keys-new : (seen : List (List ℕ)) (x : List ℕ) → list_any (bytes_eq x) seen ≡ false → insert_key bytes_eq seen x ≡ seen ++ x ∷ []
-keys-new seen x e = rw e refl
 
 few : (names xs : List (List ℕ)) → length (distinct_from names xs) ≤ length names + length xs
 unfolding distinct_from

@@ -311,11 +311,6 @@ abbrev is_some : Option ℕ → ℕ → Bool
 is_some None v = false
 is_some (Some w) v = nat_eq w v
 
-is_several : (named : Named) → (named ≡ Several) ⊎ (named ≢ Several)
-is_several Nothing = inr (λ e. absurd (cc))
-is_several (One w) = inr (λ e. absurd (cc))
-is_several Several = inl refl
-
 several_stay : (names : Fact → Option ℕ) (marks : List Fact) → named_from names Several marks ≡ Several
 several_stay names [] = refl
 several_stay names (fact ∷ rest) = ap (λ s. named_from names s rest) (stays (names fact)) ∙ several_stay names rest

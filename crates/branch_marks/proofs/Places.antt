@@ -20,10 +20,6 @@ empty_bits n p =
     let none : get_or (replicate n 0) (p / 64) 0 ≡ 0 = ⊎_elim (λ lt. get_or-replicate n (p / 64) 0 0 lt) (λ le. get_or_past (replicate n 0) (p / 64) 0 (rw length-replicate le)) (cases_lt (p / 64) n) in
     ap (λ w. nat_eq (bit_at w (p % 64)) 1) none ∙ ap (λ b. nat_eq b 1) (bit_at-zero (p % 64))
 
--- a pair's number lies among those of all pairs
-pub row_ends : (rows columns row : ℕ) → row < rows → row * columns + columns ≤ rows * columns
-row_ends rows columns row lt = omega (arith, mul-le-mul_right columns lt)
-
 at_same : (r row c column n : ℕ) → r ≡ row → c ≡ column → r * n + c ≡ row * n + column
 at_same r row c column n e f = rw (e, f) refl
 

@@ -29,20 +29,6 @@ use Rattle.branch_tree.specs.Target.{no_target, IsBest, FallsTo, Passes}
 use Rattle.branch_tree.specs.inside.Leaf.{AnswersLeaf}
 use Rattle.branch_tree.specs.inside.Searching.{Counts, HasStopped, outcome_for}
 
--- a stuck leaf is not left
-pub stuck_closed : (final : ℕ) (ending : Ending) → AnswersLeaf ending leaf.Stuck → (bound : ℕ) → ¬ IsLeftAt final ending bound
-stuck_closed final (Hole a) answers bound h = h
-stuck_closed final (Stuck k family) answers bound h = h
-stuck_closed final (Bounded duals covers) answers bound h = answers
-stuck_closed final (Split pair duals routes dive) answers bound h = h
-
--- nor is a bound that reaches the target
-pub bound_closed : (final : ℕ) (sum : ℤ) (ending : Ending) → AnswersLeaf ending (leaf.Bounded sum) → Passes (bound_of sum) final → (bound : ℕ) → ¬ IsLeftAt final ending bound
-bound_closed final sum (Hole a) answers passes bound h = h
-bound_closed final sum (Stuck k family) answers passes bound h = h
-bound_closed final sum (Bounded duals covers) answers passes bound h = h.0 (subst (λ (z : ℤ). Passes (bound_of z) final) answers passes)
-bound_closed final sum (Split pair duals routes dive) answers passes bound h = h
-
 -- one that does not is left
 pub bound_left : (final units : ℕ) (sum : ℤ) (ending : Ending) → AnswersLeaf ending (leaf.Bounded sum) → ¬ Passes (bound_of sum) final → units ≡ rounded_up sum
     → IsLeftAt final ending units
@@ -71,12 +57,6 @@ module _ (final : ℕ) (nodes : List Node) (node : Node) where
   abbrev IsNotLeft : Node → Type 0
   IsNotLeft n = (bound : ℕ) → ¬ IsLeftAt final n.ending bound
 
-  -- a node that is not left changes nothing
-  pub lowest_same : (low : Option ℕ) → ((bound : ℕ) → ¬ IsLeftAt final node.ending bound) → IsLowest final nodes low → IsLowest final (nodes ++ node ∷ []) low
-  lowest_same None closed lowest = All-push IsNotLeft nodes node lowest closed
-  lowest_same (Some low) closed lowest = (
-    any_before (λ (n : Node). IsLeftAt final n.ending low) nodes (node ∷ []) lowest.0,
-    All-push (IsAbove low) nodes node lowest.1 (λ bound is. absurd (closed bound is)),
   )
 
   module _ (units : ℕ) (left : IsLeftAt final node.ending units) where

@@ -55,10 +55,6 @@ duals_more duals i d less =
     ∙ ap (λ (es : List Event). dual_events 0 (take i duals) ++ es) (dual_last i (get_or duals i d))
     )
 
-pub steps_more : (steps : List Fact) (i : ℕ) (d : Fact) → i < length steps
-    → step_events (take i steps) ++ step_events (get_or steps i d ∷ []) ≡ step_events (take (i + 1) steps)
-steps_more steps i d less = sym (ap step_events (take_more steps i d less) ∙ map-append (λ fact. _) (take i steps) (get_or steps i d ∷ []))
-
 -- the labels of rows, one row more and one bucket more
 module _ (label_at : ℕ → Label) where
   abbrev pub rows_labels : List ℕ → List Event
@@ -66,10 +62,6 @@ module _ (label_at : ℕ → Label) where
 
   pub rows_then : (one two : List ℕ) → rows_labels one ++ rows_labels two ≡ rows_labels (one ++ two)
   rows_then one two = sym (ap label_events (map-append label_at one two) ∙ map-append (λ label. _) (map label_at one) (map label_at two))
-
-  pub row_more : (rows : List ℕ) (i d : ℕ) → i < length rows
-      → rows_labels (take i rows) ++ rows_labels (get_or rows i d ∷ []) ≡ rows_labels (take (i + 1) rows)
-  row_more rows i d less = rows_then (take i rows) (get_or rows i d ∷ []) ∙ ap rows_labels (sym (take_more rows i d less))
 
   pub bucket_more : (buckets : List (List ℕ)) (a : ℕ) (d : List ℕ) → a < length buckets
       → rows_labels (concat (take a buckets)) ++ rows_labels (get_or buckets a d) ≡ rows_labels (concat (take (a + 1) buckets))

@@ -55,11 +55,6 @@ pub record IsBetween (book : BookSeen) (state : State) (owed : List (List Fact))
 pub plain_between : (book : BookSeen) (n : ℕ) (owed : List (List Fact)) (least : Option ℕ) → IsBetween book (plain n owed least) owed least
 plain_between book n owed least = record { fine = refl; done = refl; owing = refl }
 
--- there a node begins or goes on at the place that is owed next
-pub node_begins : (book : BookSeen) (state : State) (marks : List Fact) (owed : List (List Fact)) (least : Option ℕ) (go : State → List Fact → List (List Fact) → Result State Reason)
-    → IsBetween book state (marks ∷ owed) least → at_node book state go ≡ go (plain state.lines (marks ∷ owed) least) marks owed
-node_begins book state marks owed least go between = rw between.done refl
-
 -- the verdict on lines that pass is what is said at their end
 step_on : (book : BookSeen) (state next : State) (text other : List ℕ) (texts : List (List ℕ)) (line : CertLine) → line_of text ≡ Some line → IsTaken (take_read book state (Some line)) next
     → verdict_from book state (text ∷ other ∷ texts) ≡ verdict_from book next (other ∷ texts)

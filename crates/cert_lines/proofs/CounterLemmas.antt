@@ -23,9 +23,6 @@ joined-nil : (left : Option (List ℤ)) → left ≡ joined [] left
 joined-nil None = refl
 joined-nil (Some more) = refl
 
-pub reads-none : (all : List (List ℕ)) (so_far : List ℤ) → so_far ≡ [] → AreRead all all 0 so_far
-reads-none all so_far e = record { few = omega arith; counted = omega arith; known = rw e (joined-nil (counters_of all)) }
-
 joined-more : (so_far : List ℤ) (v : ℤ) (left : Option (List ℤ)) → joined so_far (option_map (λ rest. v ∷ rest) left) ≡ joined (so_far ++ v ∷ []) left
 joined-more so_far v None = refl
 joined-more so_far v (Some more) = rw append_assoc refl
@@ -63,12 +60,6 @@ module _ (all words : List (List ℕ)) (count : ℕ) (so_far : List ℤ) (read :
         counted = omega (arith, n, read.counted);
         known = read.known ∙ rw (is, counters_of-more word rest v e, grown) (joined-more so_far v (counters_of rest));
       }
-
-  pub reads-too_many : (word : List ℕ) (rest : List (List ℕ)) → words ≡ word ∷ rest → 6 ≤ count → counters_in all ≡ None
-  reads-too_many word rest is full =
-      let n : length words ≡ length rest + 1 = rw is (omega arith) in
-      let long : 6 < length all = omega (arith, n, read.counted) in
-      rw (too_many (length all) long) refl
 
   pub reads-bad : (word : List ℕ) (rest : List (List ℕ)) → words ≡ word ∷ rest → amount word ≡ None → counters_in all ≡ None
   reads-bad word rest is e = none_if (nat_le (length all) 6) (counters_of all) (read.known ∙ rw (is, counters_of-bad word rest e) refl)

@@ -40,9 +40,6 @@ record IsWord (word : List ℕ) : Type 0 where
   behind : All (λ c. 33 ≤ c) word
   few : length word ≤ 20
 
-is_behind : ℕ → Bool
-is_behind c = nat_le 33 c
-
 text_word : (word : List ℕ) → (list_all (λ c. nat_le 33 c) word && nat_le (length word) 20) ≡ true → IsWord word
 text_word word e =
     let parts = and_parts (list_all (λ c. nat_le 33 c) word) (nat_le (length word) 20) e in

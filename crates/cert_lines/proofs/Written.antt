@@ -121,9 +121,6 @@ counters_written (word ∷ words) counters e =
 abbrev WritesEvent : List (List ℕ) → Event → Type 0
 WritesEvent words event = (words ≡ event_words event) × IsNotable event
 
-fact_written : (words : List (List ℕ)) (both : ℕ × ℕ) → WritesTwo words both → (key : List ℕ) → key ∷ words ≡ key ∷ decimal both.0 ∷ decimal both.1 ∷ []
-fact_written words both two key = rw two.0 refl
-
 dual_written : (words : List (List ℕ)) (event : Event) → dual_in words ≡ Some event → WritesEvent (codes "dual" ∷ words) event
 dual_written words event e =
     through_then (λ dual. if int_eq dual.1 (pos 0) then None else Some (events.Dual dual.0 dual.1)) (WritesEvent (codes "dual" ∷ words)) (number_and_value words) event

@@ -108,16 +108,6 @@ left-none route i k nobody old mid le left = left mid (subst (λ (rest : List �
 abbrev pub found_or : ℕ → List (List ℕ) → ℕ → ℕ → ℕ → ℕ
 found_or k rest nobody a before = if nat_eq before nobody then k + flier rest a else before
 
-found-more : (route : List ℕ) (rest : List (List ℕ)) (k nobody a before : ℕ) → k < nobody
-    → found_or k (route ∷ rest) nobody a before ≡ found_or (k + 1) rest nobody a (noted route k nobody a before)
-found-more route rest k nobody a before lt = elim (cases_eq before nobody) [
-  | inl e ↦ (let is = eq-eqb before nobody e in
-      ap (λ (b : Bool). if b then k + flier (route ∷ rest) a else before) is ∙ on_route is (contains route a)
-      ∙ ap (λ (b : Bool). found_or (k + 1) rest nobody a (if b && contains route a then k else before)) (sym is))
-  | inr somebody ↦ (let no = ne_eqb before nobody somebody in
-      ap (λ (b : Bool). if b then k + flier (route ∷ rest) a else before) no
-      ∙ ap (λ (b : Bool). if b then k + 1 + flier rest a else before) (sym no)
-      ∙ ap (λ (b : Bool). found_or (k + 1) rest nobody a (if b && contains route a then k else before)) (sym no))
 ]
   where
     on_route : nat_eq before nobody ≡ true → (b : Bool) → k + cond (not b) (1 + flier rest a) 0 ≡ found_or (k + 1) rest nobody a (if b then k else before)
@@ -135,25 +125,12 @@ pub record AreNoted (routes : List (List ℕ)) (n k : ℕ) (fliers : List ℕ) :
   pub count : length fliers ≡ n
   pub each : (a : ℕ) → a < n → flier routes a ≡ found_or k (drop k routes) (length routes) a (get_or fliers a 0)
 
-pub noted-start : (routes : List (List ℕ)) (n nobody : ℕ) → nobody ≡ length routes → AreNoted routes n 0 (replicate n nobody)
-noted-start routes n nobody is = record {
-  count = length-replicate n nobody;
-  each = λ a lt. start a (get_or (replicate n nobody) a 0) (get_or-replicate n a nobody 0 lt ∙ is);
 }
   where
     start : (a before : ℕ) → before ≡ length routes → flier routes a ≡ found_or 0 routes (length routes) a before
     start a before e = let same : flier routes a ≡ 0 + flier routes a = omega arith in
         same ∙ ap (λ (b : Bool). if b then 0 + flier routes a else before) (sym (eq-eqb before (length routes) e))
 
-pub noted-more : (routes : List (List ℕ)) (n k : ℕ) (old new : List ℕ) → k < length routes → NotesRoute (get_or routes k []) k (length routes) old new
-    → AreNoted routes n k old → AreNoted routes n (k + 1) new
-noted-more routes n k old new lt notes so_far = record {
-  count = notes.count ∙ so_far.count;
-  each = λ a la.
-      so_far.each a la
-      ∙ ap (λ (rest : List (List ℕ)). found_or k rest (length routes) a (get_or old a 0)) (drop_more routes k [] lt)
-      ∙ found-more (get_or routes k []) (drop (k + 1) routes) k (length routes) a (get_or old a 0) lt
-      ∙ ap (λ (now : ℕ). found_or (k + 1) (drop (k + 1) routes) (length routes) a now) (sym (notes.each a (subst (λ (m : ℕ). a < m) (sym so_far.count) la)));
 }
 
 pub noted-end : (routes : List (List ℕ)) (n k : ℕ) (fliers : List ℕ) → k ≡ length routes → AreNoted routes n k fliers → fliers ≡ fliers_of routes n

@@ -169,9 +169,4 @@ module _ (book : BookSeen) (limit : Limit) where
           }),
         )
 
--- a count that rose in a part of a call rose in it
-pub risen_behind : (a b c : ℕ) → a ≤ b → HasRisen b c → HasRisen a c
-risen_behind a b c less risen = elim risen [
-  | inl rose ↦ inl (omega (arith, less, rose))
-  | inr most ↦ inr most
 ]

@@ -37,9 +37,6 @@ module _ (table : CostTableSeen) (book : BookSeen) (marks : List Fact) (duals : 
   pub none_below : (routes : List (List ℕ)) → AreLeastBelow routes 0
   none_below routes j lt = absurd (omega (arith, lt))
 
-  pub kept_below : (routes : List (List ℕ)) (k : ℕ) → AreLeastBelow routes k → IsLeastRoute table book marks k duals (route_of routes k) → AreLeastBelow routes (k + 1)
-  kept_below routes k below here = at_or_below (λ j. IsLeastRoute table book marks j duals (route_of routes j)) k here below
-
   pub pushed_below : (routes : List (List ℕ)) (k : ℕ) (route : List ℕ) → length routes ≡ k → AreLeastBelow routes k
       → IsLeastRoute table book marks k duals route → AreLeastBelow (routes ++ route ∷ []) (k + 1)
   pushed_below routes k route count below here =

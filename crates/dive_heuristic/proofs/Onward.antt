@@ -27,11 +27,6 @@ use Rattle.dive_heuristic.specs.inside.Laws.{MoreFactsLeaveNoMore}
 use Rattle.dive_heuristic.proofs.FewerMarks.{least_are_low}
 use Rattle.dive_heuristic.proofs.Forced.{go_forced, go_both}
 
--- marks after a choice, and after what follows from it, are the old marks with these facts
-after_choice : (old mid new added : List Fact) (fact : Fact) → mid ≡ old ++ fact ∷ [] → new ≡ mid ++ added → new ≡ old ++ (fact ∷ added)
-after_choice old mid new added fact chosen forced =
-    forced ∙ ap (λ (front : List Fact). front ++ added) chosen ∙ append_assoc old (fact ∷ []) added
-
 module _ (table : CostTableSeen) (book : BookSeen) (duals : List ℤ) where
   pub go_chosen : (marks new : List Fact) (listed listing : List DiveStep) (routes : List (List ℕ)) (k a : ℕ) → StandsAt table book marks duals routes
       → IsChoice book marks routes k a → new ≡ marks ++ Must k a ∷ [] → listing ≡ listed ++ Chosen (Must k a) ∷ []
@@ -60,13 +55,6 @@ module _ (table : CostTableSeen) (book : BookSeen) (duals : List ℤ) where
       let here : undecided book mid < undecided book old = subst (λ (m : List Fact). undecided book m < undecided book old) (sym chosen) (fewer book old (Fly k a) free).0 in
       let rest : undecided book new ≤ undecided book mid = subst (λ (m : List Fact). undecided book m ≤ undecided book mid) (sym forced) (no_more book mid added) in
       omega (arith, here, rest)
-
-  -- and the routes stay low
-  pub low_after : FitsWithFewer → (old mid new added : List Fact) (fact : Fact) (routes : List (List ℕ)) → mid ≡ old ++ fact ∷ []
-      → new ≡ mid ++ added → AreLeastRoutes table book old duals routes → AreLowRoutes table book new duals routes
-  low_after fewer old mid new added fact routes chosen forced least =
-      subst (λ (m : List Fact). AreLowRoutes table book m duals routes) (sym (after_choice old mid new added fact chosen forced))
-      (least_are_low fewer table book old (fact ∷ added) duals routes least)
 
   -- steps from the first marks on, and an end that is true where they lead
   pub dive_of : (marks now : List Fact) (steps : List DiveStep) (end : DiveEnd) → GoesOn table book duals marks now [] steps → IsShut book now

@@ -20,10 +20,6 @@ one_more more times here there e =
     regroup : (times here there : ℕ) → there ≡ here + 1 → times + here + 1 ≡ times + there
     regroup times here there e = omega (arith, e)
 
-pub note_none : (tally : List Flown) → NotesRoute tally tally []
-note_none tally = record {
-  count = refl;
-  each = λ times start a lt. start a lt ∙ ap flown_of_count (nothing (times a));
 }
   where
     nothing : (n : ℕ) → n ≡ n + 0
@@ -49,10 +45,6 @@ module _ (more : FlownWithOneMore) (old tally : List Flown) (route : List ℕ) (
     count = length-set tally b v ∙ notes.count;
     each = λ times start a la. counted times start a (subst (λ (n : ℕ). a < n) (length-set tally b v) la);
   }
-
--- nothing is flown by no routes
-pub tally_none : (n : ℕ) → IsTally (times_flown []) (replicate n Never)
-tally_none n a lt = get_or-replicate n a Never Never (subst (λ (m : ℕ). a < m) (length-replicate n Never) lt)
 
 -- a route more of the routes is counted
 pub tally_more : TimesWithOneMoreRoute → (old new : List Flown) (routes : List (List ℕ)) (k : ℕ) → k < length routes

@@ -106,9 +106,6 @@ module _ (w : ℕ) (flags : List Bool) (values : List ℤ) (is : IsFloorRow w fl
   row_fits = let le = mul-le-mul_right {m = i + 1} {n = length flags} w (omega (arith, lt)) in
       let size = is.size in grind (arith, le, size)
 
-  pub row_small : i * w ≤ 24576
-  row_small = let few = is.few in let le = mul-le-mul_right {m = i} {n = 4096} w (omega (arith, lt, few)) in let narrow = is.narrow in omega (arith, le, narrow)
-
   -- what stands there is as it should be
   row_kept : IsKept w (get_or (kept_floors w flags values) i None)
   row_kept = let all = kept_length w flags values in All-get_or (IsKept w) (kept_floors w flags values) i None (omega (arith, lt, all)) is.kept

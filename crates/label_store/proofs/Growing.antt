@@ -27,8 +27,5 @@ module _ {stays : ℕ → Type 0} where
         others = λ v other. next.others v other ∙ first.others v other;
       }
 
-pub wide_refl : (store : StoreSeen) → IsAsWide store store
-wide_refl store = record { width = refl; nodes = refl }
-
 pub wide_trans : (one two three : StoreSeen) → IsAsWide one two → IsAsWide two three → IsAsWide one three
 wide_trans one two three first next = record { width = next.width ∙ first.width; nodes = next.nodes ∙ first.nodes }

@@ -84,15 +84,6 @@ times-more times flown a time within e are b below =
           omega (arith, count, kept, old))
     ]
 
--- a number that is no activity's counts nowhere
-pub times-beyond : (times flown : List ℕ) (a : ℕ) → length times ≤ a → AreTimes times flown → AreTimes times (flown ++ a ∷ [])
-times-beyond times flown a beyond are b below =
-    let other : b ≢ a = λ same. absurd (omega (arith, same)) in
-    let apart : nat_eq b a ≡ false = grind (arith, nat_tests) in
-    let count = count-other flown a b apart in
-    let old = are b below in
-    omega (arith, count, old)
-
 pub times-all : (times flown all : List ℕ) → flown ≡ all → AreTimes times flown → AreTimes times all
 times-all times flown all e are = subst (AreTimes times) e are
 

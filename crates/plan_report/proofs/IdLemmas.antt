@@ -30,13 +30,6 @@ pub record AreKept (limit : ℕ) (parts left ids : List (List ℕ)) (too_many : 
   pub kept : ids ≡ take limit seen
   pub many : too_many ≡ nat_lt limit (length seen)
 
-nothing_kept : (limit : ℕ) → [] ≡ take {A = List ℕ} limit []
-nothing_kept limit = sym (take_all limit [] (omega arith))
-
--- before the first part
-pub AreKept-init : (limit : ℕ) (parts : List (List ℕ)) → AreKept limit parts parts [] false
-AreKept-init limit parts = record { seen = []; split = refl; good = refl; kept = nothing_kept limit; many = sym (le-ltb limit 0 (omega arith)) }
-
 -- no more are kept than may be
 pub AreKept-few : (limit : ℕ) (parts left ids : List (List ℕ)) (too_many : Bool) → AreKept limit parts left ids too_many → length ids ≤ limit
 AreKept-few limit parts left ids too_many h = omega (arith, ap length h.kept, length-take limit h.seen)
@@ -107,13 +100,6 @@ module _ (limit : ℕ) (parts left ids : List (List ℕ)) (done : left ≡ []) w
       let few = ltb-false limit (length so_far.seen) (sym so_far.many) in
       let all = whole false so_far in
       (rw all (le-leb (length so_far.seen) limit few), all ∙ sym (so_far.kept ∙ take_all limit so_far.seen few))
-
--- what the parts of a line give then
-pub ids_in-bad : (place : ℕ) (parts : List (List ℕ)) → list_all is_name parts ≡ false → ids_in place parts ≡ Err (refused SHAPE place)
-ids_in-bad place parts e = rw e refl
-
-pub ids_in-many : (place : ℕ) (parts : List (List ℕ)) → list_all is_name parts ≡ true → nat_le (length parts) ACTIVITY_LIMIT ≡ false → ids_in place parts ≡ Err (refused TOO_MANY place)
-ids_in-many place parts good many = rw (good, many) refl
 
 pub ids_in-good : (place : ℕ) (parts ids : List (List ℕ)) → list_all is_name parts ≡ true → nat_le (length parts) ACTIVITY_LIMIT ≡ true → parts ≡ ids → ids_in place parts ≡ Ok ids
 ids_in-good place parts ids good few same = rw (good, few, same) refl

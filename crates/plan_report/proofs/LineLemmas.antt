@@ -17,9 +17,6 @@ use Rattle.plan_report.specs.PlanText.{line_in, lines_from, refused}
 has_room : (n : ℕ) → 0 < n → nat_lt 0 n ≡ true
 has_room n h = grind (arith, nat_tests)
 
-no_room : (n : ℕ) → n ≡ 0 → nat_lt 0 n ≡ false
-no_room n h = grind (arith, nat_tests)
-
 -- the turns of the loop, over what all the lines give
 module _ (limit : ℕ) (all : Result (List RawLineSeen) Refusal) (lines : List RawLineSeen) (left : List LineSeen)
     (known : all ≡ joined lines (lines_from (length lines + 2) (limit - length lines) left)) where

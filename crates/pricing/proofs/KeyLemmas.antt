@@ -12,13 +12,6 @@ pub values_long : (row : List ℤ) (n : ℕ) → length row ≡ n + 1 → length
 values_long [] n same = absurd (omega (arith, same))
 values_long (w ∷ values) n same = omega (arith, same)
 
--- no counter is written
-pub key_begins : (book : BookSeen) (port : ℕ) (lo : ℤ) (lasting : Bool) (x : ℕ) (row : List ℤ) (n : ℕ) → length row ≡ n + 1
-    → key_row book port lo lasting x row
-    ≡ (get_or row 0 (pos 0) ∷ cond lasting (pos 0) (pos 0 -ℤ end_of book x) ∷ []) ++ keys port lo (end_of book x) book.rules.counters (counters_of row)
-key_begins book port lo lasting x [] n same = absurd (omega (arith, same))
-key_begins book port lo lasting x (w ∷ values) n same = refl
-
 -- one counter more is written
 pub key_more : (port : ℕ) (lo arrival : ℤ) (counters : List CounterSeen) (values key : List ℤ) (c : ℕ) (counter : CounterSeen) (next : ℤ)
     → c < length counters → c < length values → counter ≡ get_or counters c counter → next ≡ key_one port lo arrival counter (get_or values c (pos 0))

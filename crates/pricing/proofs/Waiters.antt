@@ -71,9 +71,6 @@ joined i x j old new grows labels places is_labels is_places = record {
   places = λ e lt. ap (λ l. get_or l e 0) is_places ∙ get_or_append_left old.places.items (x ∷ []) 0 e (omega (arith, lt, places));
 }
 
-pub joins_refl : (i : ℕ) (waiting : Waiting) → Joins i waiting waiting
-joins_refl i waiting = record { keys = grows_refl waiting.keys; labels = λ e lt. refl; places = λ e lt. refl }
-
 pub joins_trans : (i : ℕ) (one two three : Waiting) → Joins i one two → Joins i two three → Joins i one three
 joins_trans i one two three first next =
     let longer = first.keys.rows.longer in record {

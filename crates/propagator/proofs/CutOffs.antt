@@ -30,7 +30,3 @@ module _ (usable : UsableDecides) (has : HasFactDecides) (book : BookSeen) (mark
 pub cut_off_later : (book : BookSeen) (marks : List Fact) (k b d c : ℕ) → b ≤ d → IsCutOff book marks k b c → IsCutOff book marks k d c
 cut_off_later book marks k b d c le off =
     record { before = (let first = off.before in omega (arith, le, first)); links = λ x y less later. off.links x y less (omega (arith, le, later)) }
-
--- and nothing is below 0
-pub nothing_cut_off : (book : BookSeen) (marks : List Fact) (k b : ℕ) → IsCutOff book marks k b 0
-nothing_cut_off book marks k b = record { before = omega arith; links = λ x y less le. absurd (omega (arith, less)) }

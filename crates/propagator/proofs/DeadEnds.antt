@@ -84,9 +84,6 @@ not_asked book marks k c ask not asked a d =
     let apart : a ≢ c = λ same. not (subst (λ (z : ℕ). IsDead book marks k z) same d) in
     (on, omega (arith, under, apart))
 
-pub not_set : (book : BookSeen) (marks : List Fact) (k c : ℕ) (ask : List Bool) → is_set ask c ≡ false → IsAskedBelow book marks k (c + 1) ask → IsAskedBelow book marks k c ask
-not_set book marks k c ask off asked = not_asked book marks k c ask (λ d. both_ways (is_set ask c) off (asked c d).0) asked
-
 -- what is dead from n on has been barred
 pub record IsEnding (book : BookSeen) (k n : ℕ) (old new : MarksSeen) (listed listing : List Fact) (first row : FloorRowSeen) (ask : List Bool) : Type 0 where
   pub marks : AreMarksOf book new

@@ -62,8 +62,6 @@ must_loses book marks k c j ne = record {
 }
 
 module _ (tells : BroughtTells) (usable : UsableDecides) (ends : MayEndDecides) (book : BookSeen) (marks : List Fact) (fact : Fact) (k c : ℕ) (loses : LosesOnly book marks fact k c) where
-  rest_at : (x : ℕ) → x ≢ c → is_alive book (marks ++ fact ∷ []) k x ≡ is_alive book marks k x
-  rest_at x ne = loses.rest x ne
 
   rest_usable : (x b : ℕ) → x ≢ c → b ≢ c → is_usable book (marks ++ fact ∷ []) k (After x) b ≡ is_usable book marks k (After x) b
   rest_usable x b nx nb = usable_kept book marks fact k (After x) b (loses.rest x nx) (loses.rest b nb) (loses.go (After x) b)
@@ -233,17 +231,6 @@ pub bar_touches_not : BroughtTells → UsableDecides → MayEndDecides → (book
     → SameFor book k marks (marks ++ Bar j c ∷ []) → IsTouched book marks k row due ask → IsTouched book (marks ++ Bar j c ∷ []) k row due ask
 bar_touches_not tells usable ends book marks k j c row due ask same was = touched_same tells usable ends book k marks (marks ++ Bar j c ∷ []) row due ask same was
 
--- a row with the floors of marks that left nothing dead for the aircraft is right, with nothing due and nothing to be asked
-pub touched_at_first : BroughtTells → AliveDecides → FloorsAreLeast → (book : BookSeen) (marks : List Fact) (k : ℕ) (row : FloorRowSeen) (due ask : List Bool) → k < aircraft book
-    → row.floors ≡ floors book marks k → IsSettledFor book marks k → IsTouched book marks k row due ask
-touched_at_first tells alive least book marks k row due ask hk are settled = record {
-  floors = λ b lt e. same b ∙ least book marks k b lt ∙ sym (least_kept tells book marks marks k b (floor_of book marks k) (floor_in row) refl
-      (λ x less. ap (λ (f : Option (List ℤ)). stepped_floor book marks k (After x) b f) (same x)));
-  asked = λ a lt e on d. settled a lt (record {
-    of_book = (hk, lt);
-    alive = (alive book marks k a).0 on;
-    dead = subst (λ (floor : Option (List ℤ)). IsDeadBy book marks k a floor) (same a) d;
-  });
 }
   where
     same : (a : ℕ) → floor_in row a ≡ floor_of book marks k a

@@ -29,12 +29,6 @@ module _ (book : BookSeen) (marks : List Fact) (k : ℕ) where
       let here : low ≡ l = some_same low l (sym e ∙ ap (λ (listed : List (Option (List ℤ))). get_or listed b None) same ∙ is) in
       subst (λ (z : List ℤ). EachAtMost z values) (sym here) under
 
-  pub none_low : (row : FloorRowSeen) → ((a : ℕ) → a < activities book → floor_in row a ≡ None) → IsLowRow book marks k row
-  none_low row none b lt low values e e' = absurd (some_is_not (floor_in row b) low (none b lt) e)
-    where
-      some_is_not : (f : Option (List ℤ)) (l : List ℤ) → f ≡ None → f ≡ Some l → ⊥
-      some_is_not f l is e = cc
-
   pub losing_low : (row next : FloorRowSeen) → LosesFloors row next → IsLowRow book marks k row → IsLowRow book marks k next
   losing_low row next loses low b lt l values e e' = elim (loses b) [
     | inl same ↦ low b lt l values (sym same ∙ e) e'

@@ -110,13 +110,3 @@ module _ (book : BookSeen) (marks : List Fact) (k b : ℕ) (first : FloorRowSeen
         ∙ sym (least book marks k b lt);
     others = λ a ne. refl;
   }
-
--- where what is brought lowers nothing, the row is as it is to be
-pub set_to_same : (b : ℕ) (row : FloorRowSeen) (more : Option (List ℤ)) → lesser_floor (floor_in row b) more ≡ floor_in row b
-    → IsSetAt b (lesser_floor (floor_in row b) more) row row
-set_to_same b row more e = record { width = refl; count = refl; here = sym e; others = λ a ne. refl }
-
--- values that are no lower lower nothing, whether the link may be used or not
-pub no_lower : (least values : List ℤ) (t : Bool) → lesser least values ≡ least → lesser_floor (Some least) (if t then Some values else None) ≡ Some least
-no_lower least values true e = ap (λ (l : List ℤ). Some l) e
-no_lower least values false e = refl

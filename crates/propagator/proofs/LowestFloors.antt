@@ -140,17 +140,6 @@ none_lowered book rows lowest is none = record {
   under = λ k lt. absurd (omega (arith, lt));
 }
 
-pub none_lowest : (book : BookSeen) (rows : List FloorRowSeen) (lowest : FloorRowSeen) → ((a : ℕ) → a < activities book → floor_in lowest a ≡ None) → IsLowestOf book rows lowest
-none_lowest book rows lowest none k lt a less low values e known = absurd (none_is_not low (sym (none a less) ∙ e))
-
-pub row_lowered : (book : BookSeen) (rows : List FloorRowSeen) (row lowest new : FloorRowSeen) (k : ℕ) → AreLowered book rows lowest k → row.floors ≡ floors_in rows k
-    → IsLowered book row lowest new (activities book) → AreLowered book rows new (k + 1)
-row_lowered book rows row lowest new k so_far is more = record {
-  room = more.room;
-  wide = more.wide;
-  under = below_more (λ (j : ℕ). (a : ℕ) → a < activities book → (low : List ℤ) → get_or (floors_in rows j) a None ≡ Some low → IsLowFor (floor_in new a) low) k
-      (λ j lt a less low e. more.stays a low (so_far.under j lt a less low e))
-      (λ a less low e. more.under a less low (ap (λ (floors : List (Option (List ℤ))). get_or floors a None) is ∙ e));
 }
 
 -- of all, they are no higher than any

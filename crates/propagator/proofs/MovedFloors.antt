@@ -62,10 +62,6 @@ moves_one old new b floor row next set more = record {
   floors = λ a off. inl (set.others a (λ same. both_ways (contains (b ∷ []) a) (more a off).1 (or_left (nat_eq a b) false (eq-eqb a b same))));
 }
 
-pub moves_both : (f g h : List Bool) (row mid next : FloorRowSeen) → MovesFloors f g row mid → MovesFloors g h mid next → MovesFloors f h row next
-moves_both f g h row mid next first second = record {
-  keeps = λ i off. first.keeps i (second.keeps i off);
-  floors = λ a off. kept_or_lost (floor_in row a) (floor_in mid a) (floor_in next a) (first.floors a (second.keeps a off)) (second.floors a off);
 }
 
 pub moves_losing : (f g : List Bool) (row mid last next : FloorRowSeen) → LosesFloors row mid → MovesFloors f g mid last → LosesFloors last next → MovesFloors f g row next

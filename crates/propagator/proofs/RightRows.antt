@@ -73,12 +73,6 @@ module _ (tells : BroughtTells) (usable : UsableDecides) (ends : MayEndDecides) 
     asked = λ a lt e on d. was.asked a lt e on (on_floor book marks k a (floor_in row a) (floor_in next a) (same a) d);
   }
 
-  -- all is due, and all is to be asked
-  pub touched_all : (marks : List Fact) (row : FloorRowSeen) (due ask : List Bool) → ((i : ℕ) → i < activities book → is_set due i ≡ true)
-      → ((i : ℕ) → i < activities book → is_set ask i ≡ true) → IsTouched book marks k row due ask
-  touched_all marks row due ask all every = record {
-    floors = λ b lt e. absurd (both_ways (is_set due b) e (all b lt));
-    asked = λ a lt e on d. absurd (both_ways (is_set ask a) e (every a lt));
   }
 
 module _ (succ : SuccessorsAreLinks) (pred : PredecessorsAreLinks) (tells : BroughtTells) (usable : UsableDecides) (ends : MayEndDecides) (book : BookSeen) (k : ℕ) where

@@ -29,14 +29,3 @@ module _ (book : BookSeen) (facts more : List Fact) where
 
   pub kept_on : (kept : PropagatorSeen) → IsKeptFor book facts kept → IsKeptFor book (facts ++ more) kept
   kept_on kept is = record { made = is.made; right = seen_on kept.rows kept.seen is.right }
-
--- all facts, once they are shut, are such a front
-pub all_seen : (book : BookSeen) (facts : List Fact) (rows : List FloorRowSeen) (n : ℕ) → n ≡ length facts → IsShut book facts → AreFloorsOf book facts rows
-    → KeepsFront book facts rows n
-all_seen book facts rows n count shut floors =
-    let whole : facts ≡ take (length facts) facts = sym (take-length facts) in
-    subst (λ (i : ℕ). KeepsFront book facts rows i) (sym count) (record {
-      few = omega arith;
-      shut = subst (λ (z : List Fact). IsShut book z) whole shut;
-      floors = subst (λ (z : List Fact). AreFloorsOf book z rows) whole floors;
-    })

@@ -14,28 +14,11 @@ use Rattle.connection_net.specs.inside.Laws.{RowsAreTheirPlaces}
 use Rattle.floor_rows.specs.inside.FloorRow.{FloorRowSeen, floor_in, IsSetAt}
 use Rattle.propagator.specs.inside.Touching.{is_set, AreSetToo}
 
--- what is not set after one flag is set
-pub set_one : (flags : List Bool) (j i : ℕ) → j < length flags → is_set (set flags j true) i ≡ false → (is_set flags i ≡ false) × (j ≢ i)
-set_one flags j i lt e = elim (eqb_tells i j) [
-  | inl here ↦ absurd (both_ways (is_set (set flags j true) i) e (get_or-set_at flags j i true false here.1 lt))
-  | inr other ↦ (sym (get_or-set_other flags j i true false other.1) ∙ e, λ same. other.1 (sym same))
 ]
-
-pub one_set : (flags : List Bool) (j : ℕ) → j < length flags → AreSetToo (j ∷ []) flags (set flags j true)
-one_set flags j lt i e =
-    let (was, apart) = set_one flags j i lt e in
-    (was, ap (λ (t : Bool). t || false) (ne_eqb i j (λ same. apart (sym same))))
 
 -- the first n of the numbers are set
 abbrev pub AreSetBelow : List ℕ → ℕ → List Bool → List Bool → Type 0
 AreSetBelow numbers n old new = (i : ℕ) → is_set new i ≡ false → (is_set old i ≡ false) × ((j : ℕ) → j < n → get_or numbers j 0 ≢ i)
-
-pub set_next : (numbers : List ℕ) (n : ℕ) (old flags : List Bool) → get_or numbers n 0 < length flags → AreSetBelow numbers n old flags
-    → AreSetBelow numbers (n + 1) old (set flags (get_or numbers n 0) true)
-set_next numbers n old flags lt below i e =
-    let (was, apart) = set_one flags (get_or numbers n 0) i lt e in
-    let (first, rest) = below i was in
-    (first, below_more (λ (j : ℕ). get_or numbers j 0 ≢ i) n rest apart)
 
 pub all_set : RowsAreTheirPlaces → (numbers : List ℕ) (n : ℕ) (old new : List Bool) → length numbers ≤ n → AreSetBelow numbers n old new → AreSetToo numbers old new
 all_set places numbers n old new le below i e =

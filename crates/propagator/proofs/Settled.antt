@@ -78,20 +78,3 @@ ready_next book n old new listed listing rows next seen grows others ready k le 
     subst (λ (floors : List (Option (List ℤ))). IsReadyFor book new k floors seen) (sym (others k apart))
     (subst (λ (z : List Fact). IsReadyFor book z k (floors_in rows k) seen) (sym grows.marks)
     (ready_on book old grows.added k (floors_in rows k) seen (ready k (omega (arith, le)) lt)))
-
--- an aircraft that is settled is ready for one fact more
-pub ready_again : (book : BookSeen) (marks : List Fact) (fact : Fact) (new : List Fact) (k n : ℕ) (rows : List FloorRowSeen) → n ≡ length marks → new ≡ marks ++ fact ∷ []
-    → StandsFor book marks rows k → IsReadyFor book new k (floors_in rows k) (Some n)
-ready_again book marks fact new k n rows count is stands =
-    subst (λ (z : List Fact). IsReadyFor book z k (floors_in rows k) (Some n)) (sym is)
-    (ready_on book marks (fact ∷ []) k (floors_in rows k) (Some n) all_seen)
-  where
-    whole : take n marks ≡ marks
-    whole = ap (λ (i : ℕ). take i marks) count ∙ take-length marks
-
-    all_seen : IsReadyFor book marks k (floors_in rows k) (Some n)
-    all_seen = (
-      omega (arith, count),
-      subst (λ (z : List Fact). IsSettledFor book z k) (sym whole) stands.settled,
-      stands.floors ∙ ap (λ (z : List Fact). floors book z k) (sym whole),
-    )

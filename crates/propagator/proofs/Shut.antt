@@ -11,12 +11,6 @@ use Rattle.floor_rows.specs.inside.FloorRow.{FloorRowSeen}
 use Rattle.propagator.specs.inside.Settling.{StandBelow}
 use Rattle.propagator.specs.inside.Cutting.{NothingNewFollows}
 
-pub shut_for_floors : (book : BookSeen) (marks : List Fact) (rows : List FloorRowSeen) → StandBelow book marks rows (aircraft book) → IsShutForFloors book marks
-shut_for_floors book marks rows stand (Bar k a) of f = (stand k of.0).settled a of.1 f
-shut_for_floors book marks rows stand (Must k a) of f = f
-shut_for_floors book marks rows stand (Cut a b) of f = f
-shut_for_floors book marks rows stand (Tie a b) of f = f
-
 pub shut_at_end : (book : BookSeen) (before marks : List Fact) (rows : List FloorRowSeen) → StandBelow book before rows (aircraft book)
     → ((k a : ℕ) → ¬ IsOnlyCarrier book before k a) → NothingNewFollows book before marks → ((a b : ℕ) → ¬ IsDeadConnection book marks a b) → IsShut book marks
 shut_at_end book before marks rows stand none nothing cut (Bar k a) of f = (stand k of.0).settled a of.1 (nothing (Bar k a) f)

@@ -76,10 +76,5 @@ module _ (table : CostTableSeen) (book : BookSeen) (pool : List Pooled) (a : ℕ
   risen_more false visited risen still =
       let same = ap (λ (us : List ℤ). sum_in table book us pool) (still refl).0 in omega (arith, ints, same, visited)
 
--- a sweep that moved nothing leaves no activity marked
-pub all_settled : (table : CostTableSeen) (book : BookSeen) (pool : List Pooled) (duals : List ℤ) (due : List Bool) → IsWork table book pool duals due
-    → ((b : ℕ) → b < activities book → is_due due b ≡ false) → (a : ℕ) → a < activities book → IsSettledAt table book pool duals a
-all_settled table book pool duals due work none a lt = work.rest a lt (none a lt)
-
 pub some_is : {X : Type 0} (o : Option X) (x : X) → o ≡ Some x → IsSome o
 some_is o x e = ap is_some e

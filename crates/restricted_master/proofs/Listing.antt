@@ -137,17 +137,6 @@ grow_one route q i b old mid later grown below is within new same = record {
           ∙ grown.more a lt ∙ ap (λ (t : Bool). list_at old a ++ (if t then i ∷ [] else [])) (sym now))
     ]
 
-pub grow_each : (pool : PoolSeen) (numbers : List ℕ) (q i : ℕ) (old mid later : List (List ℕ)) → GrowBy pool (take q numbers) old mid → q < length numbers
-    → get_or numbers q 0 ≡ i → GrowByOne (route_at pool i) i mid later → GrowBy pool (take (q + 1) numbers) old later
-grow_each pool numbers q i old mid later grown below is one = record {
-  each = one.each ∙ grown.each;
-  more = λ a lt.
-      let here : a < length mid = omega (arith, lt, grown.each) in
-      one.more a here ∙ ap (λ (xs : List ℕ). xs ++ cond (has pool a i) (i ∷ []) []) (grown.more a lt)
-      ∙ append_assoc (list_at old a) (filter (has pool a) (take q numbers)) (cond (has pool a i) (i ∷ []) [])
-      ∙ ap (λ (xs : List ℕ). list_at old a ++ xs)
-      (sym (ap (filter (has pool a)) (take_more numbers q 0 below ∙ ap (λ (j : ℕ). take q numbers ++ j ∷ []) is)
-      ∙ filter-append (has pool a) (take q numbers) (i ∷ [])));
 }
 
 -- one aircraft more

@@ -24,10 +24,6 @@ pub or_right : (s t : Bool) → t ≡ true → (s || t) ≡ true
 or_right true t e = refl
 or_right false t e = e
 
-or_neither : (s t : Bool) → (s || t) ≡ false → (s ≡ false) × (t ≡ false)
-or_neither true t e = absurd (both_ways true e refl)
-or_neither false t e = (refl, e)
-
 pub true_or_false : (b : Bool) → (b ≡ true) ⊎ (b ≡ false)
 true_or_false true = inl refl
 true_or_false false = inr refl

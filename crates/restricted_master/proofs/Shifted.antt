@@ -54,9 +54,6 @@ not_after n b a (c ∷ rest) rises le =
 step_same : (u v x y : ℤ) → x ≡ y → (v +ℤ x) ≡ ((u +ℤ y) +ℤ (v -ℤ u))
 step_same u v x y e = omega (arith, ints, e)
 
-step_other : (w x y : ℤ) → x ≡ y → (w +ℤ x) ≡ (w +ℤ y)
-step_other w x y e = ap (λ (z : ℤ). w +ℤ z) e
-
 step_more : (w x y d : ℤ) → x ≡ (y +ℤ d) → (w +ℤ x) ≡ ((w +ℤ y) +ℤ d)
 step_more w x y d e = omega (arith, ints, e)
 

@@ -109,6 +109,3 @@ heavier_trans one two three first next = record {
   best = λ most at_most. next.best most (first.best most at_most);
   limit = at_most_trans three.limit two.limit one.limit next.limit first.limit;
 }
-
-pub heavier_refl : (ends : Ends) → AreNoHeavier ends ends
-heavier_refl ends = record { best = λ most at_most. at_most; limit = omega (arith, ints) }

@@ -24,10 +24,6 @@ use Rattle.route_search.specs.declared.completion.Way.{Way}
 use Rattle.route_search.specs.inside.Completion.{IsWay}
 use Rattle.route_search.specs.inside.Reach.{IsPast, IsTried, AreTried, IsDone, AreDone, Grows}
 
--- what leaves more buckets as they are leaves fewer as they are
-pub Grows-less : (m n : ℕ) (old new : StoreSeen) → m ≤ n → Grows n old new → Grows m old new
-Grows-less m n old new le grows = record { rows = grows.rows; covered = grows.covered; others = λ v lt. grows.others v (omega (arith, lt, le)) }
-
 -- a row of a bucket is kept, and has its node
 pub row_of_bucket : (store : StoreSeen) → IsStore store → (b j : ℕ) → b < length store.buckets → Contains (bucket_of store b) j → IsRowOf store b j
 row_of_bucket store sound b j lt has = All-contains (IsRowOf store b) (bucket_of store b) j (sound.numbers b lt) has
@@ -62,11 +58,6 @@ module _ (table : CostTableSeen) (book : BookSeen) (marks : List Fact) (k : ℕ)
     | inr more ↦ let at : i ≡ q = omega (arith, lt, more) in
         subst (λ (m : ℕ). IsTried table book marks k duals limit new x (row_at first.rows (get_or there m 0)) b) at tried
   ]
-
-  -- where there is no way through b, whatever b gives is past any limit
-  pub no_way_is_tried : (limit : ℤ) (store : StoreSeen) (x : Place) (row : List ℤ) (b : ℕ) → ((rest : List ℕ) → ¬ FitsFrom book marks k x (b ∷ rest))
-      → IsUsable book marks k x b → IsTried table book marks k duals limit store x row b
-  no_way_is_tried limit store x row b none usable within = inr (λ rest fits. absurd (none rest (usable, fits)))
 
   over : (w arc least rest limit room : ℤ) → least ≤ℤ (arc +ℤ rest) → room ≡ limit -ℤ least → room <ℤ w → limit <ℤ ((w +ℤ arc) +ℤ rest)
   over w arc least rest limit room le is lt = omega (arith, ints, le, is, lt)

@@ -92,16 +92,4 @@ module _ {A : Type 0} (give : List ℕ → Result A ℕ) (P : A → Type 0) (par
         let same : kept ≡ so_far.read = so_far.front ∙ take_all ITEM_LIMIT so_far.read few in
         rw (all, fits, same) refl
 
-  -- what is kept fits
-  pub AreRead-few : (too_many : Bool) → AreRead give P parts left kept too_many → length kept ≤ ITEM_LIMIT
-  AreRead-few too_many so_far = within ITEM_LIMIT kept so_far.read so_far.front
-
--- before the first part nothing is read
-pub AreRead-begun : {A : Type 0} (give : List ℕ → Result A ℕ) (P : A → Type 0) (parts : List (List ℕ)) → AreRead give P parts parts [] false
-AreRead-begun give P parts = record {
-  read = [];
-  rest = sym (joined-nil (look_each give parts));
-  front = refl;
-  many = refl;
-  sound = All-nil P;
 }

@@ -43,34 +43,6 @@ one_flier (route ∷ plan) (suc j) (suc k) a once hj hk =
     let one : times_flown plan a ≡ 1 = omega (arith, e, d, once) in
     ap suc (one_flier plan j k a one hj hk)
 
-pub any_flier : (test : List ℕ → Bool) (a : ℕ) → ((route : List ℕ) → test route ≡ true → contains route a ≡ true)
-    → (plan : List (List ℕ)) → list_any test plan ≡ true → 1 ≤ times_flown plan a
-any_flier test a has [] h = absurd (both_ways false refl h)
-any_flier test a has (route ∷ plan) h =
-    let e = times_flown-cons route plan a in
-    elim (or_cases (test route) (list_any test plan) h) [
-      | inl t ↦ (let c = contains_counts route a (has route t) in omega (arith, e, c))
-      | inr t ↦ (let d = any_flier test a has plan t in omega (arith, e, d))
-    ]
-
--- a test that only routes with a pass, and that some route passes, is passed by the route that has a
-pub one_route : (test : List ℕ → Bool) (a : ℕ) → ((route : List ℕ) → test route ≡ true → contains route a ≡ true)
-    → (plan : List (List ℕ)) (k : ℕ) → times_flown plan a ≡ 1 → list_any test plan ≡ true → contains (route_of plan k) a ≡ true → test (route_of plan k) ≡ true
-one_route test a has [] k once some here = absurd (both_ways false refl some)
-one_route test a has (route ∷ plan) zero once some here =
-    let e = times_flown-cons route plan a in let c = contains_counts route a here in
-    elim (or_cases (test route) (list_any test plan) some) [
-      | inl t ↦ t
-      | inr t ↦ (let d = any_flier test a has plan t in absurd (omega (arith, e, c, d, once)))
-    ]
-one_route test a has (route ∷ plan) (suc k) once some here =
-    let e = times_flown-cons route plan a in let d = flown_somewhere plan k a here in
-    let one : times_flown plan a ≡ 1 = omega (arith, e, d, once) in
-    elim (or_cases (test route) (list_any test plan) some) [
-      | inl t ↦ (let c = contains_counts route a (has route t) in absurd (omega (arith, e, c, d, once)))
-      | inr t ↦ one_route test a has plan k one t here
-    ]
-
 -- who flies an activity that is flown
 pub contained_from_count : (route : List ℕ) (a : ℕ) → 1 ≤ count_by (nat_eq a) route → contains route a ≡ true
 contained_from_count [] a h = absurd (omega (arith, h))

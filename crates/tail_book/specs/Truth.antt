@@ -58,16 +58,14 @@ pub record IsTrueOutcomeBy (costs : Costs) (book : BookSeen) (answer : Outcome) 
   pub claim : IsTrueClaimBy costs book (claim_of answer)
   pub plan : HasItsPlanBy costs book answer
 
+-- the same by what the book itself says that plans cost
 abbrev pub IsPlanOf : BookSeen → ℕ → List (List ℕ) → Type 0
 IsPlanOf book = IsPlanBy (plan_cost book) book
 
 abbrev pub IsTrueOutcome : BookSeen → Outcome → Type 0
 IsTrueOutcome book = IsTrueOutcomeBy (plan_cost book) book
 
--- the same by what the book itself says that plans cost
-abbrev pub CostsAtLeast : BookSeen → ℕ → Type 0
-CostsAtLeast book = CostsAtLeastBy (plan_cost book) book
-
+-- a claim is true by what the book itself says that plans cost
 abbrev pub IsTrueClaim : BookSeen → Claim → Type 0
 IsTrueClaim book = IsTrueClaimBy (plan_cost book) book
 

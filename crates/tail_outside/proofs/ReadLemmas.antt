@@ -16,16 +16,6 @@ ended xs bytes limit begins over short =
     let whole : xs ≡ bytes = sym (append-nil xs) ∙ rw over at begins in
     rw (← whole) (sym (take_all limit xs short))
 
-pub read-end : (told now : Option (List ℕ)) (xs buffer : List ℕ) (limit : ℕ) → now ≡ told → IfSome told (Begins xs) → IfSome now (λ bytes. IsRead bytes (length xs) buffer 0)
-    → 0 < length buffer → length xs ≤ limit → IfSome told (λ bytes. xs ≡ take limit bytes)
-read-end None now xs buffer limit same begins read room short = tt
-read-end (Some bytes) now xs buffer limit same begins read room short =
-    let r : IsRead bytes (length xs) buffer 0 = rw same at read in
-    elim (r.none.0 refl) [
-      | inl none ↦ absurd (omega arith)
-      | inr over ↦ ended xs bytes limit begins over short
-    ]
-
 longer : (xs bytes piece : List ℕ) (n : ℕ) → Begins xs bytes → piece ≡ take n (drop (length xs) bytes) → n ≤ length (drop (length xs) bytes) → Begins (xs ++ piece) bytes
 longer xs bytes piece n begins is fits =
     let n_is : length piece ≡ n = rw is (length-take-le n (drop (length xs) bytes) fits) in

@@ -108,11 +108,6 @@ certificate_case : (tables : TablesSeen) (text : Option (List ℕ)) (book : Book
     → case_of (record { tables = tables; subject = CertificateBytes text }) ≡ Ok (CertificateCase book text)
 certificate_case tables text book is_book = rw is_book refl
 
--- tables that are refused are refused with any certificate
-pub certificate_refused : (tables : TablesSeen) (text : Option (List ℕ)) (refusal : Refusal) → book_of tables.timetable tables.fleet tables.rules ≡ Err refusal
-    → AreRefused (record { tables = tables; subject = CertificateBytes text }) refusal
-certificate_refused tables text refusal is = rw is refl
-
 -- a front that is longer than what is judged is that of a file that is
 front_long : (limit : ℕ) (bytes : List ℕ) → limit < length (take (limit + 1) bytes) → limit < length bytes
 front_long limit bytes long = elim (split (length bytes) (limit + 1)) [

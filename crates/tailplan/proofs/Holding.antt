@@ -27,15 +27,6 @@ one_written name old new written = record {
   writes = written.writes;
 }
 
--- nothing was written
-pub none_written : (cert : Option (List ℕ)) (old new : FilesShown) → OnlyRead old new → OnlyCertificate cert old new
-none_written cert old new read = record {
-  others = λ other differs. read.holds other;
-  lets_read = read.lets_read;
-  lets_write = read.lets_write;
-  ceases = λ name lasts. sym (read.ceased name) ∙ lasts;
-  reads = read.reads;
-  writes = omega (arith, read.writes);
 }
 
 -- what was read before makes no difference

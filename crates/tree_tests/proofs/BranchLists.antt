@@ -130,10 +130,3 @@ module _ (book : BookSeen) (facts : List Fact) where
       longer : (xs ys : List Fact) → length xs ≤ length (xs ++ ys)
       longer [] ys = omega arith
       longer (x ∷ xs) ys = let h = longer xs ys in omega (arith, h)
-
-  pub split_owed : (items : List Owed) (first : Fact) (owed : Owed) → owed.count ≡ length facts
-      → owed_behind (facts ++ first ∷ []) (reverse (items ++ owed ∷ [])) ≡ (facts ++ owed.fact ∷ []) ∷ owed_behind facts (reverse items)
-  split_owed items first owed count =
-      let front : take owed.count (facts ++ first ∷ []) ≡ facts = ap (λ (n : ℕ). take n (facts ++ first ∷ [])) count ∙ front_is facts first in
-      ap (λ (z : List Owed). owed_behind (facts ++ first ∷ []) z) (reversed items owed)
-      ∙ ap (λ (z : List Fact). (z ++ owed.fact ∷ []) ∷ owed_behind z (reverse items)) front
