@@ -9,7 +9,7 @@ ghost use Rattle.std.specs.List.{All};
 ghost use Rattle.branch_marks.specs.declared.event.Event.{Event};
 ghost use Rattle.branch_marks.specs.Events.{IsNotable};
 ghost use Rattle.branch_marks.specs.LogShown.{LogShown};
-ghost use Rattle.branch_marks.specs.TreeLog.{Notes, NotesNothing, IsLater, TellsNothing, WriteHasFailed};
+ghost use Rattle.branch_marks.specs.TreeLog.{Notes, NotesNothing, IsLater, TellsNothing, LeavesLabelsOut, WriteHasFailed};
 
 use crate::Event;
 use std::alloc::Global;
@@ -37,6 +37,10 @@ pub trait TreeLog {
     fn wants_events(&self) -> bool
         ensures { result ≡ false → TellsNothing (shows self.now) };
 
+    /// Whether labels are wanted. A log that wants none tells the same without them, so that no family has to be made for it.
+    fn wants_labels(&self) -> bool
+        ensures { result ≡ false → LeavesLabelsOut (shows self.now) };
+
     /// Notes the event at the end of the list. After a failure the log tells the list as it was, or is torn.
     fn note(&mut self, event: &Event) -> Result<(), LogFail>
         requires { IsNotable event.now }
@@ -61,6 +65,12 @@ impl TreeLog for NoLog {
     ghost beside = { λ _ _. ⊤ };
 
     fn wants_events(&self) -> bool
+        ensures none { result ≡ false }
+    {
+        false
+    }
+
+    fn wants_labels(&self) -> bool
         ensures none { result ≡ false }
     {
         false
@@ -117,6 +127,12 @@ impl TreeLog for MemTree {
     ghost beside = { λ _ _. ⊤ };
 
     fn wants_events(&self) -> bool
+        ensures all { result ≡ true }
+    {
+        true
+    }
+
+    fn wants_labels(&self) -> bool
         ensures all { result ≡ true }
     {
         true

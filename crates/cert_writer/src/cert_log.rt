@@ -165,6 +165,12 @@ impl<S: Sink> TreeLog for CertLog<S> {
         true
     }
 
+    fn wants_labels(&self) -> bool
+        ensures all { result ≡ true }
+    {
+        true
+    }
+
     fn note(&mut self, event: &Event) -> Result<(), LogFail> {
         if add_line(&CertLine::Event(*event), &mut self.waiting).is_err() {
             return Err(LogFail::Memory);

@@ -51,6 +51,10 @@ impl TreeLog for Failing {
         true
     }
 
+    fn wants_labels(&self) -> bool {
+        true
+    }
+
     fn note(&mut self, event: &Event) -> Result<(), LogFail> {
         if self.room == 0 {
             self.faults = self.faults.saturating_add(1);
