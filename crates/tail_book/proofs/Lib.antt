@@ -16,7 +16,7 @@ pub mod Along
 pub mod RouteBounds
 pub mod RisingLists
 pub mod FlownTimes
-pub mod Fliers
+pub mod FlierLemmas
 pub mod InTurn
 pub mod Renumbered
 pub mod Worked

@@ -1,4 +1,4 @@
-use Rattle.tail_book.proofs.Fliers.{fliers_fly}
+use Rattle.tail_book.proofs.FlierLemmas.{fliers_fly}
 use Rattle.tail_book.proofs.laws.fliers.fliers_fly.Goals as goal
 
 pub returns : goal.returns

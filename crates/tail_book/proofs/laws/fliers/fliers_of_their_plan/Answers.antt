@@ -1,4 +1,4 @@
-use Rattle.tail_book.proofs.Fliers.{fliers_again}
+use Rattle.tail_book.proofs.FlierLemmas.{fliers_again}
 use Rattle.tail_book.proofs.laws.fliers.fliers_of_their_plan.Goals as goal
 
 pub returns : goal.returns

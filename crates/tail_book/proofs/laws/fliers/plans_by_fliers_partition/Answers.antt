@@ -1,4 +1,4 @@
-use Rattle.tail_book.proofs.Fliers.{plan_parts}
+use Rattle.tail_book.proofs.FlierLemmas.{plan_parts}
 use Rattle.tail_book.proofs.laws.fliers.plans_by_fliers_partition.Goals as goal
 
 pub returns : goal.returns

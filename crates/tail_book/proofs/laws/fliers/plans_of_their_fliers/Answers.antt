@@ -1,4 +1,4 @@
-use Rattle.tail_book.proofs.Fliers.{plan_again}
+use Rattle.tail_book.proofs.FlierLemmas.{plan_again}
 use Rattle.tail_book.proofs.laws.fliers.plans_of_their_fliers.Goals as goal
 
 pub returns : goal.returns
