@@ -57,8 +57,6 @@ module _ (final : ℕ) (nodes : List Node) (node : Node) where
   abbrev IsNotLeft : Node → Type 0
   IsNotLeft n = (bound : ℕ) → ¬ IsLeftAt final n.ending bound
 
-  )
-
   module _ (units : ℕ) (left : IsLeftAt final node.ending units) where
     above : (low : ℕ) → low ≤ units → IsAbove low node
     above low less bound is = let same = only_one final units bound node.ending left is in omega (arith, same, less)

@@ -108,12 +108,6 @@ left-none route i k nobody old mid le left = left mid (subst (λ (rest : List �
 abbrev pub found_or : ℕ → List (List ℕ) → ℕ → ℕ → ℕ → ℕ
 found_or k rest nobody a before = if nat_eq before nobody then k + flier rest a else before
 
-]
-  where
-    on_route : nat_eq before nobody ≡ true → (b : Bool) → k + cond (not b) (1 + flier rest a) 0 ≡ found_or (k + 1) rest nobody a (if b then k else before)
-    on_route is true = let same : k + 0 ≡ k = omega arith in same ∙ ap (λ (b : Bool). if b then k + 1 + flier rest a else k) (sym (ne_eqb k nobody (λ e. absurd (omega (arith, lt, e)))))
-    on_route is false = let same : k + (1 + flier rest a) ≡ k + 1 + flier rest a = omega arith in same ∙ ap (λ (b : Bool). if b then k + 1 + flier rest a else before) (sym is)
-
 found-last : (nobody a before : ℕ) → found_or nobody [] nobody a before ≡ before
 found-last nobody a before = elim (cases_eq before nobody) [
   | inl e ↦ (let same : nobody + 0 ≡ before = omega (arith, e) in ap (λ (b : Bool). if b then nobody + 0 else before) (eq-eqb before nobody e) ∙ same)
@@ -124,14 +118,6 @@ found-last nobody a before = elim (cases_eq before nobody) [
 pub record AreNoted (routes : List (List ℕ)) (n k : ℕ) (fliers : List ℕ) : Type 0 where
   pub count : length fliers ≡ n
   pub each : (a : ℕ) → a < n → flier routes a ≡ found_or k (drop k routes) (length routes) a (get_or fliers a 0)
-
-}
-  where
-    start : (a before : ℕ) → before ≡ length routes → flier routes a ≡ found_or 0 routes (length routes) a before
-    start a before e = let same : flier routes a ≡ 0 + flier routes a = omega arith in
-        same ∙ ap (λ (b : Bool). if b then 0 + flier routes a else before) (sym (eq-eqb before (length routes) e))
-
-}
 
 pub noted-end : (routes : List (List ℕ)) (n k : ℕ) (fliers : List ℕ) → k ≡ length routes → AreNoted routes n k fliers → fliers ≡ fliers_of routes n
 noted-end routes n k fliers e all =

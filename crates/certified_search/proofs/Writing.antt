@@ -168,5 +168,3 @@ module _ (book : BookSeen) (limit : Limit) where
             front = (rest, ap (λ (piece : List ℕ). tells.taken ++ piece) split ∙ sym (append_assoc tells.taken part rest));
           }),
         )
-
-]

@@ -20,11 +20,6 @@ one_more more times here there e =
     regroup : (times here there : ℕ) → there ≡ here + 1 → times + here + 1 ≡ times + there
     regroup times here there e = omega (arith, e)
 
-}
-  where
-    nothing : (n : ℕ) → n ≡ n + 0
-    nothing n = omega arith
-
 -- an activity more of the route is counted
 module _ (more : FlownWithOneMore) (old tally : List Flown) (route : List ℕ) (i b : ℕ) (v : Flown) (lt : i < length route) (at : get_or route i 0 ≡ b)
     (within : b < length tally) (is : v ≡ flown_one_more (get_or tally b Never)) (notes : NotesRoute old tally (take i route)) where

@@ -62,7 +62,6 @@ must_loses book marks k c j ne = record {
 }
 
 module _ (tells : BroughtTells) (usable : UsableDecides) (ends : MayEndDecides) (book : BookSeen) (marks : List Fact) (fact : Fact) (k c : ℕ) (loses : LosesOnly book marks fact k c) where
-
   rest_usable : (x b : ℕ) → x ≢ c → b ≢ c → is_usable book (marks ++ fact ∷ []) k (After x) b ≡ is_usable book marks k (After x) b
   rest_usable x b nx nb = usable_kept book marks fact k (After x) b (loses.rest x nx) (loses.rest b nb) (loses.go (After x) b)
 
@@ -230,8 +229,3 @@ module _ (tells : BroughtTells) (usable : UsableDecides) (ends : MayEndDecides) 
 pub bar_touches_not : BroughtTells → UsableDecides → MayEndDecides → (book : BookSeen) (marks : List Fact) (k j c : ℕ) (row : FloorRowSeen) (due ask : List Bool)
     → SameFor book k marks (marks ++ Bar j c ∷ []) → IsTouched book marks k row due ask → IsTouched book (marks ++ Bar j c ∷ []) k row due ask
 bar_touches_not tells usable ends book marks k j c row due ask same was = touched_same tells usable ends book k marks (marks ++ Bar j c ∷ []) row due ask same was
-
-}
-  where
-    same : (a : ℕ) → floor_in row a ≡ floor_of book marks k a
-    same a = ap (λ (listed : List (Option (List ℤ))). get_or listed a None) are

@@ -140,8 +140,6 @@ none_lowered book rows lowest is none = record {
   under = λ k lt. absurd (omega (arith, lt));
 }
 
-}
-
 -- of all, they are no higher than any
 pub all_lowered : (book : BookSeen) (rows : List FloorRowSeen) (lowest : FloorRowSeen) (n : ℕ) → n ≡ aircraft book → AreLowered book rows lowest n → IsLowestOf book rows lowest
 all_lowered book rows lowest n e are k lt a less low values is known =

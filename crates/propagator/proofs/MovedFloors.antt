@@ -62,8 +62,6 @@ moves_one old new b floor row next set more = record {
   floors = λ a off. inl (set.others a (λ same. both_ways (contains (b ∷ []) a) (more a off).1 (or_left (nat_eq a b) false (eq-eqb a b same))));
 }
 
-}
-
 pub moves_losing : (f g : List Bool) (row mid last next : FloorRowSeen) → LosesFloors row mid → MovesFloors f g mid last → LosesFloors last next → MovesFloors f g row next
 moves_losing f g row mid last next first moves second = record {
   keeps = moves.keeps;

@@ -73,8 +73,6 @@ module _ (tells : BroughtTells) (usable : UsableDecides) (ends : MayEndDecides) 
     asked = λ a lt e on d. was.asked a lt e on (on_floor book marks k a (floor_in row a) (floor_in next a) (same a) d);
   }
 
-  }
-
 module _ (succ : SuccessorsAreLinks) (pred : PredecessorsAreLinks) (tells : BroughtTells) (usable : UsableDecides) (ends : MayEndDecides) (book : BookSeen) (k : ℕ) where
   -- one floor is another: those of its successors are due, and it is to be asked
   pub touched_floor : (marks : List Fact) (b : ℕ) (floor : Option (List ℤ)) (row next : FloorRowSeen) (due due' ask ask' : List Bool) → is_set due b ≡ true

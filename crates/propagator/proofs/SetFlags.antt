@@ -14,8 +14,6 @@ use Rattle.connection_net.specs.inside.Laws.{RowsAreTheirPlaces}
 use Rattle.floor_rows.specs.inside.FloorRow.{FloorRowSeen, floor_in, IsSetAt}
 use Rattle.propagator.specs.inside.Touching.{is_set, AreSetToo}
 
-]
-
 -- the first n of the numbers are set
 abbrev pub AreSetBelow : List ℕ → ℕ → List Bool → List Bool → Type 0
 AreSetBelow numbers n old new = (i : ℕ) → is_set new i ≡ false → (is_set old i ≡ false) × ((j : ℕ) → j < n → get_or numbers j 0 ≢ i)

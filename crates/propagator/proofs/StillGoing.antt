@@ -72,18 +72,6 @@ usable_before book old since k a b is = record {
   facts = all_front (LetsGo k (After a) b) old since is.facts;
 }
 
--- what is noted stays so
-pub noted_on : (leave arrive : List Bool) (pass : List ℕ) (leave' arrive' : List Bool) (pass' : List ℕ) (fact : Fact) → KeepsFlags leave leave' → KeepsFlags arrive arrive'
-    → LowersPasses pass pass' → IsNoted leave arrive pass fact → IsNoted leave' arrive' pass' fact
-noted_on leave arrive pass leave' arrive' pass' (Bar k c) l r p noted = (still_on leave leave' c l noted.0, still_on arrive arrive' c r noted.1)
-noted_on leave arrive pass leave' arrive' pass' (Must k c) l r p noted = (
-  still_on leave leave' c l noted.0,
-  still_on arrive arrive' c r noted.1,
-  λ a lt. (let now = p a in let was = noted.2 a lt in omega (arith, now, was)),
-)
-noted_on leave arrive pass leave' arrive' pass' (Cut c d) l r p noted = tt
-noted_on leave arrive pass leave' arrive' pass' (Tie c d) l r p noted = (still_on leave leave' c l noted.0, still_on arrive arrive' d r noted.1)
-
 module _ (leave arrive : List Bool) (pass : List ℕ) (j : ℕ) where
   fly_noted : (x : ℕ) (fact : Fact) → IsNoted leave arrive pass fact → lets_fly j x fact ≡ false → (is_set leave x ≡ true) × (is_set arrive x ≡ true)
   fly_noted x (Bar k c) noted off = elim (eqb_tells c x) [

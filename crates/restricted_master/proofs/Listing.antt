@@ -137,8 +137,6 @@ grow_one route q i b old mid later grown below is within new same = record {
           ∙ grown.more a lt ∙ ap (λ (t : Bool). list_at old a ++ (if t then i ∷ [] else [])) (sym now))
     ]
 
-}
-
 -- one aircraft more
 pub listed_more : (pool : PoolSeen) (n k : ℕ) (numbers : List ℕ) (lists later : List (List ℕ)) → AreListedBy pool n k lists → numbers ≡ numbers_of pool k
     → GrowBy pool numbers lists later → AreListedBy pool n (k + 1) later

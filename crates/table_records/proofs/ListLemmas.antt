@@ -91,5 +91,3 @@ module _ {A : Type 0} (give : List ℕ → Result A ℕ) (P : A → Type 0) (par
         let fits : nat_le (length so_far.read) ITEM_LIMIT ≡ true = le-leb (length so_far.read) ITEM_LIMIT few in
         let same : kept ≡ so_far.read = so_far.front ∙ take_all ITEM_LIMIT so_far.read few in
         rw (all, fits, same) refl
-
-}

@@ -27,8 +27,6 @@ one_written name old new written = record {
   writes = written.writes;
 }
 
-}
-
 -- what was read before makes no difference
 pub read_before : (cert : Option (List ℕ)) (a b c : FilesShown) → OnlyRead a b → OnlyCertificate cert b c → OnlyCertificate cert a c
 read_before cert a b c read written = record {
