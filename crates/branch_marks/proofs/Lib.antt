@@ -27,6 +27,7 @@ pub mod LeastWeights
 pub mod Dominance
 pub mod FamiliesDecided
 pub mod DeadEnds
+pub mod MoreFacts
 pub mod Branches
 pub mod Fewer
 pub mod Shown
@@ -40,4 +41,5 @@ pub mod WholeCovers
 mod WorkedMarks
 mod WorkedFollowing
 mod WorkedWeights
+mod WorkedMoreFacts
 mod WorkedTrees

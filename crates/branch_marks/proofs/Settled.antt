@@ -19,7 +19,7 @@ use Rattle.branch_marks.specs.Pool.{Pooled, least_with, least_in, values_in, IsL
 use Rattle.branch_marks.specs.Settled.{with_dual, IsSettledOver, IsSettled}
 
 -- each value at most the one at its place, and so their sums
-total_below : (xs ys : List ℤ) → length xs ≡ length ys → ((i : ℕ) → i < length xs → get_or xs i (pos 0) ≤ℤ get_or ys i (pos 0)) → total xs ≤ℤ total ys
+pub total_below : (xs ys : List ℤ) → length xs ≡ length ys → ((i : ℕ) → i < length xs → get_or xs i (pos 0) ≤ℤ get_or ys i (pos 0)) → total xs ≤ℤ total ys
 total_below [] [] same each = omega (arith, ints)
 total_below [] (y ∷ ys) same each = absurd (omega (arith, same))
 total_below (x ∷ xs) [] same each = absurd (omega (arith, same))

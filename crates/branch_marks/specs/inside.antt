@@ -1,6 +1,7 @@
 -- What only proofs, and calls further in, cite.
 pub mod MarkTests
 pub mod Fitting
+pub mod MoreFacts
 pub mod FloorLaws
 pub mod FactTests
 pub mod FollowingTests

@@ -6,6 +6,7 @@ mod covering;
 mod deciding;
 mod fitting;
 mod following;
+mod growing;
 mod settling;
 mod showing;
 mod weighing;
@@ -28,6 +29,10 @@ pub use following::{
     floors_are_low, floors_come_in_turn, floors_count, follow_in_turn_with_one_more,
     followed_marks_hold, following_facts_are_new, following_facts_are_of_book,
     following_facts_hold, lesser_in_any_order,
+};
+pub use growing::{
+    among_more, bounds_never_fall, least_weights_never_fall, low_weights_stay,
+    more_facts_open_nothing, stuck_stays, sums_never_fall,
 };
 pub use settling::{
     least_in_is_least, routes_of_least_weights_cost_least, routes_of_weights_are_plan,
