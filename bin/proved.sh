@@ -1,4 +1,4 @@
-# Builds a proved program where its sources have changed since the last build, and then runs it. The scripts beside this
+# Runs a proved program, which build.sh builds where its sources have changed since the last build. The scripts beside this
 # one source it. Each is named after its program, and sets `first_run`, the words on which the program is run once it is
 # built, in the program's folder, `read_options`, the options that name a file to read, and `value_options`, those that
 # are followed by any other value. Where `quiet` is set to the name of a variable, and standard error is a terminal, one
@@ -13,105 +13,11 @@ first_run=()
 read_options=()
 value_options=()
 quiet=
-# How long the build may be silent, in seconds.
-silence=20
+# shellcheck source=bin/build.sh
+. "$top/bin/build.sh" || exit 70
 
 say() {
     printf 'bin/%s: %s\n' "$name" "$*" >&2
-}
-
-# The crates of crates.txt: `uses` has for each the crates that it stands on, the kit's among them.
-read_crates() {
-    local line crate
-    declare -gA uses=()
-    while IFS= read -r line || [ -n "$line" ]; do
-        line=${line%%#*}:
-        read -r crate _ <<<"${line%%:*}"
-        line=${line#*:}
-        [ -z "$crate" ] || uses[$crate]=${line%%:*}
-    done <"$top/crates.txt"
-}
-
-# The crates that the program is built from, lowest first: those that a crate stands on, and then the crate itself.
-need() {
-    local below
-    [[ " ${needed[*]} " != *" $1 "* ]] || return 0
-    for below in ${uses[$1]}; do
-        [ -z "${uses[$below]+ours}" ] || need "$below"
-    done
-    needed+=("$1")
-}
-
-# The checksum of what the program is built from: the needed crates' lines of crates.txt, and their files but for tests.
-sum_of_sources() {
-    (
-        cd "$top/crates" || exit 1
-        for crate in "${needed[@]}"; do
-            printf '%s: %s\n' "$crate" "${uses[$crate]}"
-        done
-        find "${needed[@]}" \( -name out -o -path '*/must-fail' -o -path '*/src/tests' -o -path '*/proofs/tests' \) -prune \
-            -o -type f \( -name '*.rt' -o -name '*.antt' \) ! -path '*/src/*tests.rt' -print0 |
-            LC_ALL=C sort -z | xargs -0 sha256sum
-    ) | sha256sum
-}
-
-# Whether the kept program is the one that was built, and was built from the sources as they are.
-is_built() {
-    [ -x "$program" ] && [ -f "$stamp" ] || return 1
-    [ "$(sum_of_sources; sha256sum <"$program")" = "$(cat "$stamp")" ]
-}
-
-# Runs a command of rt in the program's folder, logs what it prints, and says how far it is: each crate that it is
-# through with, and every while how long it has been at work.
-follow() {
-    local from_rt rt_pid line
-    exec {from_rt}< <(cd "$top/crates/$name" && exec "$@" </dev/null 2>&1)
-    rt_pid=$!
-    while :; do
-        if IFS= read -r -t "$silence" -u "$from_rt" line; then
-            printf '%s\n' "$line" >>"$log"
-            case $line in
-                "== "*) say "$((SECONDS - began)) seconds, through with ${line#== }" ;;
-            esac
-        elif [ "$?" -gt 128 ]; then
-            say "$((SECONDS - began)) seconds, still at work"
-        else
-            break
-        fi
-    done
-    exec {from_rt}<&-
-    wait "$rt_pid"
-}
-
-# Proves the crates that the program stands on, as many side by side as there are processors, and then builds the program.
-build() {
-    local began=$SECONDS log sources status
-    if ! command -v rt >/dev/null; then
-        say "the command rt of the Rattle kit is not on the PATH"
-        return 1
-    fi
-    log=$(mktemp) && mkdir -p "$top/bin/out" || return 1
-    say "building the program. The first build proves the ${#needed[@]} crates that it is made of, which takes minutes."
-    sources=$(sum_of_sources)
-    # Once the program is built, rt also runs it.
-    follow rt all check --jobs "$(nproc)" && follow rt run -- "${first_run[@]}" && keep "$sources"
-    status=$?
-    if [ "$status" -eq 0 ]; then
-        say "built."
-    else
-        say "the build failed with status $status. Its last lines:"
-        tail -n 20 "$log" >&2
-    fi
-    rm -f "$log"
-    return "$status"
-}
-
-# Keeps the program and its stamp where `rt ci` leaves them alone.
-keep() {
-    local new=$program.new.$$
-    cp "$top/crates/$name/out/$name" "$new" &&
-        printf '%s\n%s\n' "$1" "$(sha256sum <"$new")" >"$stamp" &&
-        mv -f "$new" "$program"
 }
 
 # Whether an option is followed by the name of a file that the program reads.
