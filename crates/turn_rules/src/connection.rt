@@ -170,7 +170,7 @@ pub fn connected(book: &Book, k: u32, from: Place, b: u32) -> bool
 }
 
 /// Whether an activity may come directly after a place of an aircraft.
-#[tactic(auto, unfolding(tail_book::specs::inside::Tests::is_link))]
+#[tactic(auto, unfolding(tail_book::specs::LegalTests::is_link))]
 pub fn link(book: &Book, k: u32, from: Place, b: u32) -> bool
     requires aircraft { k < aircraft book.now }
     requires place { IsPlaceOf book.now from }

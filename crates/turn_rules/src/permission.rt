@@ -98,7 +98,7 @@ pub fn permitted(book: &Book, k: u32, a: u32) -> bool
 }
 
 /// Whether an aircraft may fly an activity.
-#[tactic(auto, unfolding(tail_book::specs::inside::Tests::is_allowed))]
+#[tactic(auto, unfolding(tail_book::specs::LegalTests::is_allowed))]
 pub fn allowed(book: &Book, k: u32, a: u32) -> bool
     requires aircraft { k < aircraft book.now }
     requires activity { a < activities book.now }

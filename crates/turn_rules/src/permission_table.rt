@@ -88,7 +88,7 @@ fn permits_at(book: &Book, permissions: &PermissionTable, k: u32, from: Place) -
 }
 
 /// Whether an activity may come directly after a place of an aircraft, by the book's table of who may fly what.
-#[tactic(auto, unfolding(tail_book::specs::inside::Tests::is_link))]
+#[tactic(auto, unfolding(tail_book::specs::LegalTests::is_link))]
 pub fn link_by(book: &Book, permissions: &PermissionTable, k: u32, from: Place, b: u32) -> bool
     requires permissions { ArePermissionsOf book.now permissions.now }
     requires aircraft { k < aircraft book.now }
