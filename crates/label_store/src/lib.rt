@@ -10,6 +10,3 @@ mod store;
 
 pub use offered::Offered;
 pub use store::Store;
-
-#[cfg(test)]
-mod tests;
