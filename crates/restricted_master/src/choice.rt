@@ -10,7 +10,7 @@ ghost use Rattle.restricted_master.specs.inside.Choices.{price_of, taken_at, IsS
 
 /// The least weight of an aircraft's routes that have an activity, with the activity's dual left out, and that of its
 /// other routes, in thousandths of a cost unit. Nothing stands where it has no such route.
-#[derive(Clone, Copy, Debug)]
+#[derive(Clone, Copy)]
 pub struct Choice {
     pub with: Option<i64>,
     pub without: Option<i64>,

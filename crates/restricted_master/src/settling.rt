@@ -14,8 +14,9 @@ ghost use Rattle.tail_book.specs.Sums.{total};
 ghost use Rattle.branch_marks.specs.Pool.{sum_in, values_in};
 ghost use Rattle.branch_marks.specs.Settled.{AreDuals, IsSettledOver};
 ghost use Rattle.restricted_master.specs.Pool.{HasRoutes, IsPoolFor};
+ghost use Rattle.restricted_master.specs.Lists.{AreListsOf};
 ghost use Rattle.restricted_master.specs.inside.Least.{AreWeights, IsWeighed};
-ghost use Rattle.restricted_master.specs.inside.Moving.{is_due, IsWork, Sweeps, Visits};
+ghost use Rattle.restricted_master.specs.inside.Moving.{is_due, IsWork, Settles, Sweeps, Visits};
 
 use crate::choice::Choice;
 use crate::moving::look_at;
@@ -185,6 +186,110 @@ fn climb(
     total(duals) + total(values)
 }
 
+// Climbs with all activities to be looked at.
+fn climb_all(
+    alloc: Global,
+    book: &Book,
+    table: &CostTable,
+    pool: &Pool,
+    lists: &RouteLists,
+    duals: &mut [i64],
+    weights: &mut [i64],
+    values: &mut [i64],
+    choices: &mut [Choice],
+) -> Result<i128, Memory>
+    requires weighed { IsWeighed table.now book.now pool.now lists.now duals.old weights.old values.old }
+    requires routes { HasRoutes book.now pool.now }
+    requires each { length choices.old ≡ aircraft book.now }
+    ensures settles { IfOk result (Settles table.now book.now pool.now.entries duals.old duals.new) }
+    ensures memory { OnErr result (duals.new ≡ duals.old) }
+{
+    let mut due = vec![in alloc; true; book.activities.len()]?;
+    Ok(climb(
+        book, table, pool, lists, duals, weights, values, choices, &mut due,
+    ))
+}
+
+// Climbs with room for what each aircraft can choose.
+fn climb_weighed(
+    alloc: Global,
+    book: &Book,
+    table: &CostTable,
+    pool: &Pool,
+    lists: &RouteLists,
+    duals: &mut [i64],
+    weights: &mut [i64],
+    values: &mut [i64],
+) -> Result<i128, Memory>
+    requires weighed { IsWeighed table.now book.now pool.now lists.now duals.old weights.old values.old }
+    requires routes { HasRoutes book.now pool.now }
+    ensures settles { IfOk result (Settles table.now book.now pool.now.entries duals.old duals.new) }
+    ensures memory { OnErr result (duals.new ≡ duals.old) }
+{
+    let none = Choice {
+        with: None,
+        without: None,
+    };
+    let mut choices = vec![in alloc; none; book.tails.len()]?;
+    climb_all(
+        alloc,
+        book,
+        table,
+        pool,
+        lists,
+        duals,
+        weights,
+        values,
+        &mut choices,
+    )
+}
+
+// Climbs with the weights of all routes.
+fn climb_valued(
+    alloc: Global,
+    book: &Book,
+    table: &CostTable,
+    pool: &Pool,
+    lists: &RouteLists,
+    duals: &mut [i64],
+    values: &mut [i64],
+) -> Result<i128, Memory>
+    requires table { IsTableFor book.now table.now }
+    requires pool { IsPoolFor table.now book.now pool.now }
+    requires routes { HasRoutes book.now pool.now }
+    requires lists { AreListsOf pool.now (activities book.now) (aircraft book.now) lists.now }
+    requires duals { AreDuals table.now book.now duals.old }
+    requires values { values.old ≡ values_in table.now book.now duals.old pool.now.entries }
+    ensures settles { IfOk result (Settles table.now book.now pool.now.entries duals.old duals.new) }
+    ensures memory { OnErr result (duals.new ≡ duals.old) }
+{
+    least_in_is_least();
+    let mut weights = weigh(alloc, book, table, pool, duals)?;
+    climb_weighed(alloc, book, table, pool, lists, duals, &mut weights, values)
+}
+
+// Climbs with the least weights of all aircraft.
+fn climb_listed(
+    alloc: Global,
+    book: &Book,
+    table: &CostTable,
+    pool: &Pool,
+    lists: &RouteLists,
+    duals: &mut Duals,
+) -> Result<i128, Memory>
+    requires table { IsTableFor book.now table.now }
+    requires pool { IsPoolFor table.now book.now pool.now }
+    requires routes { HasRoutes book.now pool.now }
+    requires lists { AreListsOf pool.now (activities book.now) (aircraft book.now) lists.now }
+    requires duals { AreDuals table.now book.now duals.old.values }
+    ensures settles { IfOk result (Settles table.now book.now pool.now.entries duals.old.values duals.new.values) }
+    ensures memory { OnErr result (duals.new ≡ duals.old) }
+{
+    let mut values = least_values(alloc, book, table, pool, duals)?;
+    let values = &mut values;
+    climb_valued(alloc, book, table, pool, lists, &mut duals.values, values)
+}
+
 /// Settles duals over a pool, and answers their Lagrangian sum, in thousandths of a cost unit.
 pub fn settle(
     alloc: Global,
@@ -203,25 +308,6 @@ pub fn settle(
     ensures duals { AreDuals table.now book.now duals.new.values }
     ensures memory { OnErr result (duals.new ≡ duals.old) }
 {
-    least_in_is_least();
     let lists = RouteLists::of(alloc, pool, book, table)?;
-    let mut weights = weigh(alloc, book, table, pool, &duals.values)?;
-    let mut values = least_values(alloc, book, table, pool, duals)?;
-    let none = Choice {
-        with: None,
-        without: None,
-    };
-    let mut choices = vec![in alloc; none; book.tails.len()]?;
-    let mut due = vec![in alloc; true; book.activities.len()]?;
-    Ok(climb(
-        book,
-        table,
-        pool,
-        &lists,
-        &mut duals.values,
-        &mut weights,
-        &mut values,
-        &mut choices,
-        &mut due,
-    ))
+    climb_listed(alloc, book, table, pool, &lists, duals)
 }

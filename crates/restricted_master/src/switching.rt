@@ -13,7 +13,7 @@ use crate::choice::{Choice, greater, lesser};
 use crate::laws;
 
 /// The least and the second least switching price, within the box.
-#[derive(Clone, Copy, Debug)]
+#[derive(Clone, Copy)]
 struct Prices {
     least: i64,
     second: i64,

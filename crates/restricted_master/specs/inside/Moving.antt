@@ -1,11 +1,11 @@
--- One dual moves: what it leaves settled, and what it gains, for one look, one visit and one sweep.
+-- One dual moves: what it leaves settled, and what it gains, for one look, one visit, one sweep and the whole climb.
 use Rattle.std.specs.Prelude.{◌≡◌, ℕ, ℤ, pos, ◌+ℤ◌, ◌≤ℤ◌, ◌<ℤ◌, ◌<◌, List, Bool, true, false, length, slice_index_or}
 use Rattle.tail_book.specs.Seen.{BookSeen}
 use Rattle.tail_book.specs.TableSeen.{CostTableSeen}
 use Rattle.tail_book.specs.CostTable.{IsInBox, cost_unit}
 use Rattle.tail_book.specs.Lookup.{activities}
 use Rattle.branch_marks.specs.Pool.{Pooled, sum_in}
-use Rattle.branch_marks.specs.Settled.{with_dual}
+use Rattle.branch_marks.specs.Settled.{with_dual, IsSettledOver}
 
 -- no other dual of the activity in the box gains a cost unit
 abbrev pub IsSettledAt : CostTableSeen → BookSeen → List Pooled → List ℤ → ℕ → Type 0
@@ -36,3 +36,9 @@ Visits table book pool a old new before after false =
 abbrev pub Sweeps : CostTableSeen → BookSeen → List Pooled → ℕ → List ℤ → List ℤ → Bool → Type 0
 Sweeps table book pool count old new true = (sum_in table book old pool +ℤ pos cost_unit) ≤ℤ sum_in table book new pool
 Sweeps table book pool count old new false = (new ≡ old) × ((a : ℕ) → a < count → IsSettledAt table book pool new a)
+
+-- the whole climb: the duals are settled over the pool, their sum is told, and it is no less than that of the old ones
+pub record Settles (table : CostTableSeen) (book : BookSeen) (pool : List Pooled) (old new : List ℤ) (sum : ℤ) : Type 0 where
+  pub settled : IsSettledOver table book pool new
+  pub told : sum ≡ sum_in table book new pool
+  pub no_less : sum_in table book old pool ≤ℤ sum_in table book new pool
