@@ -10,7 +10,7 @@ use std::marker::Model;
 use tail_book::Memory;
 
 /// A line of text that grows. Contracts see its bytes.
-#[derive(Debug, Drop)]
+#[derive(Drop)]
 pub struct Line {
     bytes: Vec<u8>,
 }
