@@ -6,7 +6,7 @@ ghost use Rattle.tail_outside.specs.inside.Held.{calls_to_come, fails_next, one_
 use std::marker::Model;
 
 /// The numbers of the calls that fail, counted from 1, and how many calls were made.
-#[derive(Debug, Drop)]
+#[derive(Drop)]
 pub(crate) struct Calls {
     failing: Vec<u64>,
     made: u64,

@@ -13,7 +13,7 @@ use std::marker::Model;
 use tail_book::Memory;
 
 /// A file in memory. Clauses see its name and its bytes as lists.
-#[derive(Debug, Drop)]
+#[derive(Drop)]
 pub struct MemFile {
     /// The name under which it is found.
     pub name: String,

@@ -11,7 +11,7 @@ use std::marker::Model;
 use tail_book::Memory;
 
 /// A sink in memory. The calls whose numbers are listed fail.
-#[derive(Debug, Drop)]
+#[derive(Drop)]
 pub struct MemSink {
     bytes: Vec<u8>,
     calls: Calls,

@@ -14,7 +14,7 @@ use std::marker::Model;
 use tail_book::Memory;
 
 // A file in memory, with its room.
-#[derive(Debug, Drop)]
+#[derive(Drop)]
 struct SureFile {
     name: String,
     sink: SureSink,
@@ -46,7 +46,7 @@ impl SureFile {
 }
 
 /// Files in memory that never fail, each with room for so many bytes. Of two with one name the first counts.
-#[derive(Debug, Drop)]
+#[derive(Drop)]
 pub struct SureFiles {
     files: Vec<SureFile>,
 }

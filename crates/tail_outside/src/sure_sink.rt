@@ -11,7 +11,7 @@ use std::marker::Model;
 use tail_book::Memory;
 
 /// A sink in memory that never fails, with room for so many bytes.
-#[derive(Debug, Drop)]
+#[derive(Drop)]
 pub struct SureSink {
     bytes: Vec<u8>,
     left: usize,
