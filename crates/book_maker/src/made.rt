@@ -56,14 +56,29 @@ pub fn make_book(
     requires few_tails { length tails.items ≤ TAIL_LIMIT }
     ensures { Answers (λ book. book) (made_of activities.items tails.items rules) result }
 {
+    book_of_rows(alloc, &activities, &tails, &rules)
+}
+
+// The book of the records, which are lent. Tags are known before all other names.
+fn book_of_rows(
+    alloc: Global,
+    activities: &[RawActivity],
+    tails: &[RawTail],
+    rules: &RawRules,
+) -> Result<Book, Stopped>
+    requires few_activities { length activities.now ≤ ACTIVITY_LIMIT }
+    requires few_tails { length tails.now ≤ TAIL_LIMIT }
+    ensures { Answers (λ book. book) (made_of activities.now tails.now rules.now) result }
+{
+    let tags = tags_of(alloc, tails, activities)?;
     let mut known = Known {
         kinds: IndexSet::new(alloc),
         airports: IndexSet::new(alloc),
         counters: IndexSet::new(alloc),
         tails: IndexSet::new(alloc),
-        tags: tags_of(alloc, &tails, &activities)?,
+        tags,
     };
-    book_in(alloc, &activities, &tails, &rules, &mut known)
+    book_in(alloc, activities, tails, rules, &mut known)
 }
 
 // The book of the records, where no name is known yet but the tags.
@@ -117,5 +132,5 @@ fn rules_in(alloc: Global, rules: &RawRules, known: &mut Known) -> Result<Rules,
 fn copies_of(alloc: Global, bands: &[Band]) -> Result<Vec<Band>, Memory>
     ensures { IfOk result (λ copies. copies.items ≡ bands.now) }
 {
-    Ok(bands.iter().copied().collect(alloc)?)
+    Ok(Vec::from_slice(alloc, bands)?)
 }

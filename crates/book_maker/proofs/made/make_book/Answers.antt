@@ -7,5 +7,5 @@ use Rattle.book_maker.proofs.made.make_book.Goals as goal
 -- the lists that were lent are those of the arguments
 pub returns : goal.returns
 returns c =
-    let lent = subst (λ activities. Answers {T = BookSeen} (λ book. book) (made_of activities c.deref-4.result.now c.args.rules) c.book_in.result) c.deref-3.ensures.value c.book_in.ensures in
-    subst (λ tails. Answers {T = BookSeen} (λ book. book) (made_of c.args.activities.items tails c.args.rules) c.book_in.result) c.deref-4.ensures.value lent
+    let lent = subst (λ activities. Answers {T = BookSeen} (λ book. book) (made_of activities c.deref-2.result.now c.args.rules) c.book_of_rows.result) c.deref.ensures.value c.book_of_rows.ensures in
+    subst (λ tails. Answers {T = BookSeen} (λ book. book) (made_of c.args.activities.items tails c.args.rules) c.book_of_rows.result) c.deref-2.ensures.value lent
