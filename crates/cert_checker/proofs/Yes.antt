@@ -24,7 +24,9 @@ use Rattle.cert_lines.specs.Grammar.{IsLine}
 use Rattle.cert_lines.specs.OneSpelling.{ReadLinesAreSpelled}
 use Rattle.cert_lines.specs.Reading.{line_of}
 use Rattle.cert_lines.specs.Spelling.{spelling}
-use Rattle.cert_checker.specs.Certificate.{Accepts, HasClaimedPlan, asked_of, certificate_lines, claimed_cost, plan_lines, text_of}
+use Rattle.cert_lines.specs.PlanLines.{plan_lines}
+use Rattle.cert_lines.specs.Text.{text_of}
+use Rattle.cert_checker.specs.Certificate.{Accepts, HasClaimedPlan, asked_of, certificate_lines, claimed_cost}
 use Rattle.cert_checker.specs.Step.{take_line}
 use Rattle.cert_checker.specs.Reasons.{has_claimed_plan}
 use Rattle.cert_checker.specs.State.{State, Section, Start, InTree, InBound, InPlan, Claimed}
