@@ -14,8 +14,10 @@ pub mod Keeping
 pub mod LeafRuns
 pub mod LineByLine
 pub mod MetWays
+pub mod Opening
 pub mod Planned
 pub mod Running
+pub mod SameLines
 pub mod ShownFamilies
 pub mod Standing
 pub mod Taking

@@ -4,4 +4,5 @@ pub mod Kept
 pub mod Leaf
 pub mod Means
 pub mod OpenBranches
+pub mod ToldLines
 pub mod Ways
