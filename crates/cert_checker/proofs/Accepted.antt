@@ -16,7 +16,8 @@ use Rattle.branch_marks.specs.ProofTree.{Tree}
 use Rattle.cert_lines.specs.declared.cert_line.CertLine.{CertLine}
 use Rattle.cert_lines.specs.declared.cert_line.CertLine.TheVariants as line
 use Rattle.cert_lines.specs.Grammar.{IsLine, IsLineClaim}
-use Rattle.cert_checker.specs.Certificate.{HasClaimedPlan, asked_of, certificate_lines, claimed_cost, header_of, plan_lines, tree_lines}
+use Rattle.cert_lines.specs.PlanLines.{plan_lines}
+use Rattle.cert_checker.specs.Certificate.{HasClaimedPlan, asked_of, certificate_lines, claimed_cost, header_of, tree_lines}
 
 at_end : {A : Type 0} (xs : List A) (x : A) → get_or (xs ++ x ∷ []) (length xs) x ≡ x
 at_end [] x = refl

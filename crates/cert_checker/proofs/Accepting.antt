@@ -33,8 +33,10 @@ use Rattle.cert_lines.specs.declared.cert_line.CertLine.TheVariants as lines
 use Rattle.cert_lines.specs.Grammar.{IsLine}
 use Rattle.cert_lines.specs.OneSpelling.{SpelledLinesAreRead, SpelledLinesAreShort}
 use Rattle.cert_lines.specs.Spelling.{spelling}
-use Rattle.cert_checker.specs.Certificate.{Accepts, HasClaimedPlan, asked_of, certificate_lines, claimed_cost, fly_lines, header_of, plan_lines, text_of, tree_lines}
-use Rattle.cert_checker.specs.Judging.{done_section, is_pair_of, judge_claim, take_claim_in, take_line}
+use Rattle.cert_lines.specs.PlanLines.{fly_lines, plan_lines}
+use Rattle.cert_lines.specs.Text.{text_of}
+use Rattle.cert_checker.specs.Certificate.{Accepts, HasClaimedPlan, asked_of, certificate_lines, claimed_cost, header_of, tree_lines}
+use Rattle.cert_checker.specs.Step.{done_section, is_pair_of, judge_claim, take_claim_in, take_line}
 use Rattle.cert_checker.specs.Reasons.{has_claimed_plan, reaches}
 use Rattle.cert_checker.specs.State.{State, Section, Start, InTree, InBound, InPlan, Claimed}
 use Rattle.cert_checker.specs.Verdict.{end_with, first_state, verdict, verdict_from}

@@ -7,12 +7,12 @@ use Rattle.tail_book.specs.Lookup.{activities}
 use Rattle.tail_book.specs.Seen.{BookSeen}
 use Rattle.tail_book.specs.declared.claim.Claim.{Claim}
 use Rattle.tail_text.specs.Checks.{look}
-use Rattle.cert_checker.specs.Judging.{after_leaf, judge_claim, take_claim_in}
+use Rattle.cert_checker.specs.Step.{after_leaf, judge_claim, take_claim_in}
 use Rattle.cert_checker.specs.Reasons.{has_claimed_plan}
 use Rattle.cert_checker.specs.State.{State}
-use Rattle.cert_checker.specs.declared.judging.Judging.{Judging}
-use Rattle.cert_checker.specs.declared.judging.Part.{Part}
-use Rattle.cert_checker.specs.declared.judging.Part.TheVariants.{Start, InTree, InBound, InPlan, Claimed}
+use Rattle.cert_checker.specs.declared.state.Judging.{Judging}
+use Rattle.cert_checker.specs.declared.state.Part.{Part}
+use Rattle.cert_checker.specs.declared.state.Part.TheVariants.{Start, InTree, InBound, InPlan, Claimed}
 use Rattle.cert_checker.specs.declared.verdict.Reason.TheVariants.{OutOfPlace}
 use Rattle.cert_checker.specs.inside.Kept.{section_in, state_of}
 use Rattle.cert_checker.proofs.AtNodes.{passed, stopped}

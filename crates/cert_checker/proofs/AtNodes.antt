@@ -14,14 +14,14 @@ use Rattle.branch_marks.specs.FactTests.{has_fact}
 use Rattle.branch_marks.specs.FollowingTests.{follows}
 use Rattle.branch_marks.specs.MarkTests.{is_fact_of}
 use Rattle.branch_marks.specs.TreeTests.{is_hole}
-use Rattle.cert_checker.specs.Judging.{Step, after_leaf, at_node, is_pair_of, next_owed, take_fact, take_hole, take_split}
+use Rattle.cert_checker.specs.Step.{Step, after_leaf, at_node, is_pair_of, next_owed, take_fact, take_hole, take_split}
 use Rattle.cert_checker.specs.State.{OpenLeaf, State, Section, InTree}
-use Rattle.cert_checker.specs.declared.judging.Judging.{Judging}
-use Rattle.cert_checker.specs.declared.judging.Part.TheVariants.{InTree as PartInTree}
+use Rattle.cert_checker.specs.declared.state.Judging.{Judging}
+use Rattle.cert_checker.specs.declared.state.Part.TheVariants.{InTree as PartInTree}
 use Rattle.cert_checker.specs.declared.verdict.Reason.TheVariants.{KnownFact, NotAlive, NotFollowing, OutOfPlace}
 use Rattle.cert_checker.specs.inside.Kept.{IsAtNode, TellsNode, leaf_in, section_in, state_of}
-use Rattle.tree_tests.specs.declared.branches.Branches.{Branches}
-use Rattle.tree_tests.specs.inside.OpenBranches.{behind_of, owed_of}
+use Rattle.cert_checker.specs.declared.branches.Branches.{Branches}
+use Rattle.cert_checker.specs.inside.OpenBranches.{behind_of, owed_of}
 
 -- a test that holds lets the next one come, and one that does not gives its reason
 pub passed : {A E : Type 0} (test : Bool) (why : E) (next : Result A E) → test ≡ true → must test why next ≡ next

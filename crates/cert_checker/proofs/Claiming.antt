@@ -16,8 +16,9 @@ use Rattle.branch_marks.specs.declared.fact.Fact.{Fact}
 use Rattle.cert_lines.specs.declared.cert_line.CertLine.{CertLine}
 use Rattle.cert_lines.specs.declared.cert_line.CertLine.TheVariants as lines
 use Rattle.cert_lines.specs.Grammar.{IsLine}
-use Rattle.cert_checker.specs.Certificate.{asked_of, claimed_cost, plan_lines}
-use Rattle.cert_checker.specs.Judging.{after_leaf, judge_claim, owes, take_claim, take_claim_in, take_event, take_fly_in, take_header_in, take_line, take_plan}
+use Rattle.cert_lines.specs.PlanLines.{plan_lines}
+use Rattle.cert_checker.specs.Certificate.{asked_of, claimed_cost}
+use Rattle.cert_checker.specs.Step.{after_leaf, judge_claim, owes, take_claim, take_claim_in, take_event, take_fly_in, take_header_in, take_line, take_plan}
 use Rattle.cert_checker.specs.Reasons.{has_claimed_plan, reaches}
 use Rattle.cert_checker.specs.State.{OpenLeaf, State, Section, Start, InTree, InBound, InPlan, Claimed}
 use Rattle.std.proofs.lemmas.List.Elements.{All-push}

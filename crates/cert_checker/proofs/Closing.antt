@@ -10,17 +10,17 @@ use Rattle.tail_book.specs.Seen.{BookSeen}
 use Rattle.tail_book.specs.Sums.{total}
 use Rattle.branch_marks.specs.Bound.{rounded_up}
 use Rattle.branch_marks.specs.declared.fact.Fact.{Fact}
-use Rattle.cert_checker.specs.Judging.{after_leaf, done_section, lower, owes}
+use Rattle.cert_checker.specs.Step.{after_leaf, done_section, lower, owes}
 use Rattle.cert_checker.specs.State.{State}
 use Rattle.cert_checker.specs.State as section
-use Rattle.cert_checker.specs.declared.judging.Judging.{Judging}
-use Rattle.cert_checker.specs.declared.judging.Part.{Part}
-use Rattle.cert_checker.specs.declared.judging.Part.TheVariants.{Start, InTree, InBound, InPlan, Claimed}
+use Rattle.cert_checker.specs.declared.state.Judging.{Judging}
+use Rattle.cert_checker.specs.declared.state.Part.{Part}
+use Rattle.cert_checker.specs.declared.state.Part.TheVariants.{Start, InTree, InBound, InPlan, Claimed}
 use Rattle.cert_checker.specs.declared.verdict.Reason.TheVariants.{OutOfPlace}
 use Rattle.cert_checker.specs.inside.Kept.{section_in, state_of}
 use Rattle.cert_checker.proofs.AtNodes.{passed, stopped}
-use Rattle.tree_tests.specs.declared.branches.Owed.{Owed}
-use Rattle.tree_tests.specs.inside.OpenBranches.{behind_of, owed_behind, owed_of}
+use Rattle.cert_checker.specs.declared.branches.Owed.{Owed}
+use Rattle.cert_checker.specs.inside.OpenBranches.{behind_of, owed_behind, owed_of}
 
 module _ (book : BookSeen) (judging : Judging) where
   abbrev state : State

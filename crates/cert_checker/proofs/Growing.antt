@@ -19,7 +19,7 @@ use Rattle.branch_marks.specs.Undecided.{is_undecided}
 use Rattle.branch_marks.specs.FactTests.{has_fact}
 use Rattle.branch_marks.specs.FollowingTests.{follows}
 use Rattle.branch_marks.specs.TreeTests.{bounds_at_least, is_shown}
-use Rattle.cert_checker.specs.Judging.{lower}
+use Rattle.cert_checker.specs.Step.{lower}
 use Rattle.cert_checker.specs.Reasons.{reaches}
 use Rattle.branch_marks.specs.TreeEvents.{tree_events}
 

@@ -22,7 +22,7 @@ use Rattle.branch_marks.specs.MarkTests.{is_alive}
 use Rattle.branch_marks.specs.TreeTests.{are_duals, is_in_box, is_shown_cover}
 use Rattle.cert_lines.specs.declared.cert_line.CertLine.{CertLine}
 use Rattle.cert_lines.specs.declared.cert_line.CertLine.TheVariants as lines
-use Rattle.cert_checker.specs.Judging.{owed_with, rest_owed, take_cover_in, take_dual_in, take_label_in}
+use Rattle.cert_checker.specs.Step.{owed_with, rest_owed, take_cover_in, take_dual_in, take_label_in}
 use Rattle.cert_checker.specs.Reasons.{is_shown_leaf}
 use Rattle.cert_checker.specs.State.{BoundLeaf, OpenLeaf, State, Section, Start, InTree, InBound, InPlan, Claimed}
 use Rattle.branch_marks.specs.TreeEvents.{cover_events, dual_events, label_event, label_events}

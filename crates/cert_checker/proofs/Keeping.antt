@@ -15,14 +15,14 @@ use Rattle.branch_marks.specs.Labels.{Label}
 use Rattle.branch_marks.specs.ProofTree.{zero_duals}
 use Rattle.branch_marks.specs.declared.fact.Fact.{Fact}
 use Rattle.branch_marks.specs.MarkTests.{is_alive}
-use Rattle.cert_checker.specs.declared.judging.Judging.{Judging}
-use Rattle.cert_checker.specs.declared.judging.Leaf.{Leaf}
-use Rattle.cert_checker.specs.declared.judging.Part.{Part}
-use Rattle.cert_checker.specs.declared.judging.Part.TheVariants.{Start, InTree, InBound, InPlan, Claimed}
+use Rattle.cert_checker.specs.declared.state.Judging.{Judging}
+use Rattle.cert_checker.specs.declared.state.OpenLeaf.{OpenLeaf as KeptLeaf}
+use Rattle.cert_checker.specs.declared.state.Part.{Part}
+use Rattle.cert_checker.specs.declared.state.Part.TheVariants.{Start, InTree, InBound, InPlan, Claimed}
 use Rattle.cert_checker.specs.inside.Kept.{IsJudging, IsLeafIn, IsLeafOf, IsPartIn}
-use Rattle.tree_tests.specs.declared.branches.Branches.{Branches}
-use Rattle.tree_tests.specs.inside.Buckets.{IsFamilyOf, IsLabelOf, at_in, no_label}
-use Rattle.tree_tests.specs.inside.OpenBranches.{AreBranchesOf}
+use Rattle.cert_checker.specs.declared.branches.Branches.{Branches}
+use Rattle.cert_checker.specs.inside.Buckets.{IsFamilyOf, IsLabelOf, at_in, no_label}
+use Rattle.cert_checker.specs.inside.OpenBranches.{AreBranchesOf}
 
 -- whether a node is owed says nothing of its marks
 pub owes_alone : (book : BookSeen) (branches : Branches) (owes : Bool) → AreBranchesOf book branches → AreBranchesOf book (record branches { owes = owes })
@@ -32,7 +32,7 @@ pub in_tree_part : (book : BookSeen) (judging : Judging) → judging.part ≡ In
 in_tree_part book judging e = subst (λ (part : Part). IsPartIn book judging part) (sym e) tt
 
 pub no_leaf : (book : BookSeen) (judging : Judging) → judging.leaf ≡ None → IsLeafIn book judging judging.leaf
-no_leaf book judging e = subst (λ (leaf : Option Leaf). IsLeafIn book judging leaf) (sym e) tt
+no_leaf book judging e = subst (λ (leaf : Option KeptLeaf). IsLeafIn book judging leaf) (sym e) tt
 
 -- a leaf without labels
 pub no_labels : (book : BookSeen) (marks : List Fact) (k : ℕ) → IsFamilyOf book marks k []
@@ -42,7 +42,7 @@ no_labels book marks k = record {
   alive = All-nil (λ label. is_alive book marks k label.at ≡ true);
 }
 
-pub begun_leaf : (book : BookSeen) (marks : List Fact) (duals : List ℤ) (leaf : Leaf) → leaf.k < aircraft book → (leaf.value ≡ None → duals ≡ zero_duals book)
+pub begun_leaf : (book : BookSeen) (marks : List Fact) (duals : List ℤ) (leaf : KeptLeaf) → leaf.k < aircraft book → (leaf.value ≡ None → duals ≡ zero_duals book)
     → IsLeafOf book marks duals [] leaf
 begun_leaf book marks duals leaf of zero = record {
   aircraft = of;
@@ -52,7 +52,7 @@ begun_leaf book marks duals leaf of zero = record {
 }
 
 -- one label more, of an activity from the last one on
-module _ (book : BookSeen) (marks : List Fact) (duals : List ℤ) (family : List Label) (leaf : Leaf) (label : Label) (is : IsLeafOf book marks duals family leaf)
+module _ (book : BookSeen) (marks : List Fact) (duals : List ℤ) (family : List Label) (leaf : KeptLeaf) (label : Label) (is : IsLeafOf book marks duals family leaf)
     (late : leaf.next ≤ label.at) where
   abbrev more : List Label
   more = family ++ label ∷ []
@@ -78,7 +78,7 @@ module _ (book : BookSeen) (marks : List Fact) (duals : List ℤ) (family : List
     ]
   ]
 
-  pub label_more : (after : Leaf) → after.line ≡ leaf.line → after.k ≡ leaf.k → after.value ≡ leaf.value → after.next ≡ label.at → IsLabelOf book label
+  pub label_more : (after : KeptLeaf) → after.line ≡ leaf.line → after.k ≡ leaf.k → after.value ≡ leaf.value → after.next ≡ label.at → IsLabelOf book label
       → is_alive book marks leaf.k label.at ≡ true → IsLeafOf book marks duals more after
   label_more after line k value next of alive = record {
     aircraft = rw k is.aircraft;
@@ -131,7 +131,7 @@ more_values k covers values value sum at before here is =
     record { least = omega (arith, ints, at, low, least, is); most = omega (arith, ints, at, high, most, is) }
 
 -- a leaf that takes a label stands where it stood
-pub label_part : (book : BookSeen) (old new : Judging) (leaf : Leaf) → IsPartIn book old old.part → old.leaf ≡ Some leaf → new.part ≡ old.part → new.branches ≡ old.branches → new.covers ≡ old.covers
+pub label_part : (book : BookSeen) (old new : Judging) (leaf : KeptLeaf) → IsPartIn book old old.part → old.leaf ≡ Some leaf → new.part ≡ old.part → new.branches ≡ old.branches → new.covers ≡ old.covers
     → IsPartIn book new new.part
 label_part book old new leaf is some part branches covers = subst (λ (p : Part). IsPartIn book new p) (sym part) (by_part old.part is)
   where

@@ -21,7 +21,7 @@ use Rattle.branch_marks.specs.MarkTests.{is_alive}
 use Rattle.branch_marks.specs.TreeTests.{is_in_box, is_shown_cover, is_shown_family}
 use Rattle.cert_lines.specs.declared.cert_line.CertLine.{CertLine}
 use Rattle.cert_lines.specs.declared.cert_line.CertLine.TheVariants as lines
-use Rattle.cert_checker.specs.Judging.{owed_with, rest_owed}
+use Rattle.cert_checker.specs.Step.{owed_with, rest_owed}
 use Rattle.cert_checker.specs.State.{OpenLeaf, State, Section, InBound}
 use Rattle.branch_marks.specs.TreeEvents.{cover_events, dual_events, label_event, label_events, dual_event}
 use Rattle.cert_checker.specs.Verdict.{leaf_fails}

@@ -21,8 +21,9 @@ use Rattle.branch_marks.specs.Below.{all_below}
 use Rattle.branch_marks.specs.TreeTests.{are_duals, is_shown_cover, is_shown_stuck}
 use Rattle.cert_lines.specs.declared.cert_line.CertLine.{CertLine}
 use Rattle.cert_lines.specs.declared.cert_line.CertLine.TheVariants as lines
-use Rattle.cert_checker.specs.Certificate.{asked_of, claimed_cost, header_of, plan_lines}
-use Rattle.cert_checker.specs.Judging.{after_leaf, bound_of_leaf, done_section, lower, owed_with}
+use Rattle.cert_lines.specs.PlanLines.{plan_lines}
+use Rattle.cert_checker.specs.Certificate.{asked_of, claimed_cost, header_of}
+use Rattle.cert_checker.specs.Step.{after_leaf, bound_of_leaf, done_section, lower, owed_with}
 use Rattle.cert_checker.specs.Reasons.{has_claimed_plan, is_shown_leaf, reaches, shows}
 use Rattle.cert_checker.specs.State.{BoundLeaf, OpenLeaf, State, Section, Start, InTree, InBound, InPlan, Claimed}
 use Rattle.branch_marks.specs.TreeEvents.{cover_event, cover_events, dual_events, label_events}

@@ -24,8 +24,9 @@ use Rattle.branch_marks.specs.MarkTests.{is_fact_of}
 use Rattle.branch_marks.specs.TreeTests.{are_duals, is_hole, is_in_box}
 use Rattle.cert_lines.specs.declared.cert_line.CertLine.{CertLine}
 use Rattle.cert_lines.specs.declared.cert_line.CertLine.TheVariants as lines
-use Rattle.cert_checker.specs.Certificate.{fly_lines, header_of}
-use Rattle.cert_checker.specs.Judging.{after_leaf, at_node, is_pair_of, next_owed, owed_with, take_bound, take_fact, take_hole, take_split, take_stuck}
+use Rattle.cert_lines.specs.PlanLines.{fly_lines}
+use Rattle.cert_checker.specs.Certificate.{header_of}
+use Rattle.cert_checker.specs.Step.{after_leaf, at_node, is_pair_of, next_owed, owed_with, take_bound, take_fact, take_hole, take_split, take_stuck}
 use Rattle.cert_checker.specs.State.{BoundLeaf, State, InBound}
 use Rattle.branch_marks.specs.TreeEvents.{dual_events}
 use Rattle.cert_checker.specs.Verdict.{leaf_fails}

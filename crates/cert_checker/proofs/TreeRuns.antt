@@ -29,7 +29,7 @@ use Rattle.branch_marks.specs.TreeTests.{are_duals, bounds_at_least, is_hole, is
 use Rattle.cert_lines.specs.declared.cert_line.CertLine.{CertLine}
 use Rattle.cert_lines.specs.declared.cert_line.CertLine.TheVariants as lines
 use Rattle.cert_checker.specs.Certificate.{tree_lines}
-use Rattle.cert_checker.specs.Judging.{bound_of_leaf, is_pair_of, lower, owed_with, owes, take_line}
+use Rattle.cert_checker.specs.Step.{bound_of_leaf, is_pair_of, lower, owed_with, owes, take_line}
 use Rattle.cert_checker.specs.Reasons.{reaches}
 use Rattle.cert_checker.specs.State.{BoundLeaf, OpenLeaf, State, InTree, InBound}
 use Rattle.branch_marks.specs.TreeEvents.{cover_events, dual_events, label_events, tree_events}

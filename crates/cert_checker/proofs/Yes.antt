@@ -24,8 +24,10 @@ use Rattle.cert_lines.specs.Grammar.{IsLine}
 use Rattle.cert_lines.specs.OneSpelling.{ReadLinesAreSpelled}
 use Rattle.cert_lines.specs.Reading.{line_of}
 use Rattle.cert_lines.specs.Spelling.{spelling}
-use Rattle.cert_checker.specs.Certificate.{Accepts, HasClaimedPlan, asked_of, certificate_lines, claimed_cost, plan_lines, text_of}
-use Rattle.cert_checker.specs.Judging.{take_line}
+use Rattle.cert_lines.specs.PlanLines.{plan_lines}
+use Rattle.cert_lines.specs.Text.{text_of}
+use Rattle.cert_checker.specs.Certificate.{Accepts, HasClaimedPlan, asked_of, certificate_lines, claimed_cost}
+use Rattle.cert_checker.specs.Step.{take_line}
 use Rattle.cert_checker.specs.Reasons.{has_claimed_plan}
 use Rattle.cert_checker.specs.State.{State, Section, Start, InTree, InBound, InPlan, Claimed}
 use Rattle.cert_checker.specs.Verdict.{and_on, at_line, claimed_at, failed, first_state, is_label, judge_line, leaf_fails, take_read, verdict, verdict_from}

@@ -1,6 +1,5 @@
 -- Which texts are accepted as certificates of a book, and for which claim.
 use Rattle.std.specs.Prelude.{◌≡◌, ℕ, ◌+◌, ◌<◌, ⊤, List, [], ◌∷◌, ◌++◌, map, length, All, Option, Some, None}
-use Rattle.std.specs.List.{flat_map}
 use Rattle.tail_book.specs.Seen.{BookSeen}
 use Rattle.tail_book.specs.Lookup.{activities, aircraft}
 use Rattle.tail_book.specs.Truth.{IsPlanOf, IsTrueClaim}
@@ -13,7 +12,8 @@ use Rattle.branch_marks.specs.ProofTree.{Tree, IsShown, BoundsAtLeast}
 use Rattle.cert_lines.specs.declared.cert_line.CertLine.{CertLine}
 use Rattle.cert_lines.specs.declared.cert_line.CertLine.TheVariants as line
 use Rattle.cert_lines.specs.Grammar.{IsLine}
-use Rattle.cert_lines.specs.Spelling.{spelling}
+use Rattle.cert_lines.specs.PlanLines.{plan_lines}
+use Rattle.cert_lines.specs.Text.{text_of}
 use Rattle.branch_marks.specs.TreeEvents.{tree_events}
 
 -- the header of the book's certificates
@@ -24,23 +24,9 @@ header_of book = line.Header 1 (activities book) (aircraft book) (length book.ru
 abbrev pub tree_lines : Tree → List CertLine
 tree_lines tree = map line.Event (tree_events tree)
 
--- a line for each activity from a on, with the aircraft that flies it
-abbrev pub fly_lines : ℕ → List ℕ → List CertLine
-fly_lines a [] = []
-fly_lines a (k ∷ fliers) = line.Fly a k ∷ fly_lines (a + 1) fliers
-
--- a plan, where there is one: who flies each activity
-abbrev pub plan_lines : Option (List ℕ) → List CertLine
-plan_lines None = []
-plan_lines (Some fliers) = line.Plan ∷ fly_lines 0 fliers
-
 -- a certificate's lines: the header, one tree, a plan or none, and the claim
 abbrev pub certificate_lines : BookSeen → Tree → Option (List ℕ) → Claim → List CertLine
 certificate_lines book tree fliers claim = header_of book ∷ (tree_lines tree ++ (plan_lines fliers ++ line.Claim claim ∷ []))
-
--- each line with the newline that ends it
-abbrev pub text_of : List CertLine → List ℕ
-text_of lines = flat_map (λ line. spelling line ++ 10 ∷ []) lines
 
 -- what every bound of the tree has to reach: the claimed cost, more than any legal plan costs, or the claimed bound
 abbrev pub asked_of : BookSeen → Claim → ℕ

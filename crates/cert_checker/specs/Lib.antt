@@ -1,6 +1,6 @@
 pub mod Certificate
-pub mod Judging
 pub mod Reasons
 pub mod State
+pub mod Step
 pub mod Verdict
 pub mod inside

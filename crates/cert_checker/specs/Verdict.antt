@@ -15,7 +15,7 @@ use Rattle.cert_checker.specs.declared.verdict.Reason.TheVariants.{BadLine, Open
 use Rattle.cert_checker.specs.declared.verdict.Verdict.{Verdict}
 use Rattle.cert_checker.specs.declared.verdict.Verdict.TheVariants.{Yes, No}
 use Rattle.cert_checker.specs.Certificate.{Accepts}
-use Rattle.cert_checker.specs.Judging.{Step, take_line}
+use Rattle.cert_checker.specs.Step.{Step, take_line}
 use Rattle.cert_checker.specs.Reasons.{is_shown_leaf, number_of_reason}
 use Rattle.cert_checker.specs.State.{OpenLeaf, State, Section, Start, Claimed}
 

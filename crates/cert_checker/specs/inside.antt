@@ -1,2 +1,8 @@
 -- What only proofs, and calls further in, cite.
+pub mod Buckets
 pub mod Kept
+pub mod Leaf
+pub mod Means
+pub mod OpenBranches
+pub mod ToldLines
+pub mod Ways

@@ -2,6 +2,7 @@
 
 ghost use Rattle.cert_checker.specs.Certificate.{AcceptedClaimsAreTrue};
 ghost use Rattle.cert_checker.specs.Verdict.{AcceptedIsYes, YesIsAccepted, YesIsTrue};
+ghost use Rattle.cert_checker.specs.inside.ToldLines.{FailuresDependOnLines};
 
 use branch_marks::laws::{
     alive_decides, bounds_decide, fact_of_decides, following_facts_are_of_book, follows_decides,
@@ -53,3 +54,8 @@ pub fn yes_is_true()
     yes_is_accepted();
     accepted_claims_are_true();
 }
+
+/// A failure depends on the text up to the line that it is told with, and on nothing behind that line.
+pub fn failures_depend_on_lines()
+    ensures { FailuresDependOnLines }
+{}

@@ -7,20 +7,22 @@ ghost use Rattle.tail_book.specs.Seen.{BookSeen};
 ghost use Rattle.tail_book.specs.CostTable.{costs_of};
 ghost use Rattle.maint_counters.specs.inside.Counts.{AreCountable};
 ghost use Rattle.branch_marks.specs.TreeTests.{is_in_box};
-ghost use Rattle.cert_checker.specs.Judging.{take_cover, take_dual, take_label};
+ghost use Rattle.cert_checker.specs.Step.{take_cover, take_dual, take_label};
 ghost use Rattle.cert_checker.specs.Reasons.{shows};
 ghost use Rattle.cert_checker.specs.Verdict.{leaf_fails};
 ghost use Rattle.cert_checker.specs.inside.Kept.{Gives, IsJudging, state_of};
-ghost use Rattle.tree_tests.specs.inside.Means.{AreMeansOf};
+ghost use Rattle.cert_checker.specs.inside.Means.{AreMeansOf};
 
-use crate::bounding::added;
-use crate::judging::{Judging, Leaf, Part};
+use crate::bound::added;
+use crate::cover::{is_shown_cover, is_shown_stuck};
+use crate::label::Label;
+use crate::means::Means;
+use crate::numbers::{is_activity, is_aircraft};
+use crate::state::{Judging, OpenLeaf, Part};
 use crate::verdict::Reason;
-use crate::within::{is_activity, is_aircraft};
 use branch_marks::Row;
 use tail_book::laws::every_book_is_sound;
 use tail_book::{Book, Memory};
-use tree_tests::{Label, Means, is_shown_cover, is_shown_stuck};
 
 // Whether a dual lies in the box.
 fn is_in_box(means: &Means, dual: i64) -> bool
@@ -31,7 +33,7 @@ fn is_in_box(means: &Means, dual: i64) -> bool
 }
 
 // Whether an open leaf may have a label with these counters at an activity next.
-fn may_take_label(book: &Book, leaf: Leaf, at: u32, counters: &Row) -> bool
+fn may_take_label(book: &Book, leaf: OpenLeaf, at: u32, counters: &Row) -> bool
     ensures { result ≡ (nat_le leaf.next at && (nat_lt at (activities book.now) && length counters.now == length book.now.rules.counters)) }
 {
     leaf.next <= at
@@ -93,7 +95,7 @@ impl Judging {
         self.values = added(&self.values, &value);
         self.branches.owes = !self.has_all_covers(book);
         self.family.clear();
-        self.leaf = Some(Leaf {
+        self.leaf = Some(OpenLeaf {
             line: self.lines + 1,
             k,
             value: Some(value),
@@ -129,12 +131,12 @@ impl Judging {
             weight,
             counters,
         })?;
-        self.leaf = Some(Leaf { next: at, ..leaf });
+        self.leaf = Some(OpenLeaf { next: at, ..leaf });
         Ok(None)
     }
 
     // Whether the labels of a leaf show what its line claims.
-    fn shows(&mut self, book: &Book, means: &Means, leaf: Leaf) -> bool
+    fn shows(&mut self, book: &Book, means: &Means, leaf: OpenLeaf) -> bool
         requires judging { IsJudging book.now self.old }
         requires means { AreMeansOf book.now means.now }
         requires leaf { self.old.leaf ≡ Some leaf }

@@ -1,16 +1,24 @@
 //! The judging of certificates: which are accepted, what an accepted one shows, and the first failure of any other.
 #![tactic(auto)]
 
-mod answering;
-mod bounding;
-mod claimed;
-mod ending;
-mod judging;
+mod bound;
+mod branches;
+mod buckets;
+mod claim;
+mod cover;
+mod ends;
+mod following;
+mod label;
 pub mod laws;
+mod leaf;
 mod leaves;
+mod means;
 mod nodes;
+mod numbers;
+mod state;
+mod text;
 mod verdict;
-mod within;
+mod ways;
 
-pub use answering::judge;
+pub use text::judge;
 pub use verdict::{Reason, Verdict};

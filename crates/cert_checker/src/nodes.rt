@@ -2,17 +2,18 @@
 //! that is owed next; a step owes it again with one fact more, a split owes two for it, and a leaf that is done none.
 
 ghost use Rattle.std.specs.Prelude.{◌≡◌, ◌<◌, ◌^◌, IfOk, length, replicate, pos};
-ghost use Rattle.cert_checker.specs.Judging.{is_pair_of, take_bound, take_fact, take_hole, take_split, take_stuck};
+ghost use Rattle.cert_checker.specs.Step.{is_pair_of, take_bound, take_fact, take_hole, take_split, take_stuck};
 ghost use Rattle.cert_checker.specs.inside.Kept.{Gives, IsJudging, state_of};
-ghost use Rattle.tree_tests.specs.inside.Means.{AreMeansOf};
+ghost use Rattle.cert_checker.specs.inside.Means.{AreMeansOf};
 
-use crate::judging::{Judging, Leaf, Part};
+use crate::following::{follows, hole, undecided};
+use crate::means::Means;
+use crate::numbers::{is_activity, is_aircraft};
+use crate::state::{Judging, OpenLeaf, Part};
 use crate::verdict::Reason;
-use crate::within::{is_activity, is_aircraft};
 use branch_marks::{Fact, Pair};
 use std::alloc::Global;
 use tail_book::{Book, Memory};
-use tree_tests::{Means, follows, hole, undecided};
 
 // Whether the numbers in a pair are of the book.
 fn is_pair_of(book: &Book, pair: Pair) -> bool
@@ -142,7 +143,7 @@ impl Judging {
         self.branches.owes = false;
         clear(&mut self.duals);
         self.family.clear();
-        self.leaf = Some(Leaf {
+        self.leaf = Some(OpenLeaf {
             line: self.lines + 1,
             k,
             value: None,

@@ -2,7 +2,9 @@ pub mod BadLine
 pub mod Grammar
 pub mod Keyword
 pub mod OneSpelling
+pub mod PlanLines
 pub mod Reading
 pub mod Spelling
+pub mod Text
 pub mod Words
 pub mod inside

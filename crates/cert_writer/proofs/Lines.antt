@@ -12,7 +12,7 @@ use Rattle.branch_marks.specs.Events.{IsNotable}
 use Rattle.branch_marks.specs.declared.event.Event.{Event}
 use Rattle.cert_lines.specs.declared.cert_line.CertLine.{CertLine}
 use Rattle.cert_lines.specs.declared.cert_line.CertLine.TheVariants as line
-use Rattle.cert_checker.specs.Certificate.{text_of}
+use Rattle.cert_lines.specs.Text.{text_of}
 use Rattle.cert_writer.specs.CertText.{IsTornAt, TellsAt, event_text, line_text}
 
 pub text_append : (one other : List CertLine) → text_of (one ++ other) ≡ text_of one ++ text_of other

@@ -7,7 +7,7 @@ use Rattle.branch_marks.specs.LogShown.{LogShown}
 use Rattle.cert_lines.specs.declared.cert_line.CertLine.{CertLine}
 use Rattle.cert_lines.specs.declared.cert_line.CertLine.TheVariants as line
 use Rattle.cert_lines.specs.Spelling.{spelling}
-use Rattle.cert_checker.specs.Certificate.{text_of}
+use Rattle.cert_lines.specs.Text.{text_of}
 
 -- the header's line, and a line for each event
 abbrev pub event_text : CertLine → List Event → List ℕ

@@ -6,7 +6,7 @@ use Rattle.tail_book.specs.declared.outcome.Outcome.TheVariants.{Optimal, Infeas
 use Rattle.tail_book.specs.Fliers.{fliers_of}
 use Rattle.cert_lines.specs.declared.cert_line.CertLine.{CertLine}
 use Rattle.cert_lines.specs.declared.cert_line.CertLine.TheVariants as line
-use Rattle.cert_checker.specs.Certificate.{plan_lines}
+use Rattle.cert_lines.specs.PlanLines.{plan_lines}
 
 -- the plan of an outcome
 abbrev pub plan_in : Outcome → Option (List (List ℕ))

@@ -7,7 +7,7 @@
 ghost use Rattle.std.specs.Prelude.{◌≡◌, ◌≤◌, ◌∷◌, ◌++◌, [], false, OnOk, OnErr, IsErrOf, length};
 ghost use Rattle.tail_book.specs.Lookup.{activities, aircraft};
 ghost use Rattle.tail_outside.specs.Outside.{PieceHasFailed, Takes, TakesFront};
-ghost use Rattle.cert_checker.specs.Certificate.{text_of};
+ghost use Rattle.cert_lines.specs.Text.{text_of};
 ghost use Rattle.cert_lines.specs.Grammar.{IsLine};
 ghost use Rattle.cert_writer.specs.Trailer.{trailer_lines, IsSpelled};
 ghost use Rattle.cert_lines.specs.declared.cert_line.CertLine.TheVariants.{Header as HeaderLine};

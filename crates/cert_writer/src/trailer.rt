@@ -3,7 +3,8 @@
 
 ghost use Rattle.std.specs.Prelude.{◌≡◌, ◌<◌, ◌^◌, ◌++◌, ◌∷◌, [], IfOk, OnOk, Some, length};
 ghost use Rattle.tail_book.specs.Fliers.{fliers_of};
-ghost use Rattle.cert_checker.specs.Certificate.{plan_lines, text_of};
+ghost use Rattle.cert_lines.specs.PlanLines.{plan_lines};
+ghost use Rattle.cert_lines.specs.Text.{text_of};
 ghost use Rattle.cert_lines.specs.Grammar.{IsLine};
 ghost use Rattle.cert_writer.specs.CertText.{line_text};
 ghost use Rattle.cert_writer.specs.Trailer.{trailer_lines, IsSpelled};

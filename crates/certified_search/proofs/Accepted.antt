@@ -28,7 +28,9 @@ use Rattle.cert_lines.specs.Grammar.{IsLine}
 use Rattle.cert_lines.specs.declared.cert_line.CertLine.{CertLine}
 use Rattle.cert_lines.specs.declared.cert_line.CertLine.TheVariants as line
 use Rattle.branch_marks.specs.TreeEvents.{tree_events}
-use Rattle.cert_checker.specs.Certificate.{Accepts, HasClaimedPlan, IsPlanOfFliers, asked_of, certificate_lines, claimed_cost, header_of, plan_lines, text_of}
+use Rattle.cert_lines.specs.PlanLines.{plan_lines}
+use Rattle.cert_lines.specs.Text.{text_of}
+use Rattle.cert_checker.specs.Certificate.{Accepts, HasClaimedPlan, IsPlanOfFliers, asked_of, certificate_lines, claimed_cost, header_of}
 use Rattle.cert_writer.specs.Trailer.{plan_in}
 use Rattle.certified_search.specs.SearchText.{search_lines, search_text}
 use Rattle.certified_search.proofs.Spelled.{claim_good, events_good, header_good, plan_good}

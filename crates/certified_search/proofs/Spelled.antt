@@ -20,7 +20,8 @@ use Rattle.branch_tree.specs.declared.limit.Limit.{Limit}
 use Rattle.cert_lines.specs.Grammar.{IsLine, IsLineClaim}
 use Rattle.cert_lines.specs.declared.cert_line.CertLine.{CertLine}
 use Rattle.cert_lines.specs.declared.cert_line.CertLine.TheVariants as line
-use Rattle.cert_checker.specs.Certificate.{fly_lines, header_of, plan_lines}
+use Rattle.cert_lines.specs.PlanLines.{fly_lines, plan_lines}
+use Rattle.cert_checker.specs.Certificate.{header_of}
 
 pub header_good : (book : BookSeen) → IsBook book → IsLine (header_of book)
 header_good book sound = (refl, omega (arith, sound.few_activities), omega (arith, sound.few_tails), omega (arith, sound.rules.few_counters))

@@ -21,7 +21,8 @@ use Rattle.branch_tree.specs.SearchTree.{IsSearchTree, SearchTree, nodes_of}
 use Rattle.branch_tree.specs.declared.limit.Limit.{Limit}
 use Rattle.cert_lines.specs.declared.cert_line.CertLine.{CertLine}
 use Rattle.cert_lines.specs.declared.cert_line.CertLine.TheVariants as line
-use Rattle.cert_checker.specs.Certificate.{header_of, text_of}
+use Rattle.cert_lines.specs.Text.{text_of}
+use Rattle.cert_checker.specs.Certificate.{header_of}
 use Rattle.cert_writer.specs.CertText.{IsTornAt, TellsAt, event_text, log_over}
 use Rattle.cert_writer.specs.Trailer.{trailer_lines}
 use Rattle.cert_writer.proofs.Lines.{text_append}

@@ -13,7 +13,8 @@ use Rattle.branch_tree.specs.SearchTree.{SearchTree, nodes_of, IsSearchTree}
 use Rattle.branch_tree.specs.declared.limit.Limit.{Limit}
 use Rattle.cert_lines.specs.declared.cert_line.CertLine.{CertLine}
 use Rattle.cert_lines.specs.declared.cert_line.CertLine.TheVariants as line
-use Rattle.cert_checker.specs.Certificate.{Accepts, header_of, text_of}
+use Rattle.cert_lines.specs.Text.{text_of}
+use Rattle.cert_checker.specs.Certificate.{Accepts, header_of}
 use Rattle.cert_writer.specs.Trailer.{trailer_lines}
 
 -- the lines of a search that told these events and ended with this outcome

@@ -10,7 +10,8 @@ use Rattle.branch_tree.specs.NodeEvents.{begun_events, events_of}
 use Rattle.branch_tree.specs.SearchTree.{SearchTree, nodes_of, IsSearchTree}
 use Rattle.branch_tree.specs.declared.limit.Limit.{Limit}
 use Rattle.cert_lines.specs.declared.cert_line.CertLine.TheVariants as line
-use Rattle.cert_checker.specs.Certificate.{Accepts, header_of, text_of}
+use Rattle.cert_lines.specs.Text.{text_of}
+use Rattle.cert_checker.specs.Certificate.{Accepts, header_of}
 use Rattle.certified_search.specs.SearchText.{search_text}
 
 -- the text is accepted for what the outcome claims, and spells a search tree of this outcome within the limit

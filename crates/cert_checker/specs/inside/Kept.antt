@@ -7,18 +7,18 @@ use Rattle.branch_marks.specs.declared.fact.Fact.{Fact}
 use Rattle.branch_marks.specs.Labels.{Label}
 use Rattle.branch_marks.specs.ProofTree.{zero_duals}
 use Rattle.floor_rows.specs.inside.FloorRow.{IsRowOf}
-use Rattle.cert_checker.specs.Judging.{Step, after_leaf, at_node}
+use Rattle.cert_checker.specs.Step.{Step, after_leaf, at_node}
 use Rattle.cert_checker.specs.State.{State, OpenLeaf, BoundLeaf, Section}
 use Rattle.cert_checker.specs.State as section
-use Rattle.cert_checker.specs.declared.judging.Judging.{Judging}
-use Rattle.cert_checker.specs.declared.judging.Leaf.{Leaf}
-use Rattle.cert_checker.specs.declared.judging.Part.{Part}
-use Rattle.cert_checker.specs.declared.judging.Part.TheVariants.{Start, InTree, InBound, InPlan, Claimed}
+use Rattle.cert_checker.specs.declared.state.Judging.{Judging}
+use Rattle.cert_checker.specs.declared.state.OpenLeaf.{OpenLeaf as KeptLeaf}
+use Rattle.cert_checker.specs.declared.state.Part.{Part}
+use Rattle.cert_checker.specs.declared.state.Part.TheVariants.{Start, InTree, InBound, InPlan, Claimed}
 use Rattle.cert_checker.specs.declared.verdict.Reason.{Reason}
 use Rattle.cert_checker.specs.declared.verdict.Verdict.{Verdict}
 use Rattle.cert_checker.specs.declared.verdict.Reason.TheVariants.{OutOfPlace}
-use Rattle.tree_tests.specs.inside.Buckets.{IsFamilyOf}
-use Rattle.tree_tests.specs.inside.OpenBranches.{AreBranchesOf, owed_of}
+use Rattle.cert_checker.specs.inside.Buckets.{IsFamilyOf}
+use Rattle.cert_checker.specs.inside.OpenBranches.{AreBranchesOf, owed_of}
 
 -- the bound leaf that is here
 abbrev pub bound_leaf : Judging → BoundLeaf
@@ -33,7 +33,7 @@ section_in judging InPlan = section.InPlan judging.fliers.items
 section_in judging (Claimed claim) = section.Claimed claim
 
 -- the leaf that is open
-abbrev pub leaf_in : Judging → Option Leaf → Option OpenLeaf
+abbrev pub leaf_in : Judging → Option KeptLeaf → Option OpenLeaf
 leaf_in judging None = None
 leaf_in judging (Some leaf) = Some (record {
   line = leaf.line;
@@ -56,13 +56,13 @@ state_of judging = record {
 }
 
 -- the open leaf is of an aircraft of the book, its labels are a family so far, and where it claims no value its duals are 0
-pub record IsLeafOf (book : BookSeen) (marks : List Fact) (duals : List ℤ) (labels : List Label) (leaf : Leaf) : Type 0 where
+pub record IsLeafOf (book : BookSeen) (marks : List Fact) (duals : List ℤ) (labels : List Label) (leaf : KeptLeaf) : Type 0 where
   pub aircraft : leaf.k < aircraft book
   pub family : IsFamilyOf book marks leaf.k labels
   pub last : All (λ label. label.at ≤ leaf.next) labels
   pub zero : leaf.value ≡ None → duals ≡ zero_duals book
 
-abbrev pub IsLeafIn : BookSeen → Judging → Option Leaf → Type 0
+abbrev pub IsLeafIn : BookSeen → Judging → Option KeptLeaf → Type 0
 IsLeafIn book judging None = ⊤
 IsLeafIn book judging (Some leaf) = IsLeafOf book judging.branches.marks.facts judging.duals.items judging.family.items leaf
 

@@ -1,6 +1,7 @@
 use Rattle.std.proofs.Common.{◌≡◌, ◌++◌, drop}
 use Rattle.std.specs.Prelude.{Some}
-use Rattle.cert_checker.specs.Certificate.{fly_lines, plan_lines, text_of}
+use Rattle.cert_lines.specs.PlanLines.{fly_lines, plan_lines}
+use Rattle.cert_lines.specs.Text.{text_of}
 use Rattle.cert_writer.proofs.trailer.add_plan.Given as goal
 
 -- the lines so far are written, and those of the other activities are left

@@ -7,7 +7,7 @@ use Rattle.branch_tree.specs.Place.{root}
 use Rattle.branch_tree.specs.SearchTree.{IsSearchTree, nodes_of}
 use Rattle.cert_lines.specs.declared.cert_line.CertLine.{CertLine}
 use Rattle.cert_lines.specs.declared.cert_line.CertLine.TheVariants as line
-use Rattle.cert_checker.specs.Certificate.{text_of}
+use Rattle.cert_lines.specs.Text.{text_of}
 use Rattle.cert_writer.specs.CertText.{TellsAt}
 use Rattle.cert_writer.specs.Trailer.{trailer_lines}
 use Rattle.certified_search.proofs.Writing.{begun_tells_as, book_header, cut_front_as, header_front, same_header, written, written_front}

@@ -1,0 +1,12 @@
+use Rattle.std.specs.Prelude.{not}
+use Rattle.std.proofs.Common.{◌≡◌, drop}
+use Rattle.std.specs.List.{list_all}
+use Rattle.tail_book.specs.declared.place.Place.TheVariants.{After}
+use Rattle.branch_marks.specs.MarkTests.{may_end}
+use Rattle.cert_checker.proofs.cover.has_no_end.Given as goal
+
+-- the labels from i on decide
+abbrev pub invariant-loop-i : goal.invariant-loop-i
+invariant-loop-i l =
+    list_all (λ member. not (may_end l.marks.facts l.k (After member.at))) l.family
+    ≡ list_all (λ member. not (may_end l.marks.facts l.k (After member.at))) (drop l.i l.family)

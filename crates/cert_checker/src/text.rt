@@ -1,0 +1,207 @@
+//! A text, judged line by line: each line is read and taken, and the first failure is the verdict.
+//!
+//! A leaf is tested at the first line behind its labels, since only then all of them have come. Behind the last newline
+//! nothing may stand.
+
+ghost use Rattle.std.specs.Prelude.{◌≡◌, ◌<◌, ◌≤◌, ◌+◌, ◌^◌, IfOk, None, Some};
+ghost use Rattle.branch_marks.specs.Events.{IsNotable};
+ghost use Rattle.cert_lines.specs.Grammar.{IsLine};
+ghost use Rattle.cert_checker.specs.Step.{take_event, take_line};
+ghost use Rattle.cert_checker.specs.Reasons.{number_of_reason};
+ghost use Rattle.cert_checker.specs.Verdict.{end_with, failed, is_label, take_read, take_text, verdict};
+ghost use Rattle.cert_checker.specs.inside.Kept.{Answers, Gives, IsJudging, state_of};
+ghost use Rattle.cert_checker.specs.inside.Means.{AreMeansOf};
+
+use crate::means::Means;
+use crate::state::{Judging, Part};
+use crate::verdict::{Reason, Verdict};
+use branch_marks::Event;
+use cert_lines::{CertLine, LENGTH_LIMIT, read_line};
+use std::alloc::Global;
+use tail_book::{Book, Memory};
+use tail_text::Parts;
+
+// The number of a reason.
+fn number_of_reason(reason: Reason) -> u8
+    ensures { result ≡ number_of_reason reason }
+{
+    match reason {
+        Reason::BadLine => 1,
+        Reason::OutOfPlace => 2,
+        Reason::KnownFact => 3,
+        Reason::NotFollowing => 4,
+        Reason::NotAlive => 5,
+        Reason::OpenCover => 6,
+        Reason::OutOfBox => 7,
+        Reason::BadPlan => 8,
+        Reason::WeakBound => 9,
+        Reason::Unfinished => 10,
+    }
+}
+
+// A failure of a line.
+fn failed(line: u64, reason: Reason) -> Verdict
+    ensures { result ≡ failed line reason }
+{
+    Verdict::No {
+        line,
+        reason: number_of_reason(reason),
+    }
+}
+
+// Whether a line is a label.
+fn is_label(line: &CertLine) -> bool
+    ensures { result ≡ is_label line.now }
+{
+    match line {
+        CertLine::Event(Event::Label { .. }) => true,
+        _ => false,
+    }
+}
+
+impl Judging {
+    // Takes an event, or says why not.
+    fn take_event(
+        &mut self,
+        alloc: Global,
+        book: &Book,
+        means: &Means,
+        event: Event,
+    ) -> Result<Option<Reason>, Memory>
+        requires judging { IsJudging book.now self.old }
+        requires means { AreMeansOf book.now means.now }
+        requires lines { self.old.lines < 2 ^ 63 }
+        requires event { IsNotable event }
+        ensures judging { IfOk result (λ _. IsJudging book.now self.new) }
+        ensures step { IfOk result (Gives (take_event book.now (state_of self.old) event) self.new) }
+    {
+        match event {
+            Event::Fact(fact) => self.take_fact(alloc, book, means, fact),
+            Event::Split(pair) => self.take_split(alloc, book, pair),
+            Event::Hole(a) => self.take_hole(alloc, book, a),
+            Event::Stuck(k) => self.take_stuck(alloc, book, k),
+            Event::Bound => self.take_bound(alloc, book),
+            Event::Dual(a, dual) => Ok(self.take_dual(book, means, a, dual)),
+            Event::Cover(k, value) => Ok(self.take_cover(book, k, value)),
+            Event::Label {
+                at,
+                weight,
+                counters,
+            } => self.take_label(book, at, weight, counters),
+        }
+    }
+
+    // Takes a line by itself, or says why not.
+    fn take_line(
+        &mut self,
+        alloc: Global,
+        book: &Book,
+        means: &Means,
+        line: CertLine,
+    ) -> Result<Option<Reason>, Memory>
+        requires judging { IsJudging book.now self.old }
+        requires means { AreMeansOf book.now means.now }
+        requires lines { self.old.lines < 2 ^ 63 }
+        requires line { IsLine line }
+        ensures judging { IfOk result (λ _. IsJudging book.now self.new) }
+        ensures step { IfOk result (Gives (take_line book.now (state_of self.old) line) self.new) }
+    {
+        match line {
+            CertLine::Header {
+                version: _,
+                n,
+                m,
+                c,
+            } => Ok(self.take_header(book, n, m, c)),
+            CertLine::Event(event) => self.take_event(alloc, book, means, event),
+            CertLine::Plan => Ok(self.take_plan(book)),
+            CertLine::Fly(a, k) => self.take_fly(book, a, k),
+            CertLine::Claim(claim) => self.take_claim(alloc, book, means, claim),
+        }
+    }
+
+    // Takes a line that was read: the leaf before it comes first, and then the line itself.
+    fn take_read(
+        &mut self,
+        alloc: Global,
+        book: &Book,
+        means: &Means,
+        line: CertLine,
+    ) -> Result<Option<Verdict>, Memory>
+        requires judging { IsJudging book.now self.old }
+        requires means { AreMeansOf book.now means.now }
+        requires lines { self.old.lines < 2 ^ 63 }
+        requires line { IsLine line }
+        ensures judging { IfOk result (λ _. IsJudging book.now self.new) }
+        ensures step { IfOk result (Answers (take_read book.now (state_of self.old) (Some line)) self.new) }
+        ensures lines { IfOk result (λ answer. answer ≡ None → self.new.lines ≡ self.old.lines + 1) }
+    {
+        if !is_label(&line) {
+            if let Some(opened) = self.failing_leaf(book, means) {
+                return Ok(Some(failed(opened, Reason::OpenCover)));
+            }
+        }
+        let n = self.lines + 1;
+        if let Some(reason) = self.take_line(alloc, book, means, line)? {
+            return Ok(Some(failed(n, reason)));
+        }
+        self.lines = n;
+        Ok(None)
+    }
+
+    /// Takes a line, given without its newline, or answers the failure that is met there.
+    pub fn take(
+        &mut self,
+        alloc: Global,
+        book: &Book,
+        means: &Means,
+        text: &[u8],
+    ) -> Result<Option<Verdict>, Memory>
+        requires judging { IsJudging book.now self.old }
+        requires means { AreMeansOf book.now means.now }
+        requires lines { self.old.lines < 2 ^ 63 }
+        ensures judging { IfOk result (λ _. IsJudging book.now self.new) }
+        ensures step { IfOk result (Answers (take_text book.now (state_of self.old) text.now) self.new) }
+        ensures lines { IfOk result (λ answer. answer ≡ None → self.new.lines ≡ self.old.lines + 1) }
+    {
+        match read_line(text) {
+            Ok(line) => self.take_read(alloc, book, means, line),
+            Err(_) => Ok(Some(failed(self.lines + 1, Reason::BadLine))),
+        }
+    }
+
+    /// The verdict at the end of a text, of which this stands behind the last newline.
+    pub fn end(&self, rest: &[u8]) -> Verdict
+        requires { self.now.lines ≤ 2 ^ 63 }
+        ensures { result ≡ end_with (state_of self.now) rest.now }
+    {
+        if rest.len() > LENGTH_LIMIT {
+            return failed(self.lines + 1, Reason::BadLine);
+        }
+        if !rest.is_empty() {
+            return failed(self.lines + 1, Reason::Unfinished);
+        }
+        match self.part {
+            Part::Claimed(claim) => Verdict::Yes(claim),
+            _ => failed(self.lines + 1, Reason::Unfinished),
+        }
+    }
+}
+
+/// The verdict on a text: whether it is accepted as a certificate of the book, and for which claim, or its first failure.
+pub fn judge(alloc: Global, book: &Book, text: &[u8]) -> Result<Verdict, Memory>
+    ensures verdict { IfOk result (λ answer. answer ≡ verdict book.now text.now) }
+{
+    let means = Means::of(alloc, book)?;
+    let mut judging = Judging::new(alloc, book)?;
+    let mut lines = Parts::new(text, b'\n');
+    while let Some(next) = lines.take() {
+        if lines.is_done() {
+            return Ok(judging.end(next));
+        }
+        if let Some(verdict) = judging.take(alloc, book, &means, next)? {
+            return Ok(verdict);
+        }
+    }
+    Ok(judging.end(&[]))
+}

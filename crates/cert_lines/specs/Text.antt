@@ -1,0 +1,9 @@
+-- What lines are as a text.
+use Rattle.std.specs.Prelude.{ℕ, List, [], ◌∷◌, ◌++◌}
+use Rattle.std.specs.List.{flat_map}
+use Rattle.cert_lines.specs.declared.cert_line.CertLine.{CertLine}
+use Rattle.cert_lines.specs.Spelling.{spelling}
+
+-- each line with the newline that ends it
+abbrev pub text_of : List CertLine → List ℕ
+text_of lines = flat_map (λ line. spelling line ++ 10 ∷ []) lines

@@ -1,5 +1,0 @@
-pub mod BranchLists
-pub mod Bucketed
-pub mod FollowingTold
-pub mod MetWays
-pub mod ShownFamilies

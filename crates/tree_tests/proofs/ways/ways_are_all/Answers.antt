@@ -1,5 +1,0 @@
-use Rattle.tree_tests.proofs.MetWays.{are_all}
-use Rattle.tree_tests.proofs.ways.ways_are_all.Goals as goal
-
-pub returns : goal.returns
-returns c = are_all c.rows_are_their_places.ensures c.usable_decides.ensures c.heads_are_links.ensures c.successors_are_links.ensures

@@ -1,5 +1,0 @@
-use Rattle.tree_tests.proofs.MetWays.{of_book}
-use Rattle.tree_tests.proofs.ways.ways_are_of_book.Goals as goal
-
-pub returns : goal.returns
-returns c book k x = λ i d lt. of_book c.rows_are_their_places.ensures c.rows_rise.ensures book k x i d lt

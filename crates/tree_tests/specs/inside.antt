@@ -1,6 +1,0 @@
--- What only proofs, and calls further in, cite.
-pub mod Buckets
-pub mod Leaf
-pub mod Means
-pub mod OpenBranches
-pub mod Ways
