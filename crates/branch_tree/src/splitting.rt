@@ -4,7 +4,7 @@
 
 ghost use Rattle.std.specs.Prelude.{◌≡◌, ◌≤◌, IfOk};
 ghost use Rattle.branch_marks.specs.Settled.{IsSettled, AreDuals};
-ghost use Rattle.dive_heuristic.specs.Dive.{HasNoHole, IsDiveOf};
+ghost use Rattle.dive_heuristic.specs.Dive.{HasNoHole, IsDiveOf, IsPlanned};
 ghost use Rattle.dive_heuristic.specs.Divers.{IsDiverFor};
 ghost use Rattle.branch_marks.specs.inside.MarkTables.{AreMarksOf};
 ghost use Rattle.connection_net.specs.Net.{net_of};
@@ -44,6 +44,7 @@ fn dive_and_use(
     requires best { IsBest table.now book.now best.old.plan best.old.target }
     requires diver { IsDiverFor book.now table.now marks.now.facts diver.old }
     ensures dive { IfOk result (IsDiveOf table.now book.now marks.now.facts duals.now.values) }
+    ensures planned { IfOk result (IsPlanned table.now book.now marks.now.facts) }
     ensures used { IfOk result (HasUsed best.new.target) }
     ensures best { IsBest table.now book.now best.new.plan best.new.target }
     ensures falls { best.new.target ≤ best.old.target }
