@@ -14,7 +14,7 @@ ghost use Rattle.branch_tree.specs.inside.Stepping.{IsEndFound};
 ghost use Rattle.branch_tree.specs.inside.Weighing.{IsOpen};
 
 use crate::Best;
-use crate::bounds::passes;
+use crate::bounds::{bound_from, passes};
 use crate::choosing::chosen_pair;
 use crate::seeking::exchange_near;
 use crate::step::End;
@@ -94,7 +94,7 @@ pub fn split(
     }
     Ok(End::Split {
         pair,
-        bound: found.sum,
+        bound: bound_from(found.sum),
         routes: found.routes,
         dive,
     })

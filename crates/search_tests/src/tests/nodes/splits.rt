@@ -30,8 +30,8 @@ fn weight_in(pool: &Pool, duals: &Duals, k: usize, route: &Route) -> Option<i64>
     None
 }
 
-// All duals, and what the routes weigh; nothing where the pool lacks one.
-fn sum_of(pool: &Pool, duals: &Duals, routes: &[Route]) -> Option<i128> {
+// All duals and what the routes weigh, or 0 if that is negative; nothing where the pool lacks one of the routes.
+fn bound_of(pool: &Pool, duals: &Duals, routes: &[Route]) -> Option<i128> {
     let mut sum = 0i128;
     for dual in &duals.values {
         sum = sum.saturating_add(i128::from(*dual));
@@ -39,7 +39,7 @@ fn sum_of(pool: &Pool, duals: &Duals, routes: &[Route]) -> Option<i128> {
     for (k, route) in routes.iter().enumerate() {
         sum = sum.saturating_add(i128::from(weight_in(pool, duals, k, route)?));
     }
-    Some(sum)
+    Some(sum.max(0))
 }
 
 // How many routes have an activity, and the first of them.
@@ -190,7 +190,7 @@ fn wrong_of_step(
     else {
         return Ok(Some("no split"));
     };
-    if sum_of(pool, duals, routes) != Some(*bound) || bound_below(*bound, target).is_none() {
+    if bound_of(pool, duals, routes) != Some(*bound) || bound_below(*bound, target).is_none() {
         return Ok(Some("routes"));
     }
     if routes.len() != book.tails.len() || !is_due(book, marks, routes, *pair) {
