@@ -3,7 +3,6 @@
 use Rattle.std.proofs.Common.{◌≡◌, ℕ, ℤ, zero, suc, ◌+◌, ◌<◌, ◌≤◌, inl, inr, true, false, arith, List, [], ◌∷◌, length, refl, sym, subst}
 use Rattle.std.proofs.lemmas.Bool.{eqb-true, eq-eqb, or_cases, or_left, or_right, and_parts, both_ways, cases_order}
 use Rattle.std.specs.Cmp.Derive.{both_true}
-use Rattle.std.specs.Option.{is_none}
 use Rattle.std.proofs.lemmas.List.Elements.{All-contains}
 use Rattle.std.specs.Prelude.{nat_eq, ◌&&◌, IfSome, IfNone, All, Contains, Option, Some, None, slice_index_or}
 use Rattle.tail_book.specs.Seen.{BookSeen}
@@ -11,12 +10,8 @@ use Rattle.tail_book.specs.TableSeen.{CostTableSeen}
 use Rattle.tail_book.specs.declared.place.Place.{Place}
 use Rattle.tail_book.specs.declared.place.Place.TheVariants.{Carry, After}
 use Rattle.tail_book.specs.Lookup.{activities, aircraft}
-use Rattle.tail_book.specs.Numbers.{contains}
 use Rattle.tail_book.specs.Plan.{times_flown, route_of}
-use Rattle.tail_book.specs.declared.flown.Flown.TheVariants.{Once}
 use Rattle.tail_book.specs.CostTable.{plan_cost_in}
-use Rattle.tail_book.specs.inside.Flown.{FlownIsCount, FlownOnceIsInOneRoute, IsInOneRoute}
-use Rattle.tail_book.specs.inside.Rising.{IsRisingFrom}
 use Rattle.branch_marks.specs.declared.fact.Fact.{Fact}
 use Rattle.branch_marks.specs.declared.fact.Fact.TheVariants.{Cut}
 use Rattle.branch_marks.specs.declared.fact.Pair.{Pair}
@@ -31,7 +26,6 @@ use Rattle.dive_heuristic.specs.Choice.{IsCarrierOf}
 use Rattle.dive_heuristic.specs.LeastRoutes.{AreLeastRoutes, IsInOne, IsEachInOne}
 use Rattle.branch_tree.specs.Choice.{IsPairAt}
 use Rattle.branch_tree.specs.Target.{Passes}
-use Rattle.branch_tree.specs.inside.Choosing.{IsHolderFrom, HasNoHolderFrom, InOne}
 use Rattle.branch_tree.specs.inside.Weighing.{IsUsedPlan}
 
 -- the activity behind a place of a route comes directly after the one at it
@@ -112,52 +106,3 @@ plan_passes law table book marks duals values routes target count are each used 
     let plan = law table book marks duals values routes count are each in
     let below : target ≤ plan_cost_in table book routes = used plan.0 in
     subst (λ (z : ℤ). Passes (bound_of z) target) plan.1 (omega (arith, below))
-
-module _ (called : FlownIsCount) (one : FlownOnceIsInOneRoute) (n : ℕ) (routes : List (List ℕ)) (rising : All (IsRisingFrom n Carry) routes) (a : ℕ) where
-  from_places : IsInOneRoute routes a → IsInOne routes a
-  from_places places = (called (times_flown routes a) Once).0 ((one n routes rising a).1 places)
-
-  to_places : IsInOne routes a → IsInOneRoute routes a
-  to_places is = (one n routes rising a).0 ((called (times_flown routes a) Once).1 is)
-
-  -- no route has it
-  pub none_in_one : HasNoHolderFrom routes a 0 → InOne routes a false
-  none_in_one none = (
-    λ h. absurd (both_ways false refl h),
-    λ is. (let (k, lt, has, alone) = to_places is in absurd (both_ways (contains (route_of routes k) a) (none k (omega arith)) has)),
-  )
-
-  -- the first that has it is the only one, or there is another behind it
-  pub first_in_one : (book : BookSeen) → length routes ≡ aircraft book → (k : ℕ) → IsHolderFrom book routes a 0 k → (next : Option ℕ)
-      → IfSome next (IsHolderFrom book routes a (k + 1)) → IfNone next (HasNoHolderFrom routes a (k + 1)) → InOne routes a (is_none next)
-  first_in_one book count k first (Some j) second none = (
-    λ h. absurd (both_ways false refl h),
-    λ is. (let (i, lt, has, alone) = to_places is in
-        let same = alone k first.here in let other = alone j second.here in let behind = second.least in
-        absurd (omega (arith, same, other, behind))),
-  )
-  first_in_one book count k first None second none = (
-    λ is. from_places (
-      k,
-      omega (arith, first.of_book, count),
-      first.here,
-      λ j has. elim (cases_order j k) [
-        | inl same ↦ same
-        | inr o ↦ elim o [
-          | inl below ↦ absurd (both_ways (contains (route_of routes j) a) (first.before j (omega arith) below) has)
-          | inr above ↦ absurd (both_ways (contains (route_of routes j) a) (none j (omega (arith, above))) has)
-        ]
-      ],
-    ),
-    λ is. refl,
-  )
-
--- a number below k + 1 is k or below k
-pub at_or_below : (P : ℕ → Type 0) (k : ℕ) → P k → ((j : ℕ) → j < k → P j) → (j : ℕ) → j < k + 1 → P j
-at_or_below P k here below j lt = elim (cases_order j k) [
-  | inl same ↦ subst P (sym same) here
-  | inr o ↦ elim o [
-    | inl less ↦ below j less
-    | inr more ↦ absurd (omega (arith, lt, more))
-  ]
-]

@@ -11,13 +11,14 @@ use Rattle.branch_marks.specs.ProofTree.{Cover}
 use Rattle.branch_marks.specs.Settled.{IsSettled, AreRoutesOfWeights}
 use Rattle.branch_tree.specs.Choice.{IsChosenPair}
 use Rattle.dive_heuristic.specs.declared.answer.Dive.{Dive}
-use Rattle.dive_heuristic.specs.Dive.{IsDiveOf}
+use Rattle.dive_heuristic.specs.Dive.{IsDiveOf, IsPlanned}
 use Rattle.branch_tree.specs.Place.{Open}
 use Rattle.branch_tree.specs.Node.{Ending, Hole, Stuck, Bounded, Split, Node, closed_marks, IsShownNode}
 use Rattle.branch_tree.specs.Target.{IsTarget, Passes, bound_under, HasUsed}
 
 -- a node is split only under settled duals, with routes out of the pool counted too, and where their bound still lies below
--- the target; on the pair that routes of least weight choose, and after a dive from its marks under its duals, whose plan counts
+-- the target; on the pair that routes of least weight choose, and after a dive from its marks under its duals, whose plan is
+-- legal, has the cost that is told, and counts
 pub record IsSplitOf (table : CostTableSeen) (book : BookSeen) (marks : List Fact) (target : ℕ) (pair : Pair) (duals : List ℤ) (routes : List (List ℕ)) (dive : Dive) : Type 0 where
   pub settled : IsSettled table book marks duals
   pub values : List ℤ
@@ -26,6 +27,7 @@ pub record IsSplitOf (table : CostTableSeen) (book : BookSeen) (marks : List Fac
   pub below : ¬ Passes (bound_of (lagrangian duals values)) target
   pub chosen : IsChosenPair book marks routes pair
   pub dived : IsDiveOf table book marks duals dive
+  pub planned : IsPlanned table book marks dive
   pub used : HasUsed target dive
 
 -- the values of the covers are the least weights

@@ -1,5 +1,5 @@
 -- What a step on a node answers: what is true of each answer, and the node that the step visits.
-use Rattle.std.specs.Prelude.{◌≡◌, ℕ, ℤ, ◌<◌, List, All}
+use Rattle.std.specs.Prelude.{◌≡◌, ℕ, ℤ, pos, ◌<◌, List, All}
 use Rattle.tail_book.specs.Seen.{BookSeen}
 use Rattle.tail_book.specs.TableSeen.{CostTableSeen}
 use Rattle.tail_book.specs.Lookup.{aircraft}
@@ -29,11 +29,15 @@ pub record IsLegalPool (table : CostTableSeen) (book : BookSeen) (pool : PoolSee
   pub of_book : IsPoolFor table book pool
   pub legal : All (λ (entry : Pooled). IsLegalRoute book entry.aircraft entry.route) pool.entries
 
--- a split that may be answered: the sum is that of its duals and leaves room below the target, and its pair is undecided
+-- this is the Lagrangian bound of the duals, in thousandths of a cost unit: the larger of their sum and 0
+abbrev pub IsBound : CostTableSeen → BookSeen → List Fact → List ℤ → ℤ → Type 0
+IsBound table book marks duals bound = (sum : ℤ) × IsSum table book marks duals sum × (bound ≡ pos (bound_of sum))
+
+-- a split that may be answered: the bound is that of its duals and leaves room below the target, and its pair is undecided
 pub record IsTrueSplit (table : CostTableSeen) (book : BookSeen) (marks : List Fact) (duals : List ℤ) (target : ℕ) (pair : Pair) (bound : ℤ)
     (routes : List (List ℕ)) (dive : Dive) : Type 0 where
   pub split : IsSplitOf table book marks target pair duals routes dive
-  pub sum : IsSum table book marks duals bound
+  pub bounds : IsBound table book marks duals bound
   pub below : ¬ Passes (bound_of bound) target
   pub undecided : IsUndecided book marks pair
 
@@ -41,7 +45,7 @@ pub record IsTrueSplit (table : CostTableSeen) (book : BookSeen) (marks : List F
 abbrev pub IsTrueStep : CostTableSeen → BookSeen → List Fact → List ℤ → ℕ → Step → Type 0
 IsTrueStep table book marks duals target (step.Hole a) = IsHole book marks a
 IsTrueStep table book marks duals target (step.Stuck k) = (k < aircraft book) × IsStuck book marks k
-IsTrueStep table book marks duals target (step.Bounded sum) = IsSum table book marks duals sum × Passes (bound_of sum) target
+IsTrueStep table book marks duals target (step.Bounded bound) = IsBound table book marks duals bound × Passes (bound_of bound) target
 IsTrueStep table book marks duals target (step.Split pair bound routes dive) =
     IsTrueSplit table book marks duals target pair bound routes.items dive
 
@@ -49,7 +53,7 @@ IsTrueStep table book marks duals target (step.Split pair bound routes dive) =
 abbrev pub AnswersNode : List ℤ → Ending → Step → Type 0
 AnswersNode duals (Hole a) (step.Hole b) = b ≡ a
 AnswersNode duals (Stuck k family) (step.Stuck j) = j ≡ k
-AnswersNode duals (Bounded under covers) (step.Bounded sum) = under ≡ duals
+AnswersNode duals (Bounded under covers) (step.Bounded bound) = under ≡ duals
 AnswersNode duals (Split pair under routes dive) (step.Split on bound flown dived) =
     (on ≡ pair) × (under ≡ duals) × (flown.items ≡ routes) × (dived ≡ dive)
 AnswersNode duals ending answer = ⊥

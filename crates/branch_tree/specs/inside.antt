@@ -2,7 +2,6 @@
 pub mod Listing
 pub mod PricedStore
 pub mod Leaf
-pub mod Choosing
 pub mod Stepping
 pub mod Pooling
 pub mod Weighing

@@ -3,17 +3,24 @@
 //! Costs are whole numbers, so a bound that passes what a plan of one unit less comes to leaves none that is cheaper. All is
 //! exact: sums are of 128 bits, and nothing is subtracted, since a target may be 0.
 
-ghost use Rattle.std.specs.Prelude.{◌≡◌, ◌↔◌, ◌+◌, ◌/◌, IsTrue, IfSome, IfNone};
+ghost use Rattle.std.specs.Prelude.{◌≡◌, ◌↔◌, ◌+◌, ◌/◌, pos, IsTrue, IfSome, IfNone};
 ghost use Rattle.branch_marks.specs.Bound.{bound_of, rounded_up};
 ghost use Rattle.branch_tree.specs.Target.{Passes};
 
 use tail_book::COST_UNIT;
 
-// The sum as a bound, which is 0 where it is negative, since no plan costs less.
+/// A Lagrangian sum as a bound on costs, in thousandths of a cost unit: the larger of it and 0, since no plan costs less.
+pub fn bound_from(sum: i128) -> i128
+    ensures { result ≡ pos (bound_of sum) }
+{
+    if sum < 0 { 0 } else { sum }
+}
+
+// The same without a sign.
 fn bound_of(sum: i128) -> u128
     ensures { result ≡ bound_of sum }
 {
-    if sum < 0 { 0 } else { sum as u128 }
+    bound_from(sum) as u128
 }
 
 /// Whether a Lagrangian sum, in thousandths, leaves no plan that is cheaper than the target, in cost units.

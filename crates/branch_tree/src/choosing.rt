@@ -1,7 +1,5 @@
-//! The pair on which a node is split: about the first activity that none of the least routes has, or that several have.
-//!
-//! Such an activity is looked for in the routes themselves, which are as long as the book together: a split is rare beside
-//! the pricings before it.
+//! The pair on which a node is split: about the activity and the aircraft that a dive would choose, the first activity that
+//! none of the least routes has, or that several have.
 
 ghost use Rattle.std.specs.Prelude.{◌≡◌, ◌<◌, All, length, IfSome, IfNone};
 ghost use Rattle.tail_book.specs.Lookup.{activities, aircraft};
@@ -13,62 +11,12 @@ ghost use Rattle.branch_marks.specs.inside.MarkTables.{AreMarksOf};
 ghost use Rattle.dive_heuristic.specs.Dive.{HasNoHole};
 ghost use Rattle.dive_heuristic.specs.LeastRoutes.{AreLeastRoutes, IsEachInOne};
 ghost use Rattle.branch_tree.specs.Choice.{IsChosenPair, IsPairAt};
-ghost use Rattle.branch_tree.specs.inside.Choosing.{IsHolderFrom, HasNoHolderFrom, InOne, IsLeastNotInOne};
 
 use branch_marks::{Fact, Marks, Pair};
+use dive_heuristic::choice;
 use dive_heuristic::laws::choices_are_undecided;
-use dive_heuristic::{carrier, route_has};
-use tail_book::laws::{
-    every_book_is_sound, flown_is_count, flown_once_is_in_one_route, legal_routes_rise,
-    rising_routes_are_below,
-};
-use tail_book::{Book, CostTable, Duals, Route};
-
-// The least aircraft from a number on whose route has an activity.
-fn holder(book: &Book, routes: &[Route], a: u32, from: u32) -> Option<u32>
-    requires { length routes.now ≡ aircraft book.now }
-    ensures some { IfSome result (IsHolderFrom book.now routes.now a from) }
-    ensures none { IfNone result (HasNoHolderFrom routes.now a from) }
-{
-    every_book_is_sound(book);
-    for k in from..book.tails.len() as u32 {
-        let route = &routes[k as usize];
-        if route_has(&route.0, a) {
-            return Some(k);
-        }
-    }
-    None
-}
-
-// Whether exactly one route has an activity.
-fn is_in_one(book: &Book, routes: &[Route], a: u32) -> bool
-    requires one_each { length routes.now ≡ aircraft book.now }
-    requires rising { All (IsRisingFrom (activities book.now) Carry) routes.now }
-    ensures { InOne routes.now a result }
-{
-    every_book_is_sound(book);
-    flown_is_count();
-    flown_once_is_in_one_route();
-    match holder(book, routes, a, 0) {
-        Some(k) => holder(book, routes, a, k + 1).is_none(),
-        None => false,
-    }
-}
-
-// The first activity that no route has, or that several have.
-fn least_not_in_one(book: &Book, routes: &[Route]) -> Option<u32>
-    requires one_each { length routes.now ≡ aircraft book.now }
-    requires rising { All (IsRisingFrom (activities book.now) Carry) routes.now }
-    ensures { IsLeastNotInOne book.now routes.now result }
-{
-    every_book_is_sound(book);
-    for a in 0..book.activities.len() as u32 {
-        if !is_in_one(book, routes, a) {
-            return Some(a);
-        }
-    }
-    None
-}
+use tail_book::laws::{every_book_is_sound, legal_routes_rise, rising_routes_are_below};
+use tail_book::{Book, CostTable, Duals, Flown, Route};
 
 // The link into an activity of a route, unless it is tied or there is none, and then that the aircraft flies the activity.
 fn pair_at(book: &Book, marks: &Marks, route: &[u32], k: u32, a: u32) -> Pair
@@ -108,20 +56,23 @@ pub fn chosen_pair(
     marks: &Marks,
     duals: &Duals,
     routes: &[Route],
+    tally: &mut [Flown],
 ) -> Option<Pair>
     requires marks { AreMarksOf book.now marks.now }
     requires least { AreLeastRoutes table.now book.now marks.now.facts duals.now.values routes.now }
     requires somebody { HasNoHole book.now marks.now.facts }
+    requires tally { length tally.old ≡ activities book.now }
+    ensures tally { length tally.new ≡ activities book.now }
     ensures none { IfNone result (IsEachInOne book.now routes.now) }
     ensures chosen { IfSome result (IsChosenPair book.now marks.now.facts routes.now) }
     ensures undecided { IfSome result (IsUndecided book.now marks.now.facts) }
 {
     every_book_is_sound(book);
     legal_routes_rise();
+    rising_routes_are_below();
     choices_are_undecided();
-    let Some(a) = least_not_in_one(book, routes) else {
+    let Some((k, a)) = choice(book, marks, routes, tally) else {
         return None;
     };
-    let k = carrier(book, marks, routes, a);
     Some(pair_of(book, marks, routes, k, a))
 }

@@ -8,6 +8,7 @@ ghost use Rattle.branch_tree.specs.Step.{IsTrueStep};
 ghost use Rattle.branch_tree.specs.inside.Leaf.{IsReady, IsCutAtLeaf};
 ghost use Rattle.branch_tree.specs.inside.Stepping.{IsEndFound, IsEndNoted};
 
+use crate::bounds::bound_from;
 use crate::covers::{note_bounded, note_stuck};
 use crate::leaf::lagrangian_of;
 use crate::step::End;
@@ -59,7 +60,7 @@ pub fn note_end<L: TreeLog>(
             ) {
                 return Err(stop);
             }
-            Ok(Step::Bounded(lagrangian_of(duals, &values)))
+            Ok(Step::Bounded(bound_from(lagrangian_of(duals, &values))))
         }
         End::Split {
             pair,

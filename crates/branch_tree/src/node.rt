@@ -9,6 +9,7 @@ ghost use Rattle.branch_marks.specs.Settled.{AreDuals};
 ghost use Rattle.branch_marks.specs.TreeLog.{IsLater, WriteHasFailed};
 ghost use Rattle.branch_marks.specs.inside.MarkTables.{AreMarksOf};
 ghost use Rattle.dive_heuristic.specs.Dive.{HasNoHole};
+ghost use Rattle.dive_heuristic.specs.Divers.{IsDiverOf};
 ghost use Rattle.branch_tree.specs.Step.{IsLegalPool, IsTrueStep, IsVisit};
 ghost use Rattle.branch_tree.specs.Stops.{StopsIn};
 ghost use Rattle.branch_tree.specs.Target.{IsBest};
@@ -22,13 +23,13 @@ use crate::seeking::{exchange_near, seek_plan};
 use crate::settled::settle_node;
 use crate::shortage::shortage_duals;
 use crate::shutting::{keep_fitting, shut_and_tell};
+use crate::splitting::dive_and_take;
 use crate::step::End;
 use crate::telling::note_one;
 use crate::weighing::{Weighed, weigh};
 use crate::{Best, NodePricer, NodeTools, Step, Stop};
 use branch_marks::{Event, Marks, TreeLog};
 use connection_net::Net;
-use dive_heuristic::{Dive, dive};
 use propagator::Closed;
 use restricted_master::Pool;
 use std::alloc::Global;
@@ -76,26 +77,36 @@ fn begin_root(
     pool: &Pool,
     duals: &mut Duals,
     best: &mut Best,
-    prices: &mut NodePricer,
+    tools: &mut NodeTools,
 ) -> Result<Option<End>, Memory>
-    requires ready { IsReady table.now book.now net.now marks.now prices.old }
+    requires tools { AreToolsFor table.now book.now net.now marks.now tools.old }
     requires duals { AreDuals table.now book.now duals.old.values }
     requires best { IsBest table.now book.now best.old.plan best.old.target }
     ensures end { IfOk result (λ end. IfSome end (IsEndFound table.now book.now marks.now.facts duals.new.values best.new.target)) }
-    ensures ready { IsReady table.now book.now net.now marks.now prices.new }
+    ensures tools { AreToolsFor table.now book.now net.now marks.now tools.new }
     ensures duals { AreDuals table.now book.now duals.new.values }
     ensures best { IsBest table.now book.now best.new.plan best.new.target }
     ensures falls { best.new.target ≤ best.old.target }
 {
-    let end = try_shortage(alloc, book, table, net, marks, pool, duals, best, prices)?;
+    let end = try_shortage(
+        alloc,
+        book,
+        table,
+        net,
+        marks,
+        pool,
+        duals,
+        best,
+        &mut tools.prices,
+    )?;
     if end.is_some() {
         return Ok(end);
     }
     duals.values = first_duals(alloc, book, table, marks)?.values;
-    let answer = dive(alloc, book, table, net, marks, duals)?;
-    if let Dive::Plan(plan, _) = &answer {
-        best.try_routes(alloc, book, table, &plan.0)?;
-    }
+    let diver = &mut tools.diver;
+    let dived = dive_and_take(alloc, book, table, net, marks, duals, best, diver);
+    tools.diver.forget();
+    let _ = dived?;
     Ok(None)
 }
 
@@ -109,20 +120,20 @@ fn begin(
     pool: &Pool,
     duals: &mut Duals,
     best: &mut Best,
-    prices: &mut NodePricer,
+    tools: &mut NodeTools,
     is_root: bool,
 ) -> Result<Option<End>, Memory>
-    requires ready { IsReady table.now book.now net.now marks.now prices.old }
+    requires tools { AreToolsFor table.now book.now net.now marks.now tools.old }
     requires duals { AreDuals table.now book.now duals.old.values }
     requires best { IsBest table.now book.now best.old.plan best.old.target }
     ensures end { IfOk result (λ end. IfSome end (IsEndFound table.now book.now marks.now.facts duals.new.values best.new.target)) }
-    ensures ready { IsReady table.now book.now net.now marks.now prices.new }
+    ensures tools { AreToolsFor table.now book.now net.now marks.now tools.new }
     ensures duals { AreDuals table.now book.now duals.new.values }
     ensures best { IsBest table.now book.now best.new.plan best.new.target }
     ensures falls { best.new.target ≤ best.old.target }
 {
     if is_root {
-        begin_root(alloc, book, table, net, marks, pool, duals, best, prices)
+        begin_root(alloc, book, table, net, marks, pool, duals, best, tools)
     } else {
         Ok(None)
     }
@@ -148,22 +159,14 @@ fn find_end(
     requires best { IsBest table.now book.now best.old.plan best.old.target }
     ensures end { IfOk result (IsEndFound table.now book.now marks.now.facts duals.new.values best.new.target) }
     ensures ready { IsReady table.now book.now net.now marks.now tools.new.prices }
+    ensures diver { IsDiverOf book.now table.now tools.new.diver }
     ensures duals { AreDuals table.now book.now duals.new.values }
     ensures pool { IsFittingPool table.now book.now marks.now.facts pool.new }
     ensures best { IsBest table.now book.now best.new.plan best.new.target }
     ensures falls { best.new.target ≤ best.old.target }
 {
     let begun = begin(
-        alloc,
-        book,
-        table,
-        net,
-        marks,
-        pool,
-        duals,
-        best,
-        &mut tools.prices,
-        is_root,
+        alloc, book, table, net, marks, pool, duals, best, tools, is_root,
     )?;
     if let Some(end) = begun {
         return Ok(end);
@@ -222,6 +225,7 @@ pub fn node_step_with<L: TreeLog>(
     ensures beside { L.beside log.old log.new }
     ensures cause { IsErrOf result Stop.Log → WriteHasFailed (L.shows log.old) (L.shows log.new) }
     ensures ready { IsReady table.now book.now net.now marks.new tools.new.prices }
+    ensures diver { IsDiverOf book.now table.now tools.new.diver }
 {
     every_book_is_sound(book);
     let is_root = marks.facts().is_empty();

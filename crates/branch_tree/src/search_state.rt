@@ -1,4 +1,4 @@
-//! What a search keeps between two nodes. All of it is made once for a book but the diver, which each visit makes anew.
+//! What a search keeps between two nodes. All of it is made once for a book.
 //! The pool and the best plan carry what one node found over to those behind it.
 
 ghost use Rattle.std.specs.Prelude.{◌≡◌, [], ◌∷◌, IfOk};

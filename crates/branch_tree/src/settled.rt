@@ -7,6 +7,7 @@
 ghost use Rattle.std.specs.Prelude.{◌<◌, ◌≤◌, length, IfOk, IfNone, IfSome};
 ghost use Rattle.branch_marks.specs.Settled.{AreDuals, IsSettledOver};
 ghost use Rattle.dive_heuristic.specs.Dive.{HasNoHole};
+ghost use Rattle.dive_heuristic.specs.Divers.{IsDiverOf};
 ghost use Rattle.restricted_master.specs.Pool.{HasRoutes};
 ghost use Rattle.branch_tree.specs.Target.{IsBest};
 ghost use Rattle.branch_tree.specs.inside.Leaf.{IsReady};
@@ -81,6 +82,7 @@ fn turn(
     ensures routes { IfOk result (λ end. IfNone end (HasRoutes book.now pool.new)) }
     ensures tools { IfOk result (λ end. IfNone end (AreToolsFor table.now book.now net.now marks.now tools.new)) }
     ensures ready { IsReady table.now book.now net.now marks.now tools.new.prices }
+    ensures diver { IsDiverOf book.now table.now tools.new.diver }
     ensures pool { IsFittingPool table.now book.now marks.now.facts pool.new }
     ensures best { IsBest table.now book.now best.new.plan best.new.target }
     ensures falls { best.new.target ≤ best.old.target }
@@ -141,6 +143,7 @@ pub fn settle_node(
     requires best { IsBest table.now book.now best.old.plan best.old.target }
     ensures end { IfOk result (IsEndFound table.now book.now marks.now.facts duals.new.values best.new.target) }
     ensures ready { IsReady table.now book.now net.now marks.now tools.new.prices }
+    ensures diver { IsDiverOf book.now table.now tools.new.diver }
     ensures duals { AreDuals table.now book.now duals.new.values }
     ensures pool { IsFittingPool table.now book.now marks.now.facts pool.new }
     ensures best { IsBest table.now book.now best.new.plan best.new.target }

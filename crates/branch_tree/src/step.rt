@@ -11,13 +11,14 @@ pub enum Step {
     Hole(u32),
     /// No legal route of this aircraft fits.
     Stuck(u32),
-    /// The Lagrangian sum, in thousandths of a cost unit, leaves no plan that is cheaper than the target.
+    /// The Lagrangian bound, in thousandths of a cost unit, leaves no plan that is cheaper than the target. It is the larger of
+    /// the Lagrangian sum and 0.
     Bounded(i128),
     /// Neither, under duals that are settled.
     Split {
         /// What the two branches decide.
         pair: Pair,
-        /// The Lagrangian sum, in thousandths of a cost unit.
+        /// The Lagrangian bound, in thousandths of a cost unit, which leaves room below the target.
         bound: i128,
         /// A route of least weight for each aircraft.
         routes: Vec<Route>,
@@ -37,7 +38,6 @@ pub enum End {
     /// A split, with what its step answers.
     Split {
         pair: Pair,
-        /// The Lagrangian sum, in thousandths of a cost unit.
         bound: i128,
         routes: Vec<Route>,
         dive: Dive,

@@ -1,10 +1,9 @@
-//! The tools of a step on a node. The pricer is made once for a book and kept from node to node. The diver serves one
-//! visit: what its propagator found holds for the marks of that place alone.
+//! The tools of a step on a node. They are made once for a book and kept from node to node. What the diver's propagator found
+//! holds for the marks of one place, so it is forgotten before the next.
 
-ghost use Rattle.std.specs.Prelude.{List, IfOk};
+ghost use Rattle.std.specs.Prelude.{IfOk};
 ghost use Rattle.tail_book.specs.CostTable.{IsTableFor};
-ghost use Rattle.branch_marks.specs.declared.fact.Fact.{Fact};
-ghost use Rattle.dive_heuristic.specs.Divers.{IsDiverFor};
+ghost use Rattle.dive_heuristic.specs.Divers.{IsFreeFor};
 ghost use Rattle.branch_tree.specs.inside.Leaf.{IsNodePricerOf};
 
 use crate::NodePricer;
@@ -24,7 +23,7 @@ impl NodeTools {
     pub fn new(alloc: Global, book: &Book, table: &CostTable) -> Result<NodeTools, Memory>
         requires { IsTableFor book.now table.now }
         ensures prices { IfOk result (λ tools. IsNodePricerOf table.now book.now tools.prices) }
-        ensures diver { IfOk result (λ tools. (facts : List Fact) → IsDiverFor book.now table.now facts tools.diver) }
+        ensures diver { IfOk result (λ tools. IsFreeFor book.now table.now tools.diver) }
     {
         let prices = NodePricer::new(alloc, book, table)?;
         let diver = Diver::new(alloc, book, table)?;

@@ -13,7 +13,6 @@ use crate::marks_again::marks_again;
 use crate::search_state::SearchState;
 use crate::{OpenNode, OpenNodes, Step, Stop, node_step_with};
 use branch_marks::{Fact, TreeLog};
-use dive_heuristic::Diver;
 use std::alloc::Global;
 use tail_book::{Book, CostTable, Duals, Memory};
 
@@ -34,7 +33,7 @@ fn open_branches(
 }
 
 /// Visits an open place that was taken from the others.
-// Whatever the propagator found for the marks of another place is wrong here, so the diver is a new one.
+// Whatever the propagator found for the marks of another place is wrong here, so it is forgotten.
 pub fn visit<L: TreeLog>(
     alloc: Global,
     book: &Book,
@@ -58,10 +57,7 @@ pub fn visit<L: TreeLog>(
         Ok(marks) => marks,
         Err(_) => return Err(Stop::Memory),
     };
-    state.tools.diver = match Diver::new(alloc, book, table) {
-        Ok(diver) => diver,
-        Err(_) => return Err(Stop::Memory),
-    };
+    state.tools.diver.forget();
     let mut duals = here.duals;
     let step = match node_step_with(
         alloc,

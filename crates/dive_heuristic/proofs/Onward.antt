@@ -2,7 +2,7 @@
 -- stands, and what follows is joined behind it. The chosen pair was undecided, and no fact makes a pair undecided: so
 -- each choice leaves fewer, and a dive ends. Routes of least weight stay low under more marks, and routes that fit all
 -- marks at the end fit the first ones, which are fewer.
-use Rattle.std.proofs.Common.{◌≡◌, ◌∙◌, ℕ, ℤ, ◌<◌, ◌≤◌, arith, List, [], ◌∷◌, ◌++◌, sym, ap, subst, append_assoc}
+use Rattle.std.proofs.Common.{◌≡◌, ◌∙◌, ℕ, ℤ, ◌<◌, ◌≤◌, arith, List, [], ◌∷◌, ◌++◌, sym, ap, subst}
 use Rattle.tail_book.specs.Seen.{BookSeen}
 use Rattle.tail_book.specs.TableSeen.{CostTableSeen}
 use Rattle.tail_book.specs.Lookup.{aircraft}
@@ -22,9 +22,8 @@ use Rattle.dive_heuristic.specs.Dive.{AreSteps, StepsWait, DiveEnd, IsEnd, IsDiv
 use Rattle.dive_heuristic.specs.inside.Going.{AreForced, GoesOn, StandsAt}
 use Rattle.dive_heuristic.specs.declared.renewing.Found.{Found}
 use Rattle.dive_heuristic.specs.declared.renewing.Found.TheVariants as found
-use Rattle.dive_heuristic.specs.inside.Kept.{FitsWithFewer, AreLowRoutes, AreFound, HasBegun}
+use Rattle.dive_heuristic.specs.inside.Kept.{FitsWithFewer, AreFound, HasBegun}
 use Rattle.dive_heuristic.specs.inside.Laws.{MoreFactsLeaveNoMore}
-use Rattle.dive_heuristic.proofs.FewerMarks.{least_are_low}
 use Rattle.dive_heuristic.proofs.Forced.{go_forced, go_both}
 
 module _ (table : CostTableSeen) (book : BookSeen) (duals : List ℤ) where

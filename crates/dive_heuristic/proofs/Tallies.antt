@@ -1,11 +1,11 @@
 -- Tallies: one activity more, and one route more. The tally at an activity goes from never to once and from there to
 -- more often, just as its count goes up, by a law, and at all others both stay. So by induction along each route, and
 -- then along the routes, the tally tells the counts.
-use Rattle.std.proofs.Common.{◌≡◌, ◌∙◌, ℕ, ◌<◌, ◌+◌, inl, inr, arith, List, [], length, refl, sym, ap, subst, set, take, length-set, get_or}
+use Rattle.std.proofs.Common.{◌≡◌, ◌∙◌, ℕ, ◌<◌, ◌+◌, inl, inr, arith, List, [], length, sym, ap, subst, set, take, length-set, get_or}
 use Rattle.std.proofs.lemmas.Bool.{cases_eq, eq-eqb, ne_eqb}
-use Rattle.std.proofs.lemmas.List.{get_or-set_same, get_or-set_other, take_more, get_or-replicate, length-replicate}
+use Rattle.std.proofs.lemmas.List.{get_or-set_same, get_or-set_other, take_more}
 use Rattle.std.proofs.lemmas.List.Sums.{count_by_more_yes, count_by_more_no}
-use Rattle.std.specs.Prelude.{nat_eq, replicate}
+use Rattle.std.specs.Prelude.{nat_eq}
 use Rattle.tail_book.specs.declared.flown.Flown.{Flown}
 use Rattle.tail_book.specs.declared.flown.Flown.TheVariants.{Never}
 use Rattle.tail_book.specs.inside.Flown.{flown_of_count, flown_one_more, FlownWithOneMore, TimesWithOneMoreRoute}

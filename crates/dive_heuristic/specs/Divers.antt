@@ -20,3 +20,11 @@ pub record IsDiverFor (book : BookSeen) (table : CostTableSeen) (marks : List Fa
   pub pricer : IsPricerOf book table diver.pricer
   pub store : IsStoreOf book diver.store
   pub tally : length diver.tally.items ≡ activities book
+
+-- it can be used for any marks
+abbrev pub IsFreeFor : BookSeen → CostTableSeen → Diver → Type 0
+IsFreeFor book table diver = (facts : List Fact) → IsDiverFor book table facts diver
+
+-- it was made for the book and the table, and used for some marks or none
+abbrev pub IsDiverOf : BookSeen → CostTableSeen → Diver → Type 0
+IsDiverOf book table diver = (facts : List Fact) × IsDiverFor book table facts diver

@@ -3,10 +3,12 @@
 //! Floors, what pricing has read, the room for labels and the tally take their size from the book and its table. So
 //! they are made once, and serve each step and each dive.
 
-ghost use Rattle.std.specs.Prelude.{IfOk, List};
+ghost use Rattle.std.specs.Prelude.{◌≡◌, IfOk, length};
+ghost use Rattle.tail_book.specs.Seen.{BookSeen};
+ghost use Rattle.tail_book.specs.TableSeen.{CostTableSeen};
+ghost use Rattle.tail_book.specs.Lookup.{activities};
 ghost use Rattle.tail_book.specs.CostTable.{IsTableFor};
-ghost use Rattle.branch_marks.specs.declared.fact.Fact.{Fact};
-ghost use Rattle.dive_heuristic.specs.Divers.{IsDiverFor};
+ghost use Rattle.dive_heuristic.specs.Divers.{IsDiverOf, IsFreeFor, IsStoreOf};
 
 use label_store::Store;
 use pricing::Pricer;
@@ -27,26 +29,48 @@ pub struct Diver {
     pub store: Store,
     /// How often the routes fly each activity.
     pub tally: Vec<Flown>,
-    /// How many facts were chosen so far, and how many aircraft priced, for whoever measures.
-    pub choices: u64,
-    pub pricings: u64,
+}
+
+// Room for the labels of a book.
+fn room_for(alloc: Global, book: &Book) -> Result<Store, Memory>
+    ensures { IfOk result (IsStoreOf book.now) }
+{
+    every_book_is_sound(book);
+    let (n, width) = (book.activities.len(), 1 + book.rules.counters.len());
+    let store = Store::new(alloc, n, width)?;
+    Ok(store)
+}
+
+// A tally of a book in which nothing is flown.
+fn tally_for(alloc: Global, book: &Book) -> Result<Vec<Flown>, Memory>
+    ensures { IfOk result (λ tally. length tally.items ≡ activities book.now) }
+{
+    Ok(vec![in alloc; Flown::Never; book.activities.len()]?)
 }
 
 impl Diver {
     /// A diver for a book and a table of its costs, from whatever marks.
+    // The propagator comes last, since what is there already is let go where memory is wanting, and it would be most to let go.
     pub fn new(alloc: Global, book: &Book, table: &CostTable) -> Result<Diver, Memory>
         requires { IsTableFor book.now table.now }
-        ensures { IfOk result (λ diver. (facts : List Fact) → IsDiverFor book.now table.now facts diver) }
+        ensures { IfOk result (IsFreeFor book.now table.now) }
     {
-        every_book_is_sound(book);
-        let (n, width) = (book.activities.len(), 1 + book.rules.counters.len());
+        let tally = tally_for(alloc, book)?;
+        let store = room_for(alloc, book)?;
+        let pricer = Pricer::new(alloc, book, table)?;
+        let propagator = Propagator::new(alloc, book)?;
         Ok(Diver {
-            propagator: Propagator::new(alloc, book)?,
-            pricer: Pricer::new(alloc, book, table)?,
-            store: Store::new(alloc, n, width)?,
-            tally: vec![in alloc; Flown::Never; n]?,
-            choices: 0,
-            pricings: 0,
+            propagator,
+            pricer,
+            store,
+            tally,
         })
+    }
+
+    /// Forgets the marks of the last dive, so that it can be used for any marks of its book again.
+    pub fn forget(&mut self)
+        ensures { (book : BookSeen) (table : CostTableSeen) → IsDiverOf book table self.old → IsFreeFor book table self.new }
+    {
+        self.propagator.forget();
     }
 }

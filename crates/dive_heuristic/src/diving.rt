@@ -6,11 +6,10 @@
 //! or to one that may fly it where no route has it. That pair was undecided, and no fact makes a pair undecided, so a
 //! dive ends after no more choices than pairs were undecided. Marks and duals of the caller stay as they are.
 
-ghost use Rattle.std.specs.Prelude.{◌≡◌, ◌<◌, List, length, IfOk, IfSome, IfNone};
+ghost use Rattle.std.specs.Prelude.{◌≡◌, ◌<◌, length, IfOk, IfSome, IfNone};
 ghost use Rattle.tail_book.specs.Lookup.{activities};
 ghost use Rattle.tail_book.specs.CostTable.{IsTableFor};
 ghost use Rattle.connection_net.specs.Net.{net_of};
-ghost use Rattle.branch_marks.specs.declared.fact.Fact.{Fact};
 ghost use Rattle.branch_marks.specs.Following.{IsShut};
 ghost use Rattle.branch_marks.specs.Settled.{AreDuals};
 ghost use Rattle.branch_marks.specs.inside.BranchTests.{undecided};
@@ -18,7 +17,7 @@ ghost use Rattle.branch_marks.specs.inside.MarkTables.{AreMarksOf};
 ghost use Rattle.dive_heuristic.specs.Choice.{IsChoice};
 ghost use Rattle.dive_heuristic.specs.LeastRoutes.{IsEachInOne};
 ghost use Rattle.dive_heuristic.specs.Dive.{IsDeadEnd, IsDiveOf, IsInOrder, IsPlanned};
-ghost use Rattle.dive_heuristic.specs.Divers.{IsDiverFor};
+ghost use Rattle.dive_heuristic.specs.Divers.{IsDiverFor, IsDiverOf};
 ghost use Rattle.dive_heuristic.specs.inside.Going.{GoesOn, IsAsked, StandsAt};
 ghost use Rattle.dive_heuristic.specs.inside.Kept.{HasBegun};
 
@@ -71,7 +70,6 @@ fn go_on(
     fits_with_fewer();
     following_facts_are_new();
     kept_for_more();
-    diver.choices = diver.choices.saturating_add(1);
     choose(book, marks, steps, k, a)?;
     if let Some(end) = propagate(alloc, book, net, marks, steps, &mut diver.propagator)? {
         return Ok(Some(end));
@@ -229,7 +227,7 @@ impl Diver {
         ensures dive { IfOk result (IsDiveOf table.now book.now marks.now.facts duals.now.values) }
         ensures plan { IfOk result (IsPlanned table.now book.now marks.now.facts) }
         ensures order { IfOk result (IsInOrder book.now marks.now.facts) }
-        ensures diver { (facts : List Fact) × IsDiverFor book.now table.now facts self.new }
+        ensures diver { IsDiverOf book.now table.now self.new }
     {
         let mut marks = marks.copy()?;
         let answer = dive_from(alloc, book, table, net, duals, &mut marks, self)?;

@@ -12,6 +12,6 @@ mod renewing;
 mod tally;
 
 pub use answer::{DeadEnd, Dive, DiveStep};
-pub use carrying::{carrier, route_has};
+pub use choosing::choice;
 pub use diver::Diver;
 pub use diving::dive;

@@ -49,7 +49,6 @@ fn least_route(
     ensures none { IfOk result (λ found. IfNone found (IsStuck book.now marks.now.facts k)) }
     ensures diver { IsDiverFor book.now table.now marks.now.facts diver.new }
 {
-    diver.pricings = diver.pricings.saturating_add(1);
     let priced = diver
         .pricer
         .price(book, table, net, marks, duals, k, &mut diver.store)?;

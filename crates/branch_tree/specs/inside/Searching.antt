@@ -12,6 +12,7 @@ use Rattle.branch_marks.specs.LogShown.{LogShown}
 use Rattle.branch_marks.specs.Settled.{AreDuals}
 use Rattle.branch_marks.specs.TreeLog.{Notes}
 use Rattle.branch_marks.specs.inside.BranchTests.{undecided}
+use Rattle.dive_heuristic.specs.Divers.{IsDiverOf}
 use Rattle.branch_tree.specs.declared.limit.Limit.{Limit}
 use Rattle.branch_tree.specs.declared.limit.Limit.TheVariants.{Free, Nodes}
 use Rattle.branch_tree.specs.declared.search_state.SearchState.{SearchState}
@@ -26,12 +27,13 @@ use Rattle.branch_tree.specs.Step.{IsLegalPool}
 use Rattle.branch_tree.specs.Target.{no_target, IsBest, FallsTo}
 use Rattle.branch_tree.specs.inside.Leaf.{IsNodePricerOf}
 
--- what is kept is of the book and the table: its network, a pool of legal routes, the best plan so far, and a pricer
+-- what is kept is of the book and the table: its network, a pool of legal routes, the best plan so far, a pricer, and a diver
 pub record IsStateFor (table : CostTableSeen) (book : BookSeen) (state : SearchState) : Type 0 where
   pub net : state.net ≡ net_of book
   pub pool : IsLegalPool table book state.pool
   pub best : IsBest table book state.best.plan state.best.target
   pub prices : IsNodePricerOf table book state.tools.prices
+  pub diver : IsDiverOf book table state.tools.diver
 
 -- the facts are of the book, none is among the marks, and none stands twice
 abbrev pub AreNewFacts : BookSeen → List Fact → List Fact → Type 0

@@ -3,6 +3,7 @@
 
 mod answers;
 mod memory;
+mod splits;
 mod steps;
 
 use super::{Failing, label};

@@ -1,10 +1,10 @@
-use Rattle.branch_tree.proofs.PairChoices.{carrier_of_book, pair_undecided}
 use Rattle.tail_book.specs.Plan.{route_of}
+use Rattle.branch_tree.proofs.PairChoices.{carrier_of_book, pair_undecided}
 use Rattle.branch_tree.proofs.choosing.chosen_pair.Goals as goal
 
 pub pair_of-requires-clause-aircraft : goal.pair_of-requires-clause-aircraft
 pair_of-requires-clause-aircraft c =
-    carrier_of_book c.args.book.now c.args.marks.now.facts c.args.routes.now c.in-Some.a c.carrier-k.result c.carrier-k.ensures
+    carrier_of_book c.args.book.now c.args.marks.now.facts c.args.routes.now c.in-Some.a c.in-Some.k c.in-Some.ensures.carrier
 
 -- what the routes choose was undecided
 pub returns-clause-undecided : goal.returns-clause-undecided
@@ -12,11 +12,10 @@ returns-clause-undecided c =
     let book = c.args.book.now in
     let marks = c.args.marks.now.facts in
     let routes = c.args.routes.now in
-    let k = c.carrier-k.result in
+    let k = c.in-Some.k in
     let a = c.in-Some.a in
-    let (within, here, before) = c.in-Some.ensures in
-    let lt = carrier_of_book book marks routes a k c.carrier-k.ensures in
+    let choice = c.in-Some.ensures in
+    let lt = carrier_of_book book marks routes a k choice.carrier in
     pair_undecided book marks k (route_of routes k) a lt (c.requires.least.each k lt).fits
-    (c.choices_are_undecided.ensures c.args.table.now book c.every_book_is_sound.ensures marks c.args.duals.now.values routes k a c.requires.least
-    (record { of_book = within; here = here; before = before; carrier = c.carrier-k.ensures }))
+    (c.choices_are_undecided.ensures c.args.table.now book c.every_book_is_sound.ensures marks c.args.duals.now.values routes k a c.requires.least choice)
     c.pair_of.result c.pair_of.ensures

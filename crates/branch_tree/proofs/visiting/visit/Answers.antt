@@ -10,9 +10,6 @@ use Rattle.branch_tree.proofs.visiting.visit.Goals as goal
 pub returns-in-Err-clause-stopped : goal.returns-in-Err-clause-stopped
 returns-in-Err-clause-stopped g c = stops_first c.args.table.now c.args.book.now (g.L.TreeLog.shows c.args.log.now) (c.args.here ∷ [])
 
-pub returns-in-Err-new-clause-stopped : goal.returns-in-Err-new-clause-stopped
-returns-in-Err-new-clause-stopped g c = stops_first c.args.table.now c.args.book.now (g.L.TreeLog.shows c.args.log.now) (c.args.here ∷ [])
-
 -- at the node
 pub returns-in-Err-node_step_with-clause-stopped : goal.returns-in-Err-node_step_with-clause-stopped
 returns-in-Err-node_step_with-clause-stopped g c =

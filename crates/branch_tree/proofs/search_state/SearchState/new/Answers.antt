@@ -1,4 +1,4 @@
-use Rattle.std.proofs.Common.{rules}
+use Rattle.std.proofs.Common.{[], rules}
 use Rattle.branch_tree.proofs.search_state.SearchState.new.Goals as goal
 
 -- each part is right for the book as it is made
@@ -8,4 +8,5 @@ returns-clause-state c = record {
   pool = search rules;
   best = search rules;
   prices = c.in_ok-new-3.ensures.prices;
+  diver = ([], c.in_ok-new-3.ensures.diver []);
 }
