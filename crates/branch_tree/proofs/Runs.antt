@@ -83,9 +83,9 @@ events_then (node ∷ nodes) more =
 pub events_push : (nodes : List Node) (node : Node) → events_of (nodes ++ node ∷ []) ≡ events_of nodes ++ node_events node
 events_push nodes node = events_then nodes (node ∷ []) ∙ ap (λ (es : List Event). events_of nodes ++ es) (events_one node)
 
-pub falls_none : (first : ℕ) → FallsTo first [] first
+pub falls_none : (first last : ℕ) → last ≤ first → FallsTo first [] last
 unfolding FallsTo
-falls_none first = omega arith
+falls_none first last lower = lower
 
 pub falls_more : (first : ℕ) (nodes : List Node) (last : ℕ) (node : Node) → FallsTo first nodes last → node.target ≤ last
     → FallsTo first (nodes ++ node ∷ []) node.target
