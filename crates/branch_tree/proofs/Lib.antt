@@ -23,3 +23,4 @@ pub mod OpenPlaces
 pub mod Room
 pub mod LeastLeft
 pub mod OneMore
+pub mod Starts

@@ -1,7 +1,7 @@
--- Which bounds the nodes of a search tree reach: counted ones the final target, since targets only fall, and closing ones too,
--- or the least bound that is left.
-use Rattle.std.proofs.Common.{◌≤◌, ◌<◌, ◌*◌, ◌+◌, ◌/◌, ◌⊎◌, inl, inr, ℕ, List, [], ◌∷◌, ◌++◌, Some, None, refl, arith}
-use Rattle.std.proofs.lemmas.List.Elements.{All-head, All-tail, All-weaker}
+-- Which bounds the nodes of a grown tree reach: counted ones the final target, since theirs is at least that, and closing ones
+-- too, or the least bound that is left.
+use Rattle.std.proofs.Common.{◌≤◌, ◌<◌, ◌*◌, ◌+◌, ◌/◌, ◌⊎◌, inl, inr, ℕ, List, Some, None, refl, arith}
+use Rattle.std.proofs.lemmas.List.Elements.{All-contains, All-weaker}
 use Rattle.std.proofs.lemmas.Bool.{cases_order}
 use Rattle.std.specs.Prelude.{All}
 use Rattle.tail_book.specs.Seen.{BookSeen}
@@ -9,12 +9,11 @@ use Rattle.tail_book.specs.TableSeen.{CostTableSeen}
 use Rattle.branch_marks.specs.declared.fact.Fact.{Fact}
 use Rattle.branch_marks.specs.ProofTree.{leaf_bound}
 use Rattle.branch_tree.specs.Place.{Open}
-use Rattle.branch_tree.specs.Node.{Ending, Hole, Stuck, Bounded, Split, Node, branches, closed_marks, IsBoundedBy, Bounds}
-use Rattle.branch_tree.specs.Growth.{Grows}
-use Rattle.branch_tree.specs.Target.{Passes, bound_under, FallsTo}
-use Rattle.branch_tree.specs.Counted.{IsCounted, IsEndOf}
-use Rattle.branch_tree.specs.Closing.{IsClosing, IsLeftAt, IsLowest}
-use Rattle.branch_tree.proofs.Runs.{falls_below}
+use Rattle.branch_tree.specs.Node.{Ending, Hole, Stuck, Bounded, Split, Node, closed_marks, IsBoundedBy, Bounds}
+use Rattle.branch_tree.specs.Target.{Passes, bound_under}
+use Rattle.branch_tree.specs.Counted.{IsEndOf}
+use Rattle.branch_tree.specs.Closing.{IsLeftAt, IsLowest}
+use Rattle.branch_tree.specs.GrownTree.{StandsOver}
 
 -- a bound that passes what is below the target rounds up to the target, and one that does not stays below it
 passes_up : (bound target : ℕ) → Passes bound target → target ≤ (bound + 999) / 1000
@@ -39,31 +38,16 @@ module _ (table : CostTableSeen) (book : BookSeen) where
   end_bounded marks target low (Bounded duals covers) is lower = let up = passes_up (bound_under duals covers) target is.1 in omega (arith, up, lower)
   end_bounded marks target low (Split pair duals routes dive) is lower = tt
 
-  -- the bounds of counted nodes reach the final target
-  pub counted_bounds : (low final : ℕ) → low ≤ final → (owed : List Open) (nodes : List Node) (left : List Open) (first : ℕ)
-      → Grows (IsCounted table book) owed nodes left → FallsTo first nodes final → Grows (Bounds table book low) owed nodes left
-  unfolding Grows FallsTo
-  counted_bounds low final lower owed [] left first grows falls = grows
-  counted_bounds low final lower [] (node ∷ nodes) left first grows falls = absurd grows
-  counted_bounds low final lower (here ∷ owed) (node ∷ nodes) left first grows falls =
-      let above = falls_below node.target nodes final falls.1 in (
-        record {
-          shown = grows.0.shown;
-          bounded = end_bounded (closed_marks here node) node.target low node.ending grows.0.ending (omega (arith, above, lower));
-        },
-        counted_bounds low final lower (branches (closed_marks here node) node.ending ++ owed) nodes left node.target grows.1 falls.1,
-      )
-
-  -- those of closing nodes what each of them reaches
-  pub closing_bounds : (low final : ℕ) (owed : List Open) (nodes : List Node) (left : List Open)
-      → Grows (IsClosing table book final) owed nodes left → All (λ (node : Node). IsBoundedBy low node.ending) nodes → Grows (Bounds table book low) owed nodes left
-  unfolding Grows
-  closing_bounds low final owed [] left grows all = grows
-  closing_bounds low final [] (node ∷ nodes) left grows all = absurd grows
-  closing_bounds low final (here ∷ owed) (node ∷ nodes) left grows all = (
-    record { shown = grows.0.shown; bounded = All-head (λ (n : Node). IsBoundedBy low n.ending) node nodes all },
-    closing_bounds low final (branches (closed_marks here node) node.ending ++ owed) nodes left grows.1 (All-tail (λ (n : Node). IsBoundedBy low n.ending) node nodes all),
-  )
+  -- the bound of a counted node reaches its target, and that of a closing node what each of them reaches
+  pub stands_bounded : (low final : ℕ) → low ≤ final → (closing : List Node) → All (λ (node : Node). IsBoundedBy low node.ending) closing
+      → (here : Open) (node : Node) → StandsOver table book final closing here node → Bounds table book low here node
+  stands_bounded low final lower closing all here node stands = elim stands [
+    | inl is ↦ record {
+      shown = is.0.shown;
+      bounded = end_bounded (closed_marks here node) node.target low node.ending is.0.ending (omega (arith, is.1, lower));
+    }
+    | inr is ↦ record { shown = is.0.shown; bounded = All-contains (λ (n : Node). IsBoundedBy low n.ending) closing node all is.1 }
+  ]
 
 -- where no closing node is left, each reaches the final target
 none_left : (final : ℕ) (ending : Ending) → ((bound : ℕ) → ¬ IsLeftAt final ending bound) → IsBoundedBy final ending

@@ -1,6 +1,8 @@
 -- Runs of nodes, from places that are owed to those that are left: put one after the other, with more places behind, with less
--- asked of each node, and with one node more; and what their events and targets are then.
+-- asked of each node, or with what holds of all of them, and with one node more; and what their events and targets are then.
 use Rattle.std.proofs.Common.{◌≡◌, ◌≤◌, ℕ, List, [], ◌∷◌, ◌++◌, refl, sym, ap, subst, append_assoc, append-nil, arith, ◌∙◌}
+use Rattle.std.proofs.lemmas.List.Elements.{All-nil, All-cons, All-head, All-tail}
+use Rattle.std.specs.Prelude.{All}
 use Rattle.branch_marks.specs.declared.event.Event.{Event}
 use Rattle.branch_tree.specs.Place.{Open}
 use Rattle.branch_tree.specs.Node.{Node, branches, closed_marks}
@@ -53,6 +55,17 @@ module _ (Stands Weaker : Open → Node → Type 0) (weaker : (here : Open) (nod
   grows_weaker (here ∷ owed) (node ∷ nodes) left one =
       (weaker here node one.0, grows_weaker (branches (closed_marks here node) node.ending ++ owed) nodes left one.1)
 
+module _ (Stands Both : Open → Node → Type 0) (Holds : Node → Type 0)
+    (both : (here : Open) (node : Node) → Stands here node → Holds node → Both here node) where
+  pub grows_with : (owed : List Open) (nodes : List Node) (left : List Open) → Grows Stands owed nodes left → All Holds nodes → Grows Both owed nodes left
+  unfolding Grows
+  grows_with owed [] left one all = one
+  grows_with [] (node ∷ nodes) left one all = one
+  grows_with (here ∷ owed) (node ∷ nodes) left one all = (
+    both here node one.0 (All-head Holds node nodes all),
+    grows_with (branches (closed_marks here node) node.ending ++ owed) nodes left one.1 (All-tail Holds node nodes all),
+  )
+
 pub events_none : events_of [] ≡ []
 unfolding events_of
 events_none = refl
@@ -70,9 +83,9 @@ events_then (node ∷ nodes) more =
 pub events_push : (nodes : List Node) (node : Node) → events_of (nodes ++ node ∷ []) ≡ events_of nodes ++ node_events node
 events_push nodes node = events_then nodes (node ∷ []) ∙ ap (λ (es : List Event). events_of nodes ++ es) (events_one node)
 
-pub falls_none : (first : ℕ) → FallsTo first [] first
+pub falls_none : (first last : ℕ) → last ≤ first → FallsTo first [] last
 unfolding FallsTo
-falls_none first = omega arith
+falls_none first last lower = lower
 
 pub falls_more : (first : ℕ) (nodes : List Node) (last : ℕ) (node : Node) → FallsTo first nodes last → node.target ≤ last
     → FallsTo first (nodes ++ node ∷ []) node.target
@@ -84,3 +97,10 @@ pub falls_below : (first : ℕ) (nodes : List Node) (last : ℕ) → FallsTo fir
 unfolding FallsTo
 falls_below first [] last falls = falls
 falls_below first (other ∷ nodes) last falls = let rest = falls_below other.target nodes last falls.1 in omega (arith, rest, falls.0)
+
+-- so each target is at least the last one
+pub falls_over : (first : ℕ) (nodes : List Node) (last : ℕ) → FallsTo first nodes last → All (λ (node : Node). last ≤ node.target) nodes
+unfolding FallsTo
+falls_over first [] last falls = All-nil (λ (node : Node). last ≤ node.target)
+falls_over first (other ∷ nodes) last falls =
+    All-cons (λ (node : Node). last ≤ node.target) other nodes (falls_below other.target nodes last falls.1) (falls_over other.target nodes last falls.1)

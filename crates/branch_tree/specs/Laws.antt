@@ -1,6 +1,6 @@
 -- The laws of search trees: what such a tree ends with is true, and its nodes are a proof tree of what the outcome
--- claims.
-use Rattle.std.specs.Prelude.{◌≡◌, ℕ, List, [], ◌∷◌, All}
+-- claims. Both hold of every tree that was grown from the root, whichever of its places was taken first.
+use Rattle.std.specs.Prelude.{◌≡◌, ℕ, List, [], ◌∷◌, length, All}
 use Rattle.tail_book.specs.Seen.{BookSeen}
 use Rattle.tail_book.specs.TableSeen.{CostTableSeen}
 use Rattle.tail_book.specs.CostTable.{IsCostTable, IsTableFor}
@@ -13,6 +13,7 @@ use Rattle.branch_tree.specs.declared.limit.Limit.{Limit}
 use Rattle.branch_tree.specs.Place.{root}
 use Rattle.branch_tree.specs.Node.{Node, IsShownNode, Bounds}
 use Rattle.branch_tree.specs.Growth.{Grows}
+use Rattle.branch_tree.specs.GrownTree.{IsGrownTree}
 use Rattle.branch_marks.specs.TreeEvents.{tree_events}
 use Rattle.branch_tree.specs.NodeEvents.{events_of}
 use Rattle.branch_tree.specs.Target.{no_target, HasUsedDive}
@@ -25,7 +26,23 @@ claimed table Infeasible = no_target table
 claimed table (Between plan low high nodes) = low
 claimed table (Above low nodes) = low
 
--- what a search tree ends with is true
+-- the bounds of a grown tree reach what the outcome claims
+abbrev pub GrownTreesAreBounded : Type 0
+GrownTreesAreBounded = (table : CostTableSeen) (book : BookSeen) (limit : Limit) (outcome : Outcome) (count : ℕ) (closing nodes : List Node)
+    → IsGrownTree table book limit outcome count closing nodes → Grows (Bounds table book (claimed table outcome)) (root book ∷ []) nodes []
+
+-- what it ends with is true
+abbrev pub GrownTreesAreTrue : Type 0
+GrownTreesAreTrue = (table : CostTableSeen) (book : BookSeen) → IsBook book → IsCostTable table → IsTableFor book table
+    → (limit : Limit) (outcome : Outcome) (count : ℕ) (closing nodes : List Node) → IsGrownTree table book limit outcome count closing nodes
+    → IsTrueOutcomeIn table book outcome
+
+-- a search tree is one
+abbrev pub SearchTreesAreGrown : Type 0
+SearchTreesAreGrown = (table : CostTableSeen) (book : BookSeen) (limit : Limit) (outcome : Outcome) (tree : SearchTree)
+    → IsSearchTree table book limit outcome tree → IsGrownTree table book limit outcome (length tree.counted) tree.closing (nodes_of tree)
+
+-- so what a search tree ends with is true
 abbrev pub SearchTreesAreTrue : Type 0
 SearchTreesAreTrue = (table : CostTableSeen) (book : BookSeen) → IsBook book → IsCostTable table → IsTableFor book table
     → (limit : Limit) (outcome : Outcome) (tree : SearchTree) → IsSearchTree table book limit outcome tree → IsTrueOutcomeIn table book outcome

@@ -8,6 +8,7 @@ pub mod Target
 pub mod Counted
 pub mod Closing
 pub mod SearchTree
+pub mod GrownTree
 pub mod Stops
 pub mod Step
 pub mod Search

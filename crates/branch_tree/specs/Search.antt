@@ -1,5 +1,5 @@
--- What a search answers: the tree of the run, which was told, and what comes only at a limit.
-use Rattle.std.specs.Prelude.{⊤}
+-- What a search answers: the tree of the run, which was told, what comes only at a limit, and what it owes to its start.
+use Rattle.std.specs.Prelude.{ℕ, ◌≤◌, ⊤}
 use Rattle.tail_book.specs.Seen.{BookSeen}
 use Rattle.tail_book.specs.TableSeen.{CostTableSeen}
 use Rattle.tail_book.specs.declared.outcome.Outcome.{Outcome}
@@ -22,3 +22,10 @@ EndsUnder limit (Optimal plan cost) = ⊤
 EndsUnder limit Infeasible = ⊤
 EndsUnder limit (Between plan low high nodes) = HasReached limit nodes
 EndsUnder limit (Above low nodes) = HasReached limit nodes
+
+-- the outcome has a plan, which costs at most this
+abbrev pub HasPlanWithin : ℕ → Outcome → Type 0
+HasPlanWithin most (Optimal plan cost) = cost ≤ most
+HasPlanWithin most Infeasible = ⊥
+HasPlanWithin most (Between plan low high nodes) = high ≤ most
+HasPlanWithin most (Above low nodes) = ⊥

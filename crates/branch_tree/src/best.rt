@@ -2,7 +2,7 @@
 //! audited, and only a cheaper legal plan is taken: so the target never rises, and is the cost of the best plan once
 //! there is one.
 
-ghost use Rattle.std.specs.Prelude.{◌≡◌, ◌≤◌, None, IfOk};
+ghost use Rattle.std.specs.Prelude.{◌≡◌, ◌≤◌, None, IfOk, IfSome};
 ghost use Rattle.tail_book.specs.Plan.{IsLegalPlan};
 ghost use Rattle.tail_book.specs.CostTable.{IsTableFor, plan_cost_in};
 ghost use Rattle.tail_book.specs.Truth.{IsPlanIn};
@@ -30,6 +30,27 @@ impl Best {
             plan: None,
             target: table.greatest_cost() + 1,
         }
+    }
+
+    /// The plan that a search begins with, where one is given, and else no plan yet.
+    pub fn from_start(
+        alloc: Global,
+        book: &Book,
+        table: &CostTable,
+        start: Option<&Plan>,
+    ) -> Result<Best, Memory>
+        requires table { IsTableFor book.now table.now }
+        requires legal { IfSome start (λ plan. IsLegalPlan book.now plan.now) }
+        ensures best { IfOk result (λ best. IsBest table.now book.now best.plan best.target) }
+        ensures first { IfOk result (λ best. best.target ≤ no_target table.now) }
+        ensures within { IfOk result (λ best. IfSome start.entry (λ plan. best.target ≤ plan_cost_in table.now book.now plan.now)) }
+    {
+        let mut best = Best::none(table);
+        let Some(plan) = start else {
+            return Ok(best);
+        };
+        best.try_routes(alloc, book, table, &plan.0)?;
+        Ok(best)
     }
 
     /// Takes a legal plan of this cost, in cost units, where it is cheaper than the best so far.

@@ -4,7 +4,7 @@
 //! It ends without a limit as well, since a branch leaves less open than its parent did, and a visit puts two in its
 //! place at most.
 
-ghost use Rattle.std.specs.Prelude.{◌≡◌, ◌+◌, [], ◌∷◌, ℕ, true, false, IfOk, OnErr, IsErrOf};
+ghost use Rattle.std.specs.Prelude.{◌≡◌, ◌≤◌, ◌+◌, [], ◌∷◌, ℕ, true, false, IfOk, OnErr, IsErrOf};
 ghost use Rattle.tail_book.specs.CostTable.{IsTableFor};
 ghost use Rattle.branch_marks.specs.TreeLog.{IsLater, WriteHasFailed};
 ghost use Rattle.branch_tree.specs.Place.{root};
@@ -58,11 +58,12 @@ pub fn grow<L: TreeLog>(
     requires table { IsTableFor book.now table.now }
     requires state { IsStateFor table.now book.now state.old }
     requires root { state.old.places ≡ root book.now ∷ [] }
-    requires first { state.old.best.target ≡ no_target table.now }
+    requires first { state.old.best.target ≤ no_target table.now }
     ensures grown { IfOk result (λ counter. IsGrownOut table.now book.now limit state.new.places state.new.best.target counter (L.shows log.old) (L.shows log.new)) }
     ensures places { IfOk result (λ _. ArePlaces table.now book.now state.new.places) }
     ensures stopped { OnErr result (StopsIn (L.shows log.old) (L.shows log.new) table.now book.now (root book.now ∷ [])) }
     ensures state { IsStateFor table.now book.now state.new }
+    ensures falls { state.new.best.target ≤ state.old.best.target }
     ensures later { IsLater (L.shows log.old) (L.shows log.new) }
     ensures beside { L.beside log.old log.new }
     ensures cause { IsErrOf result Stop.Log → WriteHasFailed (L.shows log.old) (L.shows log.new) }

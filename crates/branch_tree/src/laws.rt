@@ -1,5 +1,6 @@
 //! Laws of search trees, and of what a priced store shows: the contract of each function is the law.
 
+ghost use Rattle.branch_tree.specs.Laws.{GrownTreesAreBounded, GrownTreesAreTrue, SearchTreesAreGrown};
 ghost use Rattle.branch_tree.specs.Laws.{SearchTreesAreTrue, SearchTreesAreShown, SearchTreesAreBounded, DivesAreUsed, ShownNodesAreTrees};
 ghost use Rattle.branch_tree.specs.inside.Leaf.{DualsAreSpelled, LeastWeightsAreSpelled, ZerosAreDuals};
 ghost use Rattle.branch_tree.specs.inside.PricedStore.{PricedFamiliesAreShown, PricedEndsAreLow, StuckHaveNoEnd, PricedLabelsAreSpelled};
@@ -17,6 +18,26 @@ pub fn shown_nodes_are_trees()
     following_facts_are_new();
 }
 
+/// The bounds of a grown tree reach what its outcome claims.
+pub fn grown_trees_are_bounded()
+    ensures { GrownTreesAreBounded }
+{}
+
+/// What a grown tree ends with is true.
+pub fn grown_trees_are_true()
+    ensures { GrownTreesAreTrue }
+{
+    grown_trees_are_bounded();
+    shown_nodes_are_trees();
+    shown_roots_bound();
+    legal_plans_cost_at_most_in();
+}
+
+/// The tree of a search is a grown tree.
+pub fn search_trees_are_grown()
+    ensures { SearchTreesAreGrown }
+{}
+
 /// The nodes of a search tree are shown.
 pub fn search_trees_are_shown()
     ensures { SearchTreesAreShown }
@@ -25,16 +46,17 @@ pub fn search_trees_are_shown()
 /// The bounds of a search tree reach what its outcome claims.
 pub fn search_trees_are_bounded()
     ensures { SearchTreesAreBounded }
-{}
+{
+    search_trees_are_grown();
+    grown_trees_are_bounded();
+}
 
 /// What a search tree ends with is true.
 pub fn search_trees_are_true()
     ensures { SearchTreesAreTrue }
 {
-    search_trees_are_bounded();
-    shown_nodes_are_trees();
-    shown_roots_bound();
-    legal_plans_cost_at_most_in();
+    search_trees_are_grown();
+    grown_trees_are_true();
 }
 
 /// No dive of a split ended with a plan cheaper than the final target.

@@ -43,7 +43,7 @@ pub use node::{node_step, node_step_with};
 pub use node_pricer::{NodePricer, PricedAll};
 pub use open_nodes::{OpenNode, OpenNodes};
 pub use planning::least_plan;
-pub use searching::search;
+pub use searching::{search, search_from};
 pub use step::Step;
 pub use stop::Stop;
 pub use telling::{note_all, note_one, note_steps};

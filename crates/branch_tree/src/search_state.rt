@@ -1,8 +1,9 @@
 //! What a search keeps between two nodes. All of it is made once for a book.
 //! The pool and the best plan carry what one node found over to those behind it.
 
-ghost use Rattle.std.specs.Prelude.{◌≡◌, [], ◌∷◌, IfOk};
-ghost use Rattle.tail_book.specs.CostTable.{IsTableFor};
+ghost use Rattle.std.specs.Prelude.{◌≡◌, ◌≤◌, [], ◌∷◌, IfOk, IfSome};
+ghost use Rattle.tail_book.specs.Plan.{IsLegalPlan};
+ghost use Rattle.tail_book.specs.CostTable.{IsTableFor, plan_cost_in};
 ghost use Rattle.branch_tree.specs.Place.{root};
 ghost use Rattle.branch_tree.specs.Target.{no_target};
 ghost use Rattle.branch_tree.specs.inside.Searching.{IsStateFor};
@@ -11,7 +12,7 @@ use crate::{Best, NodeTools, OpenNodes};
 use connection_net::Net;
 use restricted_master::Pool;
 use std::alloc::Global;
-use tail_book::{Book, CostTable, Memory};
+use tail_book::{Book, CostTable, Memory, Plan};
 
 /// The network, the open places, the routes that were found, the best plan so far, and the tools of a step.
 #[derive(Debug, Drop)]
@@ -24,18 +25,25 @@ pub struct SearchState {
 }
 
 impl SearchState {
-    /// A search that has not begun: the root alone is open, and there is no plan.
-    pub fn new(alloc: Global, book: &Book, table: &CostTable) -> Result<SearchState, Memory>
-        requires { IsTableFor book.now table.now }
+    /// A search that has not begun: the root alone is open, and there is no plan but the start.
+    pub fn new(
+        alloc: Global,
+        book: &Book,
+        table: &CostTable,
+        start: Option<&Plan>,
+    ) -> Result<SearchState, Memory>
+        requires table { IsTableFor book.now table.now }
+        requires legal { IfSome start (λ plan. IsLegalPlan book.now plan.now) }
         ensures state { IfOk result (IsStateFor table.now book.now) }
         ensures root { IfOk result (λ state. state.places ≡ root book.now ∷ []) }
-        ensures first { IfOk result (λ state. state.best.target ≡ no_target table.now) }
+        ensures first { IfOk result (λ state. state.best.target ≤ no_target table.now) }
+        ensures within { IfOk result (λ state. IfSome start.entry (λ plan. state.best.target ≤ plan_cost_in table.now book.now plan.now)) }
     {
         Ok(SearchState {
             net: Net::new(alloc, book)?,
             places: OpenNodes::with_root(alloc, book)?,
             pool: Pool::new(alloc)?,
-            best: Best::none(table),
+            best: Best::from_start(alloc, book, table, start)?,
             tools: NodeTools::new(alloc, book, table)?,
         })
     }

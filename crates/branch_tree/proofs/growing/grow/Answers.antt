@@ -1,4 +1,4 @@
-use Rattle.std.proofs.Common.{◌≡◌, false, ◌+◌, ◌≤◌, inl, inr, ℕ, List, [], ◌∷◌, ◌++◌, length, arith, rules, sym, subst, ◌∙◌, length-append}
+use Rattle.std.proofs.Common.{◌≡◌, false, ◌≤◌, inl, inr, ℕ, List, [], ◌∷◌, ◌++◌, length, arith, rules, sym, subst, ◌∙◌, length-append}
 use Rattle.branch_marks.specs.declared.event.Event.{Event}
 use Rattle.branch_marks.specs.TreeLog.{Notes}
 use Rattle.branch_tree.specs.Counted.{IsCounted}
@@ -25,11 +25,12 @@ nodes-init g c =
       grown = record {
         counted = [];
         grown = subst (λ (o : List Open). Grows (IsCounted table book) (root book ∷ []) [] o) (sym c.requires.root) (grows_none (IsCounted table book) (root book ∷ []));
-        falls = subst (λ (t : ℕ). FallsTo (no_target table) [] t) (sym c.requires.first) (falls_none (no_target table));
+        falls = falls_none (no_target table) c.args.state.now.best.target c.requires.first;
         counts = none_counted c.args.limit;
         told = subst (λ (due : List Event). Notes log log due) (sym events_none) (notes_none log);
       };
       state = c.requires.state;
+      falls = omega arith;
       later = later_none log;
       beside = g.met.L.TreeLog.beside_same c.args.log.now;
     }
@@ -76,6 +77,7 @@ nodes-preserved g c =
             (notes_then old between new (events_of run.counted) (node_events node) c.visit.ensures.later run.told v.told);
       };
       state = c.visit.ensures.state;
+      falls = omega (arith, i.falls, c.visit.ensures.falls);
       later = later_then old between new i.later c.visit.ensures.later;
       beside = g.met.L.TreeLog.beside_chains c.args.log.now c.nodes.log c.visit.new.log i.beside c.visit.ensures.beside;
     }

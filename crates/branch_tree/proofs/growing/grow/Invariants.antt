@@ -1,3 +1,4 @@
+use Rattle.std.proofs.Common.{◌≤◌}
 use Rattle.branch_marks.specs.TreeLog.{IsLater}
 use Rattle.branch_tree.specs.inside.Searching.{IsGrown, IsStateFor, room}
 use Rattle.branch_tree.proofs.growing.grow.Given as goal
@@ -7,6 +8,7 @@ abbrev pub invariant-nodes : goal.invariant-nodes
 invariant-nodes g l = record {
   grown : IsGrown l.table l.book l.limit l.state.places l.state.best.target l.counter (g.L.TreeLog.shows l.initial.log) (g.L.TreeLog.shows l.log);
   state : IsStateFor l.table l.book l.state;
+  falls : l.state.best.target ≤ l.initial.state.best.target;
   later : IsLater (g.L.TreeLog.shows l.initial.log) (g.L.TreeLog.shows l.log);
   beside : g.L.TreeLog.beside l.initial.log l.log;
 }

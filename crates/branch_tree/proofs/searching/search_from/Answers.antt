@@ -10,8 +10,9 @@ use Rattle.branch_tree.specs.inside.Searching.{outcome_for}
 use Rattle.branch_tree.proofs.Cuts.{notes_then}
 use Rattle.branch_tree.proofs.LeastLeft.{ends_under, search_tree}
 use Rattle.branch_tree.proofs.Runs.{grows_weaker, events_then}
+use Rattle.branch_tree.proofs.Starts.{outcome_within}
 use Rattle.branch_tree.proofs.Stopping.{stops_first, stops_then}
-use Rattle.branch_tree.proofs.searching.search.Goals as goal
+use Rattle.branch_tree.proofs.searching.search_from.Goals as goal
 
 -- nothing was told
 pub returns-in-Err-clause-stopped : goal.returns-in-Err-clause-stopped
@@ -49,3 +50,13 @@ pub returns-in-Ok-close-clause-ends : goal.returns-in-Ok-close-clause-ends
 returns-in-Ok-close-clause-ends g c =
     let tree = returns-in-Ok-close-clause-tree g c in
     ends_under c.args.table.now c.args.book.now c.args.limit _ tree.tree.closing tree.is.final c.outcome_of.result tree.is.answered
+
+-- targets fell from what the start costs at most
+pub returns-in-Ok-close-clause-within : goal.returns-in-Ok-close-clause-within
+returns-in-Ok-close-clause-within g c =
+    let table = c.args.table.now in let book = c.args.book.now in let best = c.grow.new.state.best in
+    let low = c.in-Ok-close.low in let counter = c.in-Ok-grow.counter in
+    let same = subst (λ (b : Best). c.outcome_of.result ≡ outcome_for b.plan b.target low counter) c.close.ensures.best c.outcome_of.ensures in
+    outcome_within table book c.every_book_is_sound.ensures c.every_cost_table_is_sound.ensures c.requires.table c.legal_plans_cost_at_most_in.ensures
+    (λ plan. plan.now) best.plan best.target c.in-Ok.state.best.target c.grow.ensures.falls low counter c.outcome_of.result same
+    c.grow.ensures.state.best c.args.start c.requires.legal c.in-Ok.ensures.within
