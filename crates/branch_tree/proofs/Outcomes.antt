@@ -12,13 +12,13 @@ use Rattle.tail_book.specs.declared.outcome.Outcome.{Outcome}
 use Rattle.tail_book.specs.declared.outcome.Outcome.TheVariants.{Optimal, Infeasible, Between, Above}
 use Rattle.branch_marks.specs.ProofTree.{ShownRootsBound}
 use Rattle.branch_tree.specs.declared.limit.Limit.{Limit}
-use Rattle.branch_tree.specs.Place.{root}
-use Rattle.branch_tree.specs.Node.{Node, IsBoundedBy, Bounds}
-use Rattle.branch_tree.specs.Growth.{Grows}
+use Rattle.node_leaves.specs.Place.{root}
+use Rattle.node_leaves.specs.Node.{Node, IsBoundedBy, Bounds}
+use Rattle.node_leaves.specs.Growth.{Grows}
 use Rattle.branch_tree.specs.Laws.{claimed, ShownNodesAreTrees}
-use Rattle.branch_tree.specs.Target.{no_target}
+use Rattle.node_leaves.specs.Target.{no_target}
 use Rattle.branch_tree.specs.SearchTree.{SearchTree, nodes_of, IsSearchTree, IsOutcomeOf}
-use Rattle.branch_tree.proofs.Runs.{grows_then}
+use Rattle.node_leaves.proofs.Runs.{grows_then}
 use Rattle.branch_tree.proofs.Reaching.{counted_bounds, closing_bounds, all_closed, all_above, lowest_below}
 
 module _ (table : CostTableSeen) (book : BookSeen) (limit : Limit) where

@@ -8,13 +8,13 @@ use Rattle.tail_book.specs.Seen.{BookSeen}
 use Rattle.tail_book.specs.TableSeen.{CostTableSeen}
 use Rattle.branch_marks.specs.declared.fact.Fact.{Fact}
 use Rattle.branch_marks.specs.ProofTree.{leaf_bound}
-use Rattle.branch_tree.specs.Place.{Open}
-use Rattle.branch_tree.specs.Node.{Ending, Hole, Stuck, Bounded, Split, Node, branches, closed_marks, IsBoundedBy, Bounds}
-use Rattle.branch_tree.specs.Growth.{Grows}
-use Rattle.branch_tree.specs.Target.{Passes, bound_under, FallsTo}
+use Rattle.node_leaves.specs.Place.{Open}
+use Rattle.node_leaves.specs.Node.{Ending, Hole, Stuck, Bounded, Split, Node, branches, closed_marks, IsBoundedBy, Bounds}
+use Rattle.node_leaves.specs.Growth.{Grows}
+use Rattle.node_leaves.specs.Target.{Passes, bound_under, FallsTo}
 use Rattle.branch_tree.specs.Counted.{IsCounted, IsEndOf}
 use Rattle.branch_tree.specs.Closing.{IsClosing, IsLeftAt, IsLowest}
-use Rattle.branch_tree.proofs.Runs.{falls_below}
+use Rattle.node_leaves.proofs.Runs.{falls_below}
 
 -- a bound that passes what is below the target rounds up to the target, and one that does not stays below it
 passes_up : (bound target : ℕ) → Passes bound target → target ≤ (bound + 999) / 1000

@@ -1,14 +1,7 @@
-pub mod Place
 pub mod Choice
-pub mod Node
-pub mod Growth
-pub mod Begun
-pub mod NodeEvents
-pub mod Target
 pub mod Counted
 pub mod Closing
 pub mod SearchTree
-pub mod Stops
 pub mod Step
 pub mod Search
 pub mod Decided

@@ -5,7 +5,7 @@ ghost use Rattle.std.specs.Prelude.{List, IfOk};
 ghost use Rattle.tail_book.specs.CostTable.{IsTableFor};
 ghost use Rattle.branch_marks.specs.declared.fact.Fact.{Fact};
 ghost use Rattle.dive_heuristic.specs.Divers.{IsDiverFor};
-ghost use Rattle.branch_tree.specs.inside.Leaf.{IsNodePricerOf};
+ghost use Rattle.node_leaves.specs.inside.Leaf.{IsNodePricerOf};
 
 use crate::NodePricer;
 use dive_heuristic::Diver;
