@@ -10,11 +10,11 @@ use Rattle.branch_marks.specs.declared.fact.Fact.{Fact}
 use Rattle.branch_marks.specs.Following.{FollowInTurn, FollowingFactsAreNew}
 use Rattle.branch_marks.specs.ProofTree.{Tree, IsShown, BoundsAtLeast}
 use Rattle.branch_marks.specs.ProofTree as tree
-use Rattle.branch_tree.specs.Place.{Open}
-use Rattle.branch_tree.specs.Node.{Ending, Hole, Stuck, Bounded, Split, Node, branches, closed_marks, IsShownEnding, IsBoundedBy, Bounds}
-use Rattle.branch_tree.specs.Growth.{Grows}
+use Rattle.node_leaves.specs.Place.{Open}
+use Rattle.node_leaves.specs.Node.{Ending, Hole, Stuck, Bounded, Split, Node, branches, closed_marks, IsShownEnding, IsBoundedBy, Bounds}
+use Rattle.node_leaves.specs.Growth.{Grows}
 use Rattle.branch_marks.specs.TreeEvents.{tree_events}
-use Rattle.branch_tree.specs.NodeEvents.{step_events, ending_events, node_events, events_of}
+use Rattle.node_leaves.specs.NodeEvents.{step_events, ending_events, node_events, events_of}
 
 module _ (table : CostTableSeen) (book : BookSeen) (low : ℕ) (new : FollowingFactsAreNew) where
   abbrev AreShown : List Open → List Tree → Type 0

@@ -13,20 +13,21 @@ use Rattle.tail_book.specs.declared.outcome.Outcome.{Outcome}
 use Rattle.tail_book.specs.declared.outcome.Outcome.TheVariants.{Optimal, Infeasible, Between, Above}
 use Rattle.branch_marks.specs.declared.fact.Fact.{Fact}
 use Rattle.branch_marks.specs.Bound.{bound_of, rounded_up}
-use Rattle.branch_tree.specs.declared.leaf.PricedLeaf.{PricedLeaf}
-use Rattle.branch_tree.specs.declared.leaf.PricedLeaf.TheVariants as leaf
+use Rattle.node_leaves.specs.declared.leaf.PricedLeaf.{PricedLeaf}
+use Rattle.node_leaves.specs.declared.leaf.PricedLeaf.TheVariants as leaf
 use Rattle.branch_tree.specs.declared.limit.Limit.{Limit}
 use Rattle.branch_tree.specs.declared.limit.Limit.TheVariants.{Free, Nodes}
-use Rattle.branch_tree.specs.Closing.{IsClosing, IsPriced, IsLeftAt, IsLowest}
+use Rattle.branch_tree.specs.Closing.{IsClosing, IsLeftAt, IsLowest}
+use Rattle.node_leaves.specs.Priced.{IsPriced}
 use Rattle.branch_tree.specs.Counted.{IsCounted}
-use Rattle.branch_tree.specs.Growth.{Grows}
-use Rattle.branch_tree.specs.Node.{Ending, Hole, Stuck, Bounded, Split, Node, branches, IsShownEnding}
-use Rattle.branch_tree.specs.NodeEvents.{ending_events, node_events}
-use Rattle.branch_tree.specs.Place.{Open, root}
+use Rattle.node_leaves.specs.Growth.{Grows}
+use Rattle.node_leaves.specs.Node.{Ending, Hole, Stuck, Bounded, Split, Node, branches, IsShownEnding}
+use Rattle.node_leaves.specs.NodeEvents.{ending_events, node_events}
+use Rattle.node_leaves.specs.Place.{Open, root}
 use Rattle.branch_tree.specs.Search.{EndsUnder}
 use Rattle.branch_tree.specs.SearchTree.{HasReached, IsWithin, IsOutcomeOf, IsSearchTree}
-use Rattle.branch_tree.specs.Target.{no_target, IsBest, FallsTo, Passes}
-use Rattle.branch_tree.specs.inside.Leaf.{AnswersLeaf}
+use Rattle.node_leaves.specs.Target.{no_target, IsBest, FallsTo, Passes}
+use Rattle.node_leaves.specs.inside.Leaf.{AnswersLeaf}
 use Rattle.branch_tree.specs.inside.Searching.{Counts, HasStopped, outcome_for}
 
 -- one that does not is left

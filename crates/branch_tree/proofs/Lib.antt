@@ -1,17 +1,7 @@
-pub mod Runs
 pub mod Forest
 pub mod Reaching
 pub mod Outcomes
 pub mod UsedDives
-pub mod Cuts
-pub mod Lists
-pub mod PricedLabels
-pub mod Countings
-pub mod SpelledLabels
-pub mod LineValues
-pub mod Values
-pub mod FirstCovers
-pub mod LeafStops
 pub mod Pools
 pub mod NodeStops
 pub mod Visits

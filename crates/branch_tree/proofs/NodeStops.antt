@@ -10,17 +10,17 @@ use Rattle.branch_marks.specs.declared.fact.Fact.{Fact}
 use Rattle.branch_marks.specs.Following.{FollowInTurn}
 use Rattle.branch_marks.specs.LogShown.{LogShown}
 use Rattle.branch_marks.specs.TreeLog.{Notes, NotesFront, IsLater}
-use Rattle.branch_tree.specs.Place.{Open}
-use Rattle.branch_tree.specs.Node.{Ending, Node, branches, closed_marks, IsShownNode, IsShownEnding}
-use Rattle.branch_tree.specs.Begun.{Opened, Begun}
-use Rattle.branch_tree.specs.NodeEvents.{events_of, node_events, step_events, ending_events}
-use Rattle.branch_tree.specs.Stops.{StopsIn}
-use Rattle.branch_tree.specs.inside.Leaf.{Leaf, IsShownLeaf, leaf_events, IsCutAtLeaf}
-use Rattle.branch_tree.specs.inside.Leaf as part
+use Rattle.node_leaves.specs.Place.{Open}
+use Rattle.node_leaves.specs.Node.{Ending, Node, branches, closed_marks, IsShownNode, IsShownEnding}
+use Rattle.node_leaves.specs.Begun.{Opened, Begun}
+use Rattle.node_leaves.specs.NodeEvents.{events_of, node_events, step_events, ending_events}
+use Rattle.node_leaves.specs.Stops.{StopsIn}
+use Rattle.node_leaves.specs.inside.Leaf.{Leaf, IsShownLeaf, leaf_events, IsCutAtLeaf}
+use Rattle.node_leaves.specs.inside.Leaf as part
 use Rattle.branch_tree.specs.inside.Stepping.{IsCutAtSteps, IsShutAndTold}
-use Rattle.branch_tree.proofs.Cuts.{front_then, front_whole}
-use Rattle.branch_tree.proofs.LeafStops.{stops_in}
-use Rattle.branch_tree.proofs.Runs.{grows_none, grows_one, events_one}
+use Rattle.node_leaves.proofs.Cuts.{front_then, front_whole}
+use Rattle.node_leaves.proofs.LeafStops.{stops_in}
+use Rattle.node_leaves.proofs.Runs.{grows_none, grows_one, events_one}
 
 module _ (table : CostTableSeen) (book : BookSeen) (here : Open) (old : LogShown) where
   opened_stops : (new : LogShown) (steps : List Fact) → FollowInTurn book here.marks steps → NotesFront old new (step_events steps)

@@ -9,17 +9,17 @@ use Rattle.branch_marks.specs.declared.event.Event.{Event}
 use Rattle.branch_marks.specs.declared.fact.Fact.{Fact}
 use Rattle.branch_marks.specs.LogShown.{LogShown}
 use Rattle.branch_marks.specs.TreeLog.{Notes}
-use Rattle.branch_tree.specs.declared.leaf.PricedLeaf.{PricedLeaf}
+use Rattle.node_leaves.specs.declared.leaf.PricedLeaf.{PricedLeaf}
 use Rattle.branch_tree.specs.declared.step.Step.{Step}
 use Rattle.branch_tree.specs.Closing.{IsLowest}
-use Rattle.branch_tree.specs.Node.{Node, branches, closed_marks, IsShownNode}
-use Rattle.branch_tree.specs.Place.{Open}
+use Rattle.node_leaves.specs.Node.{Node, branches, closed_marks, IsShownNode}
+use Rattle.node_leaves.specs.Place.{Open}
 use Rattle.branch_tree.specs.Step.{IsVisit}
-use Rattle.branch_tree.specs.Stops.{StopsIn}
-use Rattle.branch_tree.specs.inside.Leaf.{AnswersLeaf, IsLeafPriced}
+use Rattle.node_leaves.specs.Stops.{StopsIn}
+use Rattle.node_leaves.specs.inside.Leaf.{AnswersLeaf, IsLeafPriced}
 use Rattle.branch_tree.specs.inside.Searching.{IsVisited, IsOneClosed}
 use Rattle.branch_tree.proofs.LeastLeft.{closing_node, closing_events, is_closing}
-use Rattle.branch_tree.proofs.Runs.{grows_one, events_one}
+use Rattle.node_leaves.proofs.Runs.{grows_one, events_one}
 use Rattle.branch_tree.proofs.Stopping.{stops_between}
 
 -- marks that hold the facts of a place stand at it

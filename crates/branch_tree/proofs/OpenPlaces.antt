@@ -13,11 +13,12 @@ use Rattle.branch_marks.specs.Branches.{first_branch, second_branch, IsUndecided
 use Rattle.branch_marks.specs.Following.{FollowInTurn, FollowingFactsAreNew, FollowingFactsAreOfBook}
 use Rattle.branch_marks.specs.Marks.{IsAlive, LetsFly}
 use Rattle.branch_tree.specs.Counted.{IsCounted, IsEndOf}
-use Rattle.branch_tree.specs.Growth.{Grows}
-use Rattle.branch_tree.specs.Node.{Ending, Hole, Stuck, Bounded, Split, Node, branches, closed_marks, IsShownEnding}
-use Rattle.branch_tree.specs.Place.{Open, root}
-use Rattle.branch_tree.specs.inside.Leaf.{ZerosAreDuals}
-use Rattle.branch_tree.specs.inside.Searching.{AreNewFacts, IsPlace, ArePlaces}
+use Rattle.node_leaves.specs.Growth.{Grows}
+use Rattle.node_leaves.specs.Node.{Ending, Hole, Stuck, Bounded, Split, Node, branches, closed_marks, IsShownEnding}
+use Rattle.node_leaves.specs.Place.{Open, root}
+use Rattle.node_leaves.specs.inside.Leaf.{ZerosAreDuals}
+use Rattle.branch_tree.specs.inside.Searching.{IsPlace, ArePlaces}
+use Rattle.node_leaves.specs.inside.NewFacts.{AreNewFacts}
 
 new_then : (book : BookSeen) (marks facts more : List Fact) → AreNewFacts book marks facts → AreNewFacts book (marks ++ facts) more
     → AreNewFacts book marks (facts ++ more)

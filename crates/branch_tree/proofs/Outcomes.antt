@@ -14,16 +14,16 @@ use Rattle.tail_book.specs.declared.outcome.Outcome.{Outcome}
 use Rattle.tail_book.specs.declared.outcome.Outcome.TheVariants.{Optimal, Infeasible, Between, Above}
 use Rattle.branch_marks.specs.ProofTree.{ShownRootsBound}
 use Rattle.branch_tree.specs.declared.limit.Limit.{Limit}
-use Rattle.branch_tree.specs.Place.{root}
-use Rattle.branch_tree.specs.Node.{Node, IsBoundedBy, Bounds}
-use Rattle.branch_tree.specs.Growth.{Grows}
+use Rattle.node_leaves.specs.Place.{root}
+use Rattle.node_leaves.specs.Node.{Node, IsBoundedBy, Bounds}
+use Rattle.node_leaves.specs.Growth.{Grows}
 use Rattle.branch_tree.specs.Counted.{IsCounted}
 use Rattle.branch_tree.specs.Closing.{IsClosing}
 use Rattle.branch_tree.specs.GrownTree.{StandsOver, IsGrownTree}
 use Rattle.branch_tree.specs.Laws.{claimed, GrownTreesAreBounded, ShownNodesAreTrees}
-use Rattle.branch_tree.specs.Target.{no_target}
+use Rattle.node_leaves.specs.Target.{no_target}
 use Rattle.branch_tree.specs.SearchTree.{SearchTree, nodes_of, IsSearchTree, IsOutcomeOf}
-use Rattle.branch_tree.proofs.Runs.{falls_over, grows_then, grows_weaker, grows_with}
+use Rattle.node_leaves.proofs.Runs.{falls_over, grows_then, grows_weaker, grows_with}
 use Rattle.branch_tree.proofs.Reaching.{stands_bounded, all_closed, all_above, lowest_below}
 
 module _ (table : CostTableSeen) (book : BookSeen) (limit : Limit) where

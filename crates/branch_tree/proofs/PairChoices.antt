@@ -25,7 +25,7 @@ use Rattle.branch_marks.specs.Weights.{WeighsAtLeast}
 use Rattle.dive_heuristic.specs.Choice.{IsCarrierOf}
 use Rattle.dive_heuristic.specs.LeastRoutes.{AreLeastRoutes, IsInOne, IsEachInOne}
 use Rattle.branch_tree.specs.Choice.{IsPairAt}
-use Rattle.branch_tree.specs.Target.{Passes}
+use Rattle.node_leaves.specs.Target.{Passes}
 use Rattle.branch_tree.specs.inside.Weighing.{IsUsedPlan}
 
 -- the activity behind a place of a route comes directly after the one at it

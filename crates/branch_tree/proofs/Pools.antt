@@ -25,7 +25,7 @@ use Rattle.branch_tree.specs.declared.weighing.Weighed.{Weighed}
 use Rattle.branch_tree.specs.declared.weighing.Weighed.TheVariants as weighed
 use Rattle.branch_tree.specs.inside.Weighing.{IsOpen, IsWeighed}
 use Rattle.branch_tree.specs.inside.Pooling.{entry_of, AddsRoute, HasAll, HasGrown, AreFittingRoutes}
-use Rattle.branch_tree.specs.inside.Stepping.{IsFittingPool}
+use Rattle.node_leaves.specs.inside.FittingPool.{IsFittingPool}
 
 -- what is kept is what was legal and fits
 pub kept_fitting : FitsDecides → (table : CostTableSeen) (book : BookSeen) (marks : List Fact) (old new : PoolSeen)

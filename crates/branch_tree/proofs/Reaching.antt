@@ -8,9 +8,9 @@ use Rattle.tail_book.specs.Seen.{BookSeen}
 use Rattle.tail_book.specs.TableSeen.{CostTableSeen}
 use Rattle.branch_marks.specs.declared.fact.Fact.{Fact}
 use Rattle.branch_marks.specs.ProofTree.{leaf_bound}
-use Rattle.branch_tree.specs.Place.{Open}
-use Rattle.branch_tree.specs.Node.{Ending, Hole, Stuck, Bounded, Split, Node, closed_marks, IsBoundedBy, Bounds}
-use Rattle.branch_tree.specs.Target.{Passes, bound_under}
+use Rattle.node_leaves.specs.Place.{Open}
+use Rattle.node_leaves.specs.Node.{Ending, Node, closed_marks, IsBoundedBy, Bounds, Hole, Stuck, Bounded, Split}
+use Rattle.node_leaves.specs.Target.{Passes, bound_under}
 use Rattle.branch_tree.specs.Counted.{IsEndOf}
 use Rattle.branch_tree.specs.Closing.{IsLeftAt, IsLowest}
 use Rattle.branch_tree.specs.GrownTree.{StandsOver}

@@ -6,8 +6,8 @@ use Rattle.tail_book.specs.TableSeen.{CostTableSeen}
 use Rattle.branch_marks.specs.declared.fact.Fact.{Fact}
 use Rattle.branch_marks.specs.Branches.{first_branch, second_branch}
 use Rattle.branch_marks.specs.inside.BranchTests.{undecided, FactsLeaveNoMore, BranchesLeaveFewer}
-use Rattle.branch_tree.specs.Node.{Ending, Hole, Stuck, Bounded, Split, Node, branches, closed_marks, IsShownEnding, IsShownNode}
-use Rattle.branch_tree.specs.Place.{Open}
+use Rattle.node_leaves.specs.Node.{Ending, Hole, Stuck, Bounded, Split, Node, branches, closed_marks, IsShownEnding, IsShownNode}
+use Rattle.node_leaves.specs.Place.{Open}
 use Rattle.branch_tree.specs.inside.Searching.{tripled, room}
 
 tripled-le : (n m : ℕ) → n ≤ m → tripled n ≤ tripled m

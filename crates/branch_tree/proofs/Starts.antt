@@ -10,7 +10,7 @@ use Rattle.tail_book.specs.inside.Sound.{IsBook}
 use Rattle.tail_book.specs.inside.TableLaws.{LegalPlansCostAtMostIn}
 use Rattle.tail_book.specs.declared.outcome.Outcome.{Outcome}
 use Rattle.branch_tree.specs.Search.{HasPlanWithin}
-use Rattle.branch_tree.specs.Target.{IsBest}
+use Rattle.node_leaves.specs.Target.{IsBest}
 use Rattle.branch_tree.specs.inside.Searching.{outcome_for}
 
 module _ (table : CostTableSeen) (book : BookSeen) where

@@ -8,14 +8,14 @@ use Rattle.tail_book.specs.TableSeen.{CostTableSeen}
 use Rattle.branch_marks.specs.declared.event.Event.{Event}
 use Rattle.branch_marks.specs.LogShown.{LogShown}
 use Rattle.branch_marks.specs.TreeLog.{Notes, IsCut, IsLater}
-use Rattle.branch_tree.specs.Begun.{BegunTree, IsBegunFrom, Part, StandsFirst}
-use Rattle.branch_tree.specs.Growth.{Grows}
-use Rattle.branch_tree.specs.Node.{Node, IsShownNode}
-use Rattle.branch_tree.specs.NodeEvents.{events_of, part_events, begun_events}
-use Rattle.branch_tree.specs.Place.{Open}
-use Rattle.branch_tree.specs.Stops.{StopsIn}
-use Rattle.branch_tree.proofs.Cuts.{cut_later, notes_none}
-use Rattle.branch_tree.proofs.Runs.{grows_none, grows_then, grows_before, events_then, events_none}
+use Rattle.node_leaves.specs.Begun.{BegunTree, IsBegunFrom, Part, StandsFirst}
+use Rattle.node_leaves.specs.Growth.{Grows}
+use Rattle.node_leaves.specs.Node.{Node, IsShownNode}
+use Rattle.node_leaves.specs.NodeEvents.{events_of, part_events, begun_events}
+use Rattle.node_leaves.specs.Place.{Open}
+use Rattle.node_leaves.specs.Stops.{StopsIn}
+use Rattle.node_leaves.proofs.Cuts.{cut_later, notes_none}
+use Rattle.node_leaves.proofs.Runs.{grows_none, grows_then, grows_before, events_then, events_none}
 
 module _ (table : CostTableSeen) (book : BookSeen) where
   part_behind : (left rest : List Open) (part : Option Part) → StandsFirst table book left part → StandsFirst table book (left ++ rest) part

@@ -7,12 +7,12 @@ use Rattle.tail_book.specs.TableSeen.{CostTableSeen}
 use Rattle.branch_marks.specs.declared.fact.Fact.{Fact}
 use Rattle.dive_heuristic.specs.declared.answer.Dive.{Dive}
 use Rattle.dive_heuristic.specs.declared.answer.Dive.TheVariants.{Plan, Dead}
-use Rattle.branch_tree.specs.Place.{Open}
-use Rattle.branch_tree.specs.Node.{Ending, Hole, Stuck, Bounded, Split, Node, branches, closed_marks}
-use Rattle.branch_tree.specs.Growth.{Grows}
-use Rattle.branch_tree.specs.Target.{HasUsed, HasUsedDive, FallsTo}
+use Rattle.node_leaves.specs.Place.{Open}
+use Rattle.node_leaves.specs.Node.{Ending, Hole, Stuck, Bounded, Split, Node, branches, closed_marks}
+use Rattle.node_leaves.specs.Growth.{Grows}
+use Rattle.node_leaves.specs.Target.{HasUsed, HasUsedDive, FallsTo}
 use Rattle.branch_tree.specs.Counted.{IsCounted, IsEndOf}
-use Rattle.branch_tree.proofs.Runs.{falls_below}
+use Rattle.node_leaves.proofs.Runs.{falls_below}
 
 used_later : (final target : ℕ) (dive : Dive) → HasUsed target dive → final ≤ target → HasUsed final dive
 used_later final target (Plan plan cost) used lower = omega (arith, used, lower)

@@ -11,13 +11,13 @@ use Rattle.branch_marks.specs.LogShown.{LogShown}
 use Rattle.branch_marks.specs.TreeLog.{IsLater}
 use Rattle.branch_tree.specs.declared.step.Step.{Step}
 use Rattle.branch_tree.specs.Counted.{IsEndOf}
-use Rattle.branch_tree.specs.Node.{Node, IsShownEnding}
-use Rattle.branch_tree.specs.NodeEvents.{node_events, step_events, ending_events}
-use Rattle.branch_tree.specs.Place.{Open}
+use Rattle.node_leaves.specs.Node.{Node, IsShownEnding}
+use Rattle.node_leaves.specs.NodeEvents.{node_events, step_events, ending_events}
+use Rattle.node_leaves.specs.Place.{Open}
 use Rattle.branch_tree.specs.Step.{IsVisit}
-use Rattle.branch_tree.specs.Target.{IsTarget, IsBest}
+use Rattle.node_leaves.specs.Target.{IsTarget, IsBest}
 use Rattle.branch_tree.specs.inside.Stepping.{IsShutAndTold, IsEndNoted}
-use Rattle.branch_tree.proofs.Cuts.{notes_then}
+use Rattle.node_leaves.proofs.Cuts.{notes_then}
 
 -- the target of a valid best is one
 pub target_of_best : (table : CostTableSeen) (book : BookSeen) (plan : Option (List (List ℕ))) (target : ℕ) → IsBest table book plan target → IsTarget table book target

@@ -1,19 +1,12 @@
 -- The closing pass: the nodes of the places that are open when the counter has reached its limit.
-use Rattle.std.specs.Prelude.{◌≡◌, ℕ, ◌≤◌, ⊤, List, [], All, Any, Option, Some, None}
+use Rattle.std.specs.Prelude.{◌≡◌, ℕ, ◌≤◌, List, [], All, Any, Option, Some, None}
 use Rattle.tail_book.specs.Seen.{BookSeen}
 use Rattle.tail_book.specs.TableSeen.{CostTableSeen}
 use Rattle.branch_marks.specs.ProofTree.{leaf_bound}
-use Rattle.branch_tree.specs.Counted.{HasLeastValues}
-use Rattle.branch_tree.specs.Place.{Open}
-use Rattle.branch_tree.specs.Node.{Ending, Hole, Stuck, Bounded, Split, Node, IsShownNode}
-use Rattle.branch_tree.specs.Target.{Passes, bound_under}
-
--- the end of a node that was only priced, under the duals of its parent
-abbrev pub IsPriced : CostTableSeen → BookSeen → Open → Ending → Type 0
-IsPriced table book here (Hole a) = ⊥
-IsPriced table book here (Stuck k family) = ⊤
-IsPriced table book here (Bounded duals covers) = (duals ≡ here.duals) × HasLeastValues table book here.marks duals covers
-IsPriced table book here (Split pair duals routes dive) = ⊥
+use Rattle.node_leaves.specs.Priced.{IsPriced}
+use Rattle.node_leaves.specs.Place.{Open}
+use Rattle.node_leaves.specs.Node.{Ending, Hole, Stuck, Bounded, Split, Node, IsShownNode}
+use Rattle.node_leaves.specs.Target.{Passes, bound_under}
 
 -- a closing node: no fact was added, and its target is the final one
 pub record IsClosing (table : CostTableSeen) (book : BookSeen) (final : ℕ) (here : Open) (node : Node) : Type 0 where

@@ -1,20 +1,19 @@
 -- What a search asks of the nodes that it counts, beyond that they are shown: what a bound reaches, and when a split is
 -- due.
-use Rattle.std.specs.Prelude.{ℕ, ℤ, ⊤, List, map}
+use Rattle.std.specs.Prelude.{ℕ, ℤ, ⊤, List}
 use Rattle.tail_book.specs.Seen.{BookSeen}
 use Rattle.tail_book.specs.TableSeen.{CostTableSeen}
 use Rattle.branch_marks.specs.declared.fact.Fact.{Fact}
 use Rattle.branch_marks.specs.declared.fact.Pair.{Pair}
 use Rattle.branch_marks.specs.Bound.{lagrangian, bound_of, AreLeastWeights}
 use Rattle.branch_marks.specs.Following.{IsShut}
-use Rattle.branch_marks.specs.ProofTree.{Cover}
 use Rattle.branch_marks.specs.Settled.{IsSettled, AreRoutesOfWeights}
 use Rattle.branch_tree.specs.Choice.{IsChosenPair}
 use Rattle.dive_heuristic.specs.declared.answer.Dive.{Dive}
 use Rattle.dive_heuristic.specs.Dive.{IsDiveOf, IsPlanned}
-use Rattle.branch_tree.specs.Place.{Open}
-use Rattle.branch_tree.specs.Node.{Ending, Hole, Stuck, Bounded, Split, Node, closed_marks, IsShownNode}
-use Rattle.branch_tree.specs.Target.{IsTarget, Passes, bound_under, HasUsed}
+use Rattle.node_leaves.specs.Place.{Open}
+use Rattle.node_leaves.specs.Node.{Ending, Node, closed_marks, IsShownNode, Hole, Stuck, Bounded, Split}
+use Rattle.node_leaves.specs.Target.{IsTarget, Passes, bound_under, HasUsed}
 
 -- a node is split only under settled duals, with routes out of the pool counted too, and where their bound still lies below
 -- the target; on the pair that routes of least weight choose, and after a dive from its marks under its duals, whose plan is
@@ -29,10 +28,6 @@ pub record IsSplitOf (table : CostTableSeen) (book : BookSeen) (marks : List Fac
   pub dived : IsDiveOf table book marks duals dive
   pub planned : IsPlanned table book marks dive
   pub used : HasUsed target dive
-
--- the values of the covers are the least weights
-abbrev pub HasLeastValues : CostTableSeen → BookSeen → List Fact → List ℤ → List Cover → Type 0
-HasLeastValues table book marks duals covers = AreLeastWeights table book marks duals (map (λ cover. cover.value) covers)
 
 -- what is asked of an end beyond that it is shown: a bound reaches the target
 abbrev pub IsEndOf : CostTableSeen → BookSeen → List Fact → ℕ → Ending → Type 0

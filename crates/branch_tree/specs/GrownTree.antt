@@ -4,9 +4,9 @@ use Rattle.tail_book.specs.Seen.{BookSeen}
 use Rattle.tail_book.specs.TableSeen.{CostTableSeen}
 use Rattle.tail_book.specs.declared.outcome.Outcome.{Outcome}
 use Rattle.branch_tree.specs.declared.limit.Limit.{Limit}
-use Rattle.branch_tree.specs.Place.{Open, root}
-use Rattle.branch_tree.specs.Node.{Node}
-use Rattle.branch_tree.specs.Growth.{Grows}
+use Rattle.node_leaves.specs.Place.{Open, root}
+use Rattle.node_leaves.specs.Node.{Node}
+use Rattle.node_leaves.specs.Growth.{Grows}
 use Rattle.branch_tree.specs.Counted.{IsCounted}
 use Rattle.branch_tree.specs.Closing.{IsClosing}
 use Rattle.branch_tree.specs.SearchTree.{IsOutcomeOf}

@@ -10,13 +10,13 @@ use Rattle.tail_book.specs.declared.outcome.Outcome.{Outcome}
 use Rattle.tail_book.specs.declared.outcome.Outcome.TheVariants.{Optimal, Infeasible, Between, Above}
 use Rattle.branch_marks.specs.ProofTree.{Tree, IsShown, BoundsAtLeast}
 use Rattle.branch_tree.specs.declared.limit.Limit.{Limit}
-use Rattle.branch_tree.specs.Place.{root}
-use Rattle.branch_tree.specs.Node.{Node, IsShownNode, Bounds}
-use Rattle.branch_tree.specs.Growth.{Grows}
+use Rattle.node_leaves.specs.Place.{root}
+use Rattle.node_leaves.specs.Node.{Node, IsShownNode, Bounds}
+use Rattle.node_leaves.specs.Growth.{Grows}
 use Rattle.branch_tree.specs.GrownTree.{IsGrownTree}
 use Rattle.branch_marks.specs.TreeEvents.{tree_events}
-use Rattle.branch_tree.specs.NodeEvents.{events_of}
-use Rattle.branch_tree.specs.Target.{no_target, HasUsedDive}
+use Rattle.node_leaves.specs.NodeEvents.{events_of}
+use Rattle.node_leaves.specs.Target.{no_target, HasUsedDive}
 use Rattle.branch_tree.specs.SearchTree.{SearchTree, nodes_of, IsSearchTree}
 
 -- the bound that an outcome claims of every legal plan; where it claims that there is none, one more than any costs

@@ -1,15 +1,8 @@
-pub mod Place
 pub mod Choice
-pub mod Node
-pub mod Growth
-pub mod Begun
-pub mod NodeEvents
-pub mod Target
 pub mod Counted
 pub mod Closing
 pub mod SearchTree
 pub mod GrownTree
-pub mod Stops
 pub mod Step
 pub mod Search
 pub mod Decided

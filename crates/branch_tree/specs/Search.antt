@@ -7,7 +7,7 @@ use Rattle.tail_book.specs.declared.outcome.Outcome.TheVariants.{Optimal, Infeas
 use Rattle.branch_marks.specs.LogShown.{LogShown}
 use Rattle.branch_marks.specs.TreeLog.{Notes}
 use Rattle.branch_tree.specs.declared.limit.Limit.{Limit}
-use Rattle.branch_tree.specs.NodeEvents.{events_of}
+use Rattle.node_leaves.specs.NodeEvents.{events_of}
 use Rattle.branch_tree.specs.SearchTree.{SearchTree, nodes_of, HasReached, IsSearchTree}
 
 -- the search ended with this outcome: its tree is a search tree of the outcome, and all events of the tree were told

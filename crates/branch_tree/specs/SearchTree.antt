@@ -7,10 +7,10 @@ use Rattle.tail_book.specs.declared.outcome.Outcome.{Outcome}
 use Rattle.tail_book.specs.declared.outcome.Outcome.TheVariants.{Optimal, Infeasible, Between, Above}
 use Rattle.branch_tree.specs.declared.limit.Limit.{Limit}
 use Rattle.branch_tree.specs.declared.limit.Limit.TheVariants.{Free, Nodes}
-use Rattle.branch_tree.specs.Place.{Open, root}
-use Rattle.branch_tree.specs.Node.{Node}
-use Rattle.branch_tree.specs.Growth.{Grows}
-use Rattle.branch_tree.specs.Target.{no_target, FallsTo}
+use Rattle.node_leaves.specs.Place.{Open, root}
+use Rattle.node_leaves.specs.Node.{Node}
+use Rattle.node_leaves.specs.Growth.{Grows}
+use Rattle.node_leaves.specs.Target.{no_target, FallsTo}
 use Rattle.branch_tree.specs.Counted.{IsCounted}
 use Rattle.branch_tree.specs.Closing.{IsClosing, IsLowest}
 

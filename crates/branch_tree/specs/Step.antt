@@ -19,10 +19,10 @@ use Rattle.dive_heuristic.specs.declared.answer.Dive.{Dive}
 use Rattle.branch_tree.specs.declared.step.Step.{Step}
 use Rattle.branch_tree.specs.declared.step.Step.TheVariants as step
 use Rattle.branch_tree.specs.Counted.{IsCounted, IsSplitOf}
-use Rattle.branch_tree.specs.Node.{Ending, Hole, Stuck, Bounded, Split, Node, closed_marks}
-use Rattle.branch_tree.specs.NodeEvents.{node_events}
-use Rattle.branch_tree.specs.Place.{Open}
-use Rattle.branch_tree.specs.Target.{Passes}
+use Rattle.node_leaves.specs.Node.{Ending, Hole, Stuck, Bounded, Split, Node, closed_marks}
+use Rattle.node_leaves.specs.NodeEvents.{node_events}
+use Rattle.node_leaves.specs.Place.{Open}
+use Rattle.node_leaves.specs.Target.{Passes}
 
 -- a pool of the book, each route of which is legal for its aircraft
 pub record IsLegalPool (table : CostTableSeen) (book : BookSeen) (pool : PoolSeen) : Type 0 where

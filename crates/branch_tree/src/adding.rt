@@ -9,7 +9,7 @@ ghost use Rattle.tail_book.specs.CostTable.{IsTableFor};
 ghost use Rattle.tail_book.specs.inside.Rising.{IsRisingFrom};
 ghost use Rattle.branch_marks.specs.declared.fact.Fact.{Fact};
 ghost use Rattle.branch_marks.specs.Pool.{IsFittingEntry};
-ghost use Rattle.branch_tree.specs.inside.Stepping.{IsFittingPool};
+ghost use Rattle.node_leaves.specs.inside.FittingPool.{IsFittingPool};
 ghost use Rattle.branch_tree.specs.inside.Pooling.{entry_of, AddsRoute, AreFittingRoutes, HasAll, HasGrown};
 
 use restricted_master::{Pool, PoolAdd};

@@ -5,16 +5,16 @@ ghost use Rattle.std.specs.Prelude.{◌≡◌, ◌++◌, [], ◌∷◌, List, If
 ghost use Rattle.connection_net.specs.Net.{net_of};
 ghost use Rattle.branch_marks.specs.TreeLog.{IsLater, WriteHasFailed};
 ghost use Rattle.branch_tree.specs.Closing.{IsLowest};
-ghost use Rattle.branch_tree.specs.Node.{Node};
-ghost use Rattle.branch_tree.specs.Stops.{StopsIn};
-ghost use Rattle.branch_tree.specs.inside.Leaf.{AnswersLeaf, IsNodePricerOf};
+ghost use Rattle.node_leaves.specs.Node.{Node};
+ghost use Rattle.node_leaves.specs.Stops.{StopsIn};
+ghost use Rattle.node_leaves.specs.inside.Leaf.{AnswersLeaf, IsNodePricerOf};
 ghost use Rattle.branch_tree.specs.inside.Searching.{AreClosed, ArePlaces, IsOneClosed, IsPlace, IsStateFor};
 
-use crate::marks_again::marks_again;
 use crate::search_state::SearchState;
 use crate::{NodePricer, OpenNode, PricedLeaf, Stop, bound_below, price_leaf};
 use branch_marks::TreeLog;
 use connection_net::Net;
+use node_leaves::marks_again;
 use std::alloc::Global;
 use tail_book::{Book, CostTable};
 

@@ -7,12 +7,11 @@
 ghost use Rattle.std.specs.Prelude.{◌≡◌, ◌≤◌, ◌+◌, [], ◌∷◌, ℕ, true, false, IfOk, OnErr, IsErrOf};
 ghost use Rattle.tail_book.specs.CostTable.{IsTableFor};
 ghost use Rattle.branch_marks.specs.TreeLog.{IsLater, WriteHasFailed};
-ghost use Rattle.branch_tree.specs.Place.{root};
-ghost use Rattle.branch_tree.specs.Stops.{StopsIn};
-ghost use Rattle.branch_tree.specs.Target.{no_target};
+ghost use Rattle.node_leaves.specs.Place.{root};
+ghost use Rattle.node_leaves.specs.Stops.{StopsIn};
+ghost use Rattle.node_leaves.specs.Target.{no_target};
 ghost use Rattle.branch_tree.specs.inside.Searching.{Allows, ArePlaces, Counts, HasStopped, IsGrownOut, IsStateFor};
 
-use crate::laws::zeros_are_duals;
 use crate::search_state::SearchState;
 use crate::visiting::visit;
 use crate::{Limit, Stop};
@@ -21,6 +20,7 @@ use branch_marks::laws::{
     branches_leave_fewer, facts_leave_no_more, following_facts_are_new,
     following_facts_are_of_book, undecided_pairs_are_of_book,
 };
+use node_leaves::laws::zeros_are_duals;
 use std::alloc::Global;
 use tail_book::{Book, CostTable};
 

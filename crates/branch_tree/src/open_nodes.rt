@@ -5,7 +5,7 @@
 
 ghost use Rattle.std.specs.Prelude.{◌≡◌, ◌∷◌, ◌++◌, [], IfOk, OnOk, OnErr, MatchOption};
 ghost use Rattle.branch_marks.specs.Branches.{first_branch, second_branch};
-ghost use Rattle.branch_tree.specs.Place.{root};
+ghost use Rattle.node_leaves.specs.Place.{root};
 
 use branch_marks::{Fact, Pair};
 use std::alloc::Global;
@@ -22,7 +22,7 @@ pub struct OpenNode {
 }
 
 impl Model for OpenNode {
-    ghost use Rattle.branch_tree.specs.Place.{Open};
+    ghost use Rattle.node_leaves.specs.Place.{Open};
 
     ghost Value = { Open };
 
@@ -37,7 +37,7 @@ pub struct OpenNodes {
 
 impl Model for OpenNodes {
     ghost use Rattle.std.specs.Prelude.{List, reverse};
-    ghost use Rattle.branch_tree.specs.Place.{Open};
+    ghost use Rattle.node_leaves.specs.Place.{Open};
 
     ghost Value = { List Open };
 

@@ -7,20 +7,20 @@
 ghost use Rattle.std.specs.Prelude.{◌≡◌, ◌≤◌, IfOk, IfSome};
 ghost use Rattle.tail_book.specs.CostTable.{IsTableFor};
 ghost use Rattle.branch_marks.specs.Settled.{AreDuals};
-ghost use Rattle.branch_tree.specs.Target.{IsBest};
-ghost use Rattle.branch_tree.specs.inside.Leaf.{IsReady};
-ghost use Rattle.branch_tree.specs.inside.Stepping.{IsEndFound, IsFittingPool};
+ghost use Rattle.node_leaves.specs.Target.{IsBest};
+ghost use Rattle.node_leaves.specs.inside.Leaf.{IsReady};
+ghost use Rattle.branch_tree.specs.inside.Stepping.{IsEndFound};
+ghost use Rattle.node_leaves.specs.inside.FittingPool.{IsFittingPool};
 ghost use Rattle.branch_tree.specs.inside.Weighing.{IsWeighed};
 
 use crate::adding::add_routes;
-use crate::bounds::passes;
 use crate::step::End;
-use crate::suggesting::add_all_suggestions;
 use crate::weighing::{Weighed, weigh};
 use crate::{Best, NodePricer};
 use branch_marks::Marks;
 use connection_net::Net;
 use dual_ascent::Ascent;
+use node_leaves::{add_all_suggestions, passes};
 use pool_plans::find_plan;
 use restricted_master::Pool;
 use std::alloc::Global;

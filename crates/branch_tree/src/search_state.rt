@@ -4,8 +4,8 @@
 ghost use Rattle.std.specs.Prelude.{◌≡◌, ◌≤◌, [], ◌∷◌, IfOk, IfSome};
 ghost use Rattle.tail_book.specs.Plan.{IsLegalPlan};
 ghost use Rattle.tail_book.specs.CostTable.{IsTableFor, plan_cost_in};
-ghost use Rattle.branch_tree.specs.Place.{root};
-ghost use Rattle.branch_tree.specs.Target.{no_target};
+ghost use Rattle.node_leaves.specs.Place.{root};
+ghost use Rattle.node_leaves.specs.Target.{no_target};
 ghost use Rattle.branch_tree.specs.inside.Searching.{IsStateFor};
 
 use crate::{Best, NodeTools, OpenNodes};

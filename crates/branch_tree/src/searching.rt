@@ -9,9 +9,9 @@ ghost use Rattle.tail_book.specs.Plan.{IsLegalPlan};
 ghost use Rattle.tail_book.specs.CostTable.{IsTableFor, plan_cost_in};
 ghost use Rattle.tail_book.specs.Truth.{IsTrueOutcomeIn};
 ghost use Rattle.branch_marks.specs.TreeLog.{IsLater, WriteHasFailed};
-ghost use Rattle.branch_tree.specs.Place.{root};
+ghost use Rattle.node_leaves.specs.Place.{root};
 ghost use Rattle.branch_tree.specs.Search.{IsSearched, EndsUnder, HasPlanWithin};
-ghost use Rattle.branch_tree.specs.Stops.{StopsIn};
+ghost use Rattle.node_leaves.specs.Stops.{StopsIn};
 ghost use Rattle.branch_tree.specs.inside.Searching.{outcome_for};
 
 use crate::closing::close;

@@ -6,8 +6,8 @@ ghost use Rattle.tail_book.specs.CostTable.{IsTableFor};
 ghost use Rattle.connection_net.specs.Net.{net_of};
 ghost use Rattle.branch_marks.specs.Settled.{AreDuals};
 ghost use Rattle.branch_marks.specs.inside.MarkTables.{AreMarksOf};
-ghost use Rattle.branch_tree.specs.Target.{IsBest};
-ghost use Rattle.branch_tree.specs.inside.Stepping.{IsFittingPool};
+ghost use Rattle.node_leaves.specs.Target.{IsBest};
+ghost use Rattle.node_leaves.specs.inside.FittingPool.{IsFittingPool};
 
 use crate::Best;
 use branch_marks::Marks;

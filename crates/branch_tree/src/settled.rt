@@ -9,9 +9,10 @@ ghost use Rattle.branch_marks.specs.Settled.{AreDuals, IsSettledOver};
 ghost use Rattle.dive_heuristic.specs.Dive.{HasNoHole};
 ghost use Rattle.dive_heuristic.specs.Divers.{IsDiverOf};
 ghost use Rattle.restricted_master.specs.Pool.{HasRoutes};
-ghost use Rattle.branch_tree.specs.Target.{IsBest};
-ghost use Rattle.branch_tree.specs.inside.Leaf.{IsReady};
-ghost use Rattle.branch_tree.specs.inside.Stepping.{AreToolsFor, IsEndFound, IsFittingPool};
+ghost use Rattle.node_leaves.specs.Target.{IsBest};
+ghost use Rattle.node_leaves.specs.inside.Leaf.{IsReady};
+ghost use Rattle.branch_tree.specs.inside.Stepping.{AreToolsFor, IsEndFound};
+ghost use Rattle.node_leaves.specs.inside.FittingPool.{IsFittingPool};
 
 use crate::adding::add_routes;
 use crate::splitting::split;

@@ -11,13 +11,14 @@ ghost use Rattle.branch_marks.specs.inside.MarkTables.{AreMarksOf};
 ghost use Rattle.propagator.specs.Closed.{IsClosedAt};
 ghost use Rattle.propagator.specs.Keeping.{IsKeptFor};
 ghost use Rattle.branch_tree.specs.Step.{IsLegalPool};
-ghost use Rattle.branch_tree.specs.inside.Stepping.{IsCutAtSteps, IsFittingPool, IsFollowed, IsShutAndTold};
+ghost use Rattle.branch_tree.specs.inside.Stepping.{IsCutAtSteps, IsFollowed, IsShutAndTold};
+ghost use Rattle.node_leaves.specs.inside.FittingPool.{IsFittingPool};
 
 use crate::Stop;
-use crate::telling::note_steps;
 use branch_marks::laws::{fits_decides, following_facts_are_of_book};
 use branch_marks::{Marks, TreeLog};
 use connection_net::Net;
+use node_leaves::note_steps;
 use propagator::{Closed, Propagator};
 use restricted_master::Pool;
 use std::alloc::Global;

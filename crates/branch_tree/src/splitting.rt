@@ -9,12 +9,11 @@ ghost use Rattle.dive_heuristic.specs.Divers.{IsDiverFor, IsDiverOf};
 ghost use Rattle.branch_marks.specs.inside.MarkTables.{AreMarksOf};
 ghost use Rattle.connection_net.specs.Net.{net_of};
 ghost use Rattle.tail_book.specs.CostTable.{IsTableFor};
-ghost use Rattle.branch_tree.specs.Target.{HasUsed, IsBest};
+ghost use Rattle.node_leaves.specs.Target.{HasUsed, IsBest};
 ghost use Rattle.branch_tree.specs.inside.Stepping.{IsEndFound};
 ghost use Rattle.branch_tree.specs.inside.Weighing.{IsOpen};
 
 use crate::Best;
-use crate::bounds::{bound_from, passes};
 use crate::choosing::chosen_pair;
 use crate::seeking::exchange_near;
 use crate::step::End;
@@ -23,6 +22,7 @@ use branch_marks::Marks;
 use branch_marks::laws::routes_of_weights_are_plan;
 use connection_net::Net;
 use dive_heuristic::{Dive, Diver};
+use node_leaves::{bound_from, passes};
 use std::alloc::Global;
 use tail_book::{Book, CostTable, Duals, Memory};
 

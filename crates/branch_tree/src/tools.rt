@@ -4,7 +4,7 @@
 ghost use Rattle.std.specs.Prelude.{IfOk};
 ghost use Rattle.tail_book.specs.CostTable.{IsTableFor};
 ghost use Rattle.dive_heuristic.specs.Divers.{IsFreeFor};
-ghost use Rattle.branch_tree.specs.inside.Leaf.{IsNodePricerOf};
+ghost use Rattle.node_leaves.specs.inside.Leaf.{IsNodePricerOf};
 
 use crate::NodePricer;
 use dive_heuristic::Diver;

@@ -4,15 +4,15 @@
 ghost use Rattle.std.specs.Prelude.{◌≡◌, ◌≤◌, ◌++◌, [], ◌∷◌, OnOk, OnErr, IsErrOf};
 ghost use Rattle.tail_book.specs.CostTable.{IsTableFor};
 ghost use Rattle.branch_marks.specs.TreeLog.{IsLater, WriteHasFailed};
-ghost use Rattle.branch_tree.specs.Node.{Ending, branches};
+ghost use Rattle.node_leaves.specs.Node.{Ending, branches};
 ghost use Rattle.branch_tree.specs.Step.{AnswersNode};
-ghost use Rattle.branch_tree.specs.Stops.{StopsIn};
+ghost use Rattle.node_leaves.specs.Stops.{StopsIn};
 ghost use Rattle.branch_tree.specs.inside.Searching.{IsPlace, IsStateFor, IsVisited};
 
-use crate::marks_again::marks_again;
 use crate::search_state::SearchState;
 use crate::{OpenNode, OpenNodes, Step, Stop, node_step_with};
 use branch_marks::{Fact, TreeLog};
+use node_leaves::marks_again;
 use std::alloc::Global;
 use tail_book::{Book, CostTable, Duals, Memory};
 

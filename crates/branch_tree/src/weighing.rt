@@ -5,17 +5,15 @@
 
 ghost use Rattle.std.specs.Prelude.{◌≤◌, IfOk};
 ghost use Rattle.branch_marks.specs.Settled.{AreDuals};
-ghost use Rattle.branch_tree.specs.Target.{IsBest};
-ghost use Rattle.branch_tree.specs.inside.Leaf.{IsReady};
+ghost use Rattle.node_leaves.specs.Target.{IsBest};
+ghost use Rattle.node_leaves.specs.inside.Leaf.{IsReady};
 ghost use Rattle.branch_tree.specs.inside.Weighing.{IsWeighed};
 
-use crate::bounds::passes;
-use crate::leaf::lagrangian_of;
 use crate::step::End;
-use crate::suggesting::cuts_of;
 use crate::{Best, NodePricer, PricedAll};
 use branch_marks::Marks;
 use connection_net::Net;
+use node_leaves::{cuts_of, lagrangian_of, passes};
 use restricted_master::Pool;
 use std::alloc::Global;
 use tail_book::laws::every_book_is_sound;

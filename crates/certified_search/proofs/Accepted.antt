@@ -21,7 +21,7 @@ use Rattle.branch_marks.specs.Events.{IsNotable}
 use Rattle.branch_marks.specs.ProofTree.{BoundsAtLeast, Tree}
 use Rattle.branch_marks.specs.declared.event.Event.{Event}
 use Rattle.branch_tree.specs.Laws.{SearchTreesAreBounded, ShownNodesAreTrees, claimed}
-use Rattle.branch_tree.specs.NodeEvents.{events_of}
+use Rattle.node_leaves.specs.NodeEvents.{events_of}
 use Rattle.branch_tree.specs.SearchTree.{IsSearchTree, SearchTree, nodes_of}
 use Rattle.branch_tree.specs.declared.limit.Limit.{Limit}
 use Rattle.cert_lines.specs.Grammar.{IsLine}

@@ -13,10 +13,10 @@ use Rattle.tail_outside.specs.Outside.{Adds, AddsFront}
 use Rattle.tail_outside.specs.Shown.{SinkShown}
 use Rattle.branch_marks.specs.TreeLog.{IsCut}
 use Rattle.branch_marks.specs.declared.event.Event.{Event}
-use Rattle.branch_tree.specs.Begun.{BegunTree, IsBegunTree}
-use Rattle.branch_tree.specs.Growth.{Grows}
-use Rattle.branch_tree.specs.NodeEvents.{begun_events, events_of}
-use Rattle.branch_tree.specs.Place.{root}
+use Rattle.node_leaves.specs.Begun.{BegunTree, IsBegunTree}
+use Rattle.node_leaves.specs.Growth.{Grows}
+use Rattle.node_leaves.specs.NodeEvents.{begun_events, events_of}
+use Rattle.node_leaves.specs.Place.{root}
 use Rattle.branch_tree.specs.SearchTree.{IsSearchTree, SearchTree, nodes_of}
 use Rattle.branch_tree.specs.declared.limit.Limit.{Limit}
 use Rattle.cert_lines.specs.declared.cert_line.CertLine.{CertLine}

@@ -8,7 +8,7 @@ use Rattle.tail_book.specs.CostTable.{costs_of}
 use Rattle.tail_book.specs.inside.Sound.{IsBook}
 use Rattle.branch_marks.specs.Events.{IsNotable}
 use Rattle.branch_marks.specs.declared.event.Event.{Event}
-use Rattle.branch_tree.specs.NodeEvents.{events_of}
+use Rattle.node_leaves.specs.NodeEvents.{events_of}
 use Rattle.branch_tree.specs.SearchTree.{SearchTree, nodes_of, IsSearchTree}
 use Rattle.branch_tree.specs.declared.limit.Limit.{Limit}
 use Rattle.cert_lines.specs.declared.cert_line.CertLine.{CertLine}

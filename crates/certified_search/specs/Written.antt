@@ -5,8 +5,8 @@ use Rattle.tail_book.specs.Truth.{claim_of}
 use Rattle.tail_book.specs.declared.outcome.Outcome.{Outcome}
 use Rattle.tail_book.specs.CostTable.{costs_of}
 use Rattle.tail_outside.specs.Shown.{SinkShown}
-use Rattle.branch_tree.specs.Begun.{BegunTree, IsBegunTree}
-use Rattle.branch_tree.specs.NodeEvents.{begun_events, events_of}
+use Rattle.node_leaves.specs.Begun.{BegunTree, IsBegunTree}
+use Rattle.node_leaves.specs.NodeEvents.{begun_events, events_of}
 use Rattle.branch_tree.specs.SearchTree.{SearchTree, nodes_of, IsSearchTree}
 use Rattle.branch_tree.specs.declared.limit.Limit.{Limit}
 use Rattle.cert_lines.specs.declared.cert_line.CertLine.TheVariants as line

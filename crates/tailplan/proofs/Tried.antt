@@ -11,7 +11,7 @@ use Rattle.tail_outside.proofs.OutsideLemmas.{TakesFront-whole}
 use Rattle.tail_outside.specs.Outside.{Takes}
 use Rattle.tail_outside.specs.Shown.{SinkShown}
 use Rattle.branch_tree.specs.declared.limit.Limit.TheVariants.{Nodes}
-use Rattle.branch_tree.specs.declared.stop.Stop.{Stop}
+use Rattle.node_leaves.specs.declared.stop.Stop.{Stop}
 use Rattle.cert_checker.specs.Certificate.{Accepts}
 use Rattle.cert_checker.specs.Verdict.{AcceptedIsYes, verdict}
 use Rattle.cert_checker.specs.declared.verdict.Verdict.{Verdict}

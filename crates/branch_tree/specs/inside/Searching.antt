@@ -1,13 +1,11 @@
 -- Inside a search: what it keeps between two nodes, what holds of its open places, how much they can still grow to, and what its
 -- two passes leave.
-use Rattle.std.specs.Prelude.{◌≡◌, ◌⊎◌, ◌+◌, ◌<◌, ◌≤◌, ⊤, ℕ, zero, suc, List, [], ◌∷◌, ◌++◌, length, Contains, Option, Some, None}
+use Rattle.std.specs.Prelude.{◌≡◌, ◌⊎◌, ◌+◌, ◌<◌, ◌≤◌, ⊤, ℕ, zero, suc, List, [], ◌∷◌, ◌++◌, length, Option, Some, None}
 use Rattle.tail_book.specs.Seen.{BookSeen}
 use Rattle.tail_book.specs.TableSeen.{CostTableSeen}
 use Rattle.tail_book.specs.declared.outcome.Outcome.{Outcome}
 use Rattle.tail_book.specs.declared.outcome.Outcome.TheVariants.{Optimal, Infeasible, Between, Above}
 use Rattle.connection_net.specs.Net.{net_of}
-use Rattle.branch_marks.specs.declared.fact.Fact.{Fact}
-use Rattle.branch_marks.specs.Facts.{IsFactOf}
 use Rattle.branch_marks.specs.LogShown.{LogShown}
 use Rattle.branch_marks.specs.Settled.{AreDuals}
 use Rattle.branch_marks.specs.TreeLog.{Notes}
@@ -18,14 +16,15 @@ use Rattle.branch_tree.specs.declared.limit.Limit.TheVariants.{Free, Nodes}
 use Rattle.branch_tree.specs.declared.search_state.SearchState.{SearchState}
 use Rattle.branch_tree.specs.Closing.{IsClosing, IsLowest}
 use Rattle.branch_tree.specs.Counted.{IsCounted}
-use Rattle.branch_tree.specs.Growth.{Grows}
-use Rattle.branch_tree.specs.Node.{Node, branches, closed_marks}
-use Rattle.branch_tree.specs.NodeEvents.{events_of, node_events}
-use Rattle.branch_tree.specs.Place.{Open, root}
+use Rattle.node_leaves.specs.Growth.{Grows}
+use Rattle.node_leaves.specs.Node.{Node, branches, closed_marks}
+use Rattle.node_leaves.specs.NodeEvents.{events_of, node_events}
+use Rattle.node_leaves.specs.Place.{Open, root}
 use Rattle.branch_tree.specs.SearchTree.{HasReached}
 use Rattle.branch_tree.specs.Step.{IsLegalPool}
-use Rattle.branch_tree.specs.Target.{no_target, IsBest, FallsTo}
-use Rattle.branch_tree.specs.inside.Leaf.{IsNodePricerOf}
+use Rattle.node_leaves.specs.Target.{no_target, IsBest, FallsTo}
+use Rattle.node_leaves.specs.inside.Leaf.{IsNodePricerOf}
+use Rattle.node_leaves.specs.inside.NewFacts.{AreNewFacts}
 
 -- what is kept is of the book and the table: its network, a pool of legal routes, the best plan so far, a pricer, and a diver
 pub record IsStateFor (table : CostTableSeen) (book : BookSeen) (state : SearchState) : Type 0 where
@@ -34,11 +33,6 @@ pub record IsStateFor (table : CostTableSeen) (book : BookSeen) (state : SearchS
   pub best : IsBest table book state.best.plan state.best.target
   pub prices : IsNodePricerOf table book state.tools.prices
   pub diver : IsDiverOf book table state.tools.diver
-
--- the facts are of the book, none is among the marks, and none stands twice
-abbrev pub AreNewFacts : BookSeen → List Fact → List Fact → Type 0
-AreNewFacts book marks [] = ⊤
-AreNewFacts book marks (fact ∷ facts) = IsFactOf book fact × (¬ Contains marks fact) × AreNewFacts book (marks ++ fact ∷ []) facts
 
 -- a place that a search may open: marks can be made of its facts, and its duals are in the box
 pub record IsPlace (table : CostTableSeen) (book : BookSeen) (here : Open) : Type 0 where

@@ -1,5 +1,5 @@
 -- Inside a step on a node: its tools, its pool, the end that is found, and what was told when it stopped.
-use Rattle.std.specs.Prelude.{◌≡◌, ℕ, ℤ, ◌<◌, List, ◌++◌, All}
+use Rattle.std.specs.Prelude.{◌≡◌, ℕ, ℤ, ◌<◌, List, ◌++◌}
 use Rattle.tail_book.specs.Seen.{BookSeen}
 use Rattle.tail_book.specs.TableSeen.{CostTableSeen}
 use Rattle.tail_book.specs.Lookup.{aircraft}
@@ -10,31 +10,23 @@ use Rattle.branch_marks.specs.DeadEnds.{IsStuck}
 use Rattle.branch_marks.specs.Following.{FollowInTurn}
 use Rattle.branch_marks.specs.LogShown.{LogShown}
 use Rattle.branch_marks.specs.MarksSeen.{MarksSeen}
-use Rattle.branch_marks.specs.Pool.{IsFittingEntry}
 use Rattle.branch_marks.specs.TreeLog.{Notes, NotesFront}
-use Rattle.restricted_master.specs.Pool.{IsPoolFor}
-use Rattle.restricted_master.specs.Seen.{PoolSeen}
 use Rattle.dive_heuristic.specs.Divers.{IsDiverFor}
 use Rattle.branch_tree.specs.declared.step.End.{End}
 use Rattle.branch_tree.specs.declared.step.End.TheVariants as end
 use Rattle.branch_tree.specs.declared.step.Step.{Step}
 use Rattle.branch_tree.specs.declared.tools.NodeTools.{NodeTools}
 use Rattle.branch_tree.specs.Counted.{IsEndOf}
-use Rattle.branch_tree.specs.Node.{Ending, IsShownEnding}
-use Rattle.branch_tree.specs.NodeEvents.{step_events, ending_events}
+use Rattle.node_leaves.specs.Node.{Ending, IsShownEnding}
+use Rattle.node_leaves.specs.NodeEvents.{step_events, ending_events}
 use Rattle.branch_tree.specs.Step.{IsTrueSplit, AnswersNode}
-use Rattle.branch_tree.specs.Target.{Passes}
-use Rattle.branch_tree.specs.inside.Leaf.{IsReady}
+use Rattle.node_leaves.specs.Target.{Passes}
+use Rattle.node_leaves.specs.inside.Leaf.{IsReady}
 
 -- the tools are of the book, and right for these marks
 pub record AreToolsFor (table : CostTableSeen) (book : BookSeen) (net : NetSeen) (marks : MarksSeen) (tools : NodeTools) : Type 0 where
   pub prices : IsReady table book net marks tools.prices
   pub diver : IsDiverFor book table marks.facts tools.diver
-
--- a pool of the book, each route of which is legal for its aircraft and fits the marks
-pub record IsFittingPool (table : CostTableSeen) (book : BookSeen) (marks : List Fact) (pool : PoolSeen) : Type 0 where
-  pub of_book : IsPoolFor table book pool
-  pub fitting : All (IsFittingEntry book marks) pool.entries
 
 -- the end is right under these marks for the duals and the target
 abbrev pub IsEndFound : CostTableSeen → BookSeen → List Fact → List ℤ → ℕ → End → Type 0

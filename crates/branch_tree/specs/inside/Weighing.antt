@@ -10,7 +10,7 @@ use Rattle.branch_marks.specs.Settled.{AreRoutesOfWeights}
 use Rattle.branch_tree.specs.declared.weighing.LeastRoutes.{LeastRoutes}
 use Rattle.branch_tree.specs.declared.weighing.Weighed.{Weighed}
 use Rattle.branch_tree.specs.declared.weighing.Weighed.TheVariants as weighed
-use Rattle.branch_tree.specs.Target.{Passes}
+use Rattle.node_leaves.specs.Target.{Passes}
 use Rattle.branch_tree.specs.inside.Stepping.{IsEndFound}
 
 -- where the routes are a legal plan, the target is at most its cost

@@ -2,8 +2,8 @@
 use Rattle.std.specs.Prelude.{ℕ, ◌≡◌, length}
 use Rattle.branch_marks.specs.declared.tree_log.LogFail.{LogFail}
 use Rattle.branch_marks.specs.declared.tree_log.LogFail.TheVariants as fail
-use Rattle.branch_tree.specs.declared.stop.Stop.{Stop}
-use Rattle.branch_tree.specs.declared.stop.Stop.TheVariants as stop
+use Rattle.node_leaves.specs.declared.stop.Stop.{Stop}
+use Rattle.node_leaves.specs.declared.stop.Stop.TheVariants as stop
 use Rattle.tail_book.specs.Lookup.{activities, aircraft}
 use Rattle.tail_book.specs.Seen.{BookSeen}
 

@@ -1,7 +1,7 @@
 use Rattle.std.proofs.Common.{List}
 use Rattle.branch_marks.specs.declared.fact.Fact.{Fact}
 use Rattle.branch_tree.specs.inside.Pooling.{AreFittingRoutes, HasAll, HasGrown}
-use Rattle.branch_tree.specs.inside.Stepping.{IsFittingPool}
+use Rattle.node_leaves.specs.inside.FittingPool.{IsFittingPool}
 use Rattle.branch_tree.proofs.adding.add_routes.Given as goal
 
 -- the routes so far are in the pool

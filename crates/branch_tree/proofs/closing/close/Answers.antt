@@ -2,14 +2,14 @@ use Rattle.std.proofs.Common.{List, [], ◌∷◌, ◌++◌, refl, rules, sym, s
 use Rattle.branch_marks.specs.declared.event.Event.{Event}
 use Rattle.branch_marks.specs.TreeLog.{Notes}
 use Rattle.branch_tree.specs.Closing.{IsClosing}
-use Rattle.branch_tree.specs.Node.{IsShownNode, closed_marks}
-use Rattle.branch_tree.specs.NodeEvents.{events_of, node_events}
-use Rattle.branch_tree.specs.Place.{Open}
-use Rattle.branch_tree.specs.Stops.{StopsIn}
+use Rattle.node_leaves.specs.Node.{IsShownNode, closed_marks}
+use Rattle.node_leaves.specs.NodeEvents.{events_of, node_events}
+use Rattle.node_leaves.specs.Place.{Open}
+use Rattle.node_leaves.specs.Stops.{StopsIn}
 use Rattle.branch_tree.specs.inside.Searching.{ArePlaces}
-use Rattle.branch_tree.proofs.Cuts.{later_none, later_then, notes_none, notes_then}
+use Rattle.node_leaves.proofs.Cuts.{later_none, later_then, notes_none, notes_then}
 use Rattle.branch_tree.proofs.LeastLeft.{no_nodes, priced_alone}
-use Rattle.branch_tree.proofs.Runs.{grows_none, grows_more, grows_weaker, events_none, events_push}
+use Rattle.node_leaves.proofs.Runs.{grows_none, grows_more, grows_weaker, events_none, events_push}
 use Rattle.branch_tree.proofs.Stopping.{stops_before, stops_then}
 use Rattle.branch_tree.proofs.closing.close.Goals as goal
 

@@ -1,5 +1,5 @@
 use Rattle.std.proofs.Common.{◌∙◌, [], ◌∷◌}
-use Rattle.branch_tree.specs.Place.{Open}
+use Rattle.node_leaves.specs.Place.{Open}
 use Rattle.branch_tree.proofs.OneMore.{closing_of, same_place}
 use Rattle.branch_tree.proofs.Stopping.{stops_first}
 use Rattle.branch_tree.proofs.closing.close_one.Goals as goal

@@ -1,9 +1,9 @@
 use Rattle.std.proofs.Common.{◌≡◌, ◌∙◌, ℤ, List, map, refl, sym, subst}
 use Rattle.branch_marks.specs.Bound.{AreLeastWeights, lagrangian, bound_of}
 use Rattle.branch_tree.specs.declared.step.End.{End}
-use Rattle.branch_tree.specs.Node.{Stuck, Bounded, Split}
-use Rattle.branch_tree.specs.Target.{Passes}
-use Rattle.branch_tree.specs.inside.Leaf.{Whole}
+use Rattle.node_leaves.specs.Node.{Stuck, Bounded, Split}
+use Rattle.node_leaves.specs.Target.{Passes}
+use Rattle.node_leaves.specs.inside.Leaf.{Whole}
 use Rattle.branch_tree.specs.inside.Stepping.{IsEndFound}
 use Rattle.branch_tree.proofs.ending.note_end.Goals as goal
 

@@ -2,18 +2,18 @@ use Rattle.std.proofs.Common.{◌≡◌, false, ◌≤◌, inl, inr, ℕ, List, 
 use Rattle.branch_marks.specs.declared.event.Event.{Event}
 use Rattle.branch_marks.specs.TreeLog.{Notes}
 use Rattle.branch_tree.specs.Counted.{IsCounted}
-use Rattle.branch_tree.specs.Growth.{Grows}
-use Rattle.branch_tree.specs.Node.{IsShownNode}
-use Rattle.branch_tree.specs.NodeEvents.{events_of, node_events}
-use Rattle.branch_tree.specs.Place.{Open, root}
-use Rattle.branch_tree.specs.Stops.{StopsIn}
-use Rattle.branch_tree.specs.Target.{no_target, FallsTo}
+use Rattle.node_leaves.specs.Growth.{Grows}
+use Rattle.node_leaves.specs.Node.{IsShownNode}
+use Rattle.node_leaves.specs.NodeEvents.{events_of, node_events}
+use Rattle.node_leaves.specs.Place.{Open, root}
+use Rattle.node_leaves.specs.Stops.{StopsIn}
+use Rattle.node_leaves.specs.Target.{no_target, FallsTo}
 use Rattle.branch_tree.specs.inside.Searching.{Counts}
-use Rattle.branch_tree.proofs.Cuts.{later_none, later_then, notes_none, notes_then}
+use Rattle.node_leaves.proofs.Cuts.{later_none, later_then, notes_none, notes_then}
 use Rattle.branch_tree.proofs.LeastLeft.{none_counted, stopped_there}
 use Rattle.branch_tree.proofs.OpenPlaces.{first_is, left_are}
 use Rattle.branch_tree.proofs.Room.{lighter}
-use Rattle.branch_tree.proofs.Runs.{grows_none, grows_more, grows_weaker, falls_none, falls_more, events_none, events_push}
+use Rattle.node_leaves.proofs.Runs.{grows_none, grows_more, grows_weaker, falls_none, falls_more, events_none, events_push}
 use Rattle.branch_tree.proofs.Stopping.{stops_before, stops_then}
 use Rattle.branch_tree.proofs.growing.grow.Goals as goal
 

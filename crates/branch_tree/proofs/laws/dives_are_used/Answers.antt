@@ -1,6 +1,6 @@
 use Rattle.std.proofs.Common.{[], ◌∷◌}
-use Rattle.branch_tree.specs.Place.{root}
-use Rattle.branch_tree.specs.Target.{no_target}
+use Rattle.node_leaves.specs.Place.{root}
+use Rattle.node_leaves.specs.Target.{no_target}
 use Rattle.branch_tree.proofs.UsedDives.{counted_used}
 use Rattle.branch_tree.proofs.laws.dives_are_used.Goals as goal
 

@@ -1,9 +1,9 @@
 use Rattle.std.proofs.Common.{[], ◌∷◌}
-use Rattle.branch_tree.specs.Place.{root}
-use Rattle.branch_tree.specs.Node.{IsShownNode}
+use Rattle.node_leaves.specs.Place.{root}
+use Rattle.node_leaves.specs.Node.{IsShownNode}
 use Rattle.branch_tree.specs.Counted.{IsCounted}
 use Rattle.branch_tree.specs.Closing.{IsClosing}
-use Rattle.branch_tree.proofs.Runs.{grows_then, grows_weaker}
+use Rattle.node_leaves.proofs.Runs.{grows_then, grows_weaker}
 use Rattle.branch_tree.proofs.laws.search_trees_are_shown.Goals as goal
 
 -- the counted nodes lead to the places that the closing ones take

@@ -1,4 +1,4 @@
-use Rattle.branch_tree.specs.Place.{root}
+use Rattle.node_leaves.specs.Place.{root}
 use Rattle.branch_tree.proofs.Forest.{one_tree}
 use Rattle.branch_tree.proofs.laws.shown_nodes_are_trees.Goals as goal
 

@@ -1,5 +1,5 @@
-use Rattle.branch_tree.proofs.Cuts.{front_whole, notes_none}
-use Rattle.branch_tree.proofs.LeafStops.{untold_stops}
+use Rattle.node_leaves.proofs.Cuts.{front_whole, notes_none}
+use Rattle.node_leaves.proofs.LeafStops.{untold_stops}
 use Rattle.branch_tree.proofs.node.node_step.Goals as goal
 
 -- nothing was told

@@ -1,10 +1,10 @@
 use Rattle.std.proofs.Common.{rules, refl, subst}
 use Rattle.propagator.specs.declared.hole.Closed.{Closed}
 use Rattle.propagator.specs.Closed.{IsClosedAt}
-use Rattle.branch_tree.specs.Node.{Hole}
-use Rattle.branch_tree.specs.Place.{Open}
+use Rattle.node_leaves.specs.Node.{Hole}
+use Rattle.node_leaves.specs.Place.{Open}
 use Rattle.branch_tree.specs.declared.step.Step.TheVariants as step
-use Rattle.branch_tree.specs.inside.Leaf.{Whole}
+use Rattle.node_leaves.specs.inside.Leaf.{Whole}
 use Rattle.branch_tree.proofs.Holes.{hole_is, no_hole_unless}
 use Rattle.branch_tree.proofs.NodeStops.{end_stops, shut_stops, steps_stop}
 use Rattle.branch_tree.proofs.Visits.{visited}

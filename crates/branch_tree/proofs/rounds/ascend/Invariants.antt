@@ -1,8 +1,8 @@
 use Rattle.std.proofs.Common.{◌≤◌}
 use Rattle.branch_marks.specs.Settled.{AreDuals}
-use Rattle.branch_tree.specs.Target.{IsBest}
-use Rattle.branch_tree.specs.inside.Leaf.{IsReady}
-use Rattle.branch_tree.specs.inside.Stepping.{IsFittingPool}
+use Rattle.node_leaves.specs.Target.{IsBest}
+use Rattle.node_leaves.specs.inside.Leaf.{IsReady}
+use Rattle.node_leaves.specs.inside.FittingPool.{IsFittingPool}
 use Rattle.branch_tree.proofs.rounds.ascend.Given as goal
 
 -- duals and the center of the ascent stay in the box, and the pool fits

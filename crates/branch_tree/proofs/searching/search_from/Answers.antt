@@ -1,15 +1,15 @@
 use Rattle.std.proofs.Common.{◌≡◌, List, [], ◌∷◌, sym, subst}
 use Rattle.branch_marks.specs.declared.event.Event.{Event}
 use Rattle.branch_marks.specs.TreeLog.{Notes}
-use Rattle.branch_tree.specs.declared.best.Best.{Best}
+use Rattle.node_leaves.specs.declared.best.Best.{Best}
 use Rattle.branch_tree.specs.Counted.{IsCounted}
-use Rattle.branch_tree.specs.Node.{IsShownNode}
-use Rattle.branch_tree.specs.NodeEvents.{events_of}
-use Rattle.branch_tree.specs.Place.{root}
+use Rattle.node_leaves.specs.Node.{IsShownNode}
+use Rattle.node_leaves.specs.NodeEvents.{events_of}
+use Rattle.node_leaves.specs.Place.{root}
 use Rattle.branch_tree.specs.inside.Searching.{outcome_for}
-use Rattle.branch_tree.proofs.Cuts.{notes_then}
+use Rattle.node_leaves.proofs.Cuts.{notes_then}
 use Rattle.branch_tree.proofs.LeastLeft.{ends_under, search_tree}
-use Rattle.branch_tree.proofs.Runs.{grows_weaker, events_then}
+use Rattle.node_leaves.proofs.Runs.{grows_weaker, events_then}
 use Rattle.branch_tree.proofs.Starts.{outcome_within}
 use Rattle.branch_tree.proofs.Stopping.{stops_first, stops_then}
 use Rattle.branch_tree.proofs.searching.search_from.Goals as goal

@@ -1,7 +1,7 @@
 use Rattle.std.proofs.Common.{◌≡◌, ◌∙◌, [], ◌∷◌, ◌++◌, List, subst}
 use Rattle.branch_marks.specs.declared.fact.Fact.{Fact}
-use Rattle.branch_tree.specs.Node.{branches}
-use Rattle.branch_tree.specs.Place.{Open}
+use Rattle.node_leaves.specs.Node.{branches}
+use Rattle.node_leaves.specs.Place.{Open}
 use Rattle.branch_tree.proofs.OneMore.{place_stops, same_place, visit_of, visit_stops}
 use Rattle.branch_tree.proofs.Stopping.{stops_first}
 use Rattle.branch_tree.proofs.visiting.visit.Goals as goal

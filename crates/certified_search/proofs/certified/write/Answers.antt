@@ -1,9 +1,9 @@
 use Rattle.std.proofs.Common.{◌∙◌, ◌++◌, ℕ, [], ◌∷◌, subst}
 use Rattle.tail_book.specs.TableSeen.{CostTableSeen}
 use Rattle.tail_outside.specs.Outside.{Adds, AddsFront}
-use Rattle.branch_tree.specs.Begun.{IsBegunFrom}
-use Rattle.branch_tree.specs.NodeEvents.{events_of}
-use Rattle.branch_tree.specs.Place.{root}
+use Rattle.node_leaves.specs.Begun.{IsBegunFrom}
+use Rattle.node_leaves.specs.NodeEvents.{events_of}
+use Rattle.node_leaves.specs.Place.{root}
 use Rattle.branch_tree.specs.SearchTree.{IsSearchTree, nodes_of}
 use Rattle.cert_lines.specs.declared.cert_line.CertLine.{CertLine}
 use Rattle.cert_lines.specs.declared.cert_line.CertLine.TheVariants as line

@@ -4,7 +4,7 @@ use Rattle.tail_book.specs.declared.outcome.Outcome.{Outcome}
 use Rattle.tail_book.specs.CostTable.{costs_of}
 use Rattle.tail_outside.specs.inside.OverFile.{shown_over}
 use Rattle.branch_tree.specs.SearchTree.{IsSearchTree, SearchTree}
-use Rattle.branch_tree.specs.declared.stop.Stop.{Stop}
+use Rattle.node_leaves.specs.declared.stop.Stop.{Stop}
 use Rattle.certified_search.specs.Written.{IsCertificateOf, LeavesText}
 use Rattle.tailplan.proofs.Holding.{certificate_front, held_by}
 use Rattle.tailplan.proofs.planning.certified.Goals as goal

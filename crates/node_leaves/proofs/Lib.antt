@@ -1,0 +1,10 @@
+pub mod Runs
+pub mod Cuts
+pub mod Lists
+pub mod PricedLabels
+pub mod Countings
+pub mod SpelledLabels
+pub mod LineValues
+pub mod Values
+pub mod FirstCovers
+pub mod LeafStops

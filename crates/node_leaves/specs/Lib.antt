@@ -1,0 +1,9 @@
+pub mod Place
+pub mod Node
+pub mod Growth
+pub mod Begun
+pub mod NodeEvents
+pub mod Target
+pub mod Priced
+pub mod Stops
+pub mod inside

@@ -1,0 +1,29 @@
+//! What shows that a node is done: the nodes of a search tree with their events, and their leaves, priced under duals and told with
+//! what shows them.
+#![tactic(auto)]
+
+mod best;
+mod bounds;
+mod covers;
+pub mod laws;
+mod leaf;
+mod listing;
+mod node_pricer;
+mod remaking;
+mod root_duals;
+mod shortage;
+mod stop;
+mod suggesting;
+mod telling;
+
+pub use best::Best;
+pub use bounds::{bound_below, bound_from, passes};
+pub use covers::{note_bounded, note_stuck};
+pub use leaf::{PricedLeaf, lagrangian_of, price_leaf};
+pub use node_pricer::{NodePricer, PricedAll};
+pub use remaking::marks_again;
+pub use root_duals::first_duals;
+pub use shortage::shortage_duals;
+pub use stop::Stop;
+pub use suggesting::{add_all_suggestions, cuts_of};
+pub use telling::{note_all, note_one, note_steps};
