@@ -4,6 +4,7 @@ mod asks;
 mod books;
 mod dives;
 mod finds;
+mod labels;
 mod prices;
 mod questions;
 mod routes;

@@ -216,53 +216,65 @@ fn has_floors(
     Ok(floors_text(alloc, &book, fact, k)?.as_str() == want)
 }
 
-// Back comes who flew the long flight with 120 minutes, and who flew the short one with two landings: the floor has the
-// lesser of both. Without the short flight, or the link from it, or where the long one must be flown, 120 are left.
-// With a Tie from the long one only that comes back; the other aircraft then comes nowhere.
+// The floors where the short flight counts, and where it does not.
+const ALL: &str = "[60, 0] [30, 1] [90, 1] [40, 1] ";
+
+const FEWER: &str = "[60, 0] [30, 1] [120, 1] [40, 1] ";
+
+// The minutes of a stop that clears, a fact, an aircraft, and its floors.
+const FLOORS: &[(i64, Option<Fact>, u32, &str)] = &[
+    // Back comes who flew the long flight with 120 minutes, and who flew the short one with two landings: the floor has
+    // the lesser of both. Without the short flight, or the link from it, or where the long one must be flown, 120 are
+    // left. With a Tie from the long one only that comes back; the other aircraft then comes nowhere.
+    (60, None, 0, ALL),
+    (60, None, 1, "- - [110, 4] [40, 5] "),
+    (
+        60,
+        Some(Fact::Bar(0, SHORT)),
+        0,
+        "[60, 0] - [120, 1] [40, 1] ",
+    ),
+    (60, Some(Fact::Bar(0, SHORT)), 1, "- - [110, 4] [40, 5] "),
+    (
+        60,
+        Some(Fact::Bar(0, BACK)),
+        0,
+        "[60, 0] [30, 1] - [40, 1] ",
+    ),
+    (60, Some(Fact::Cut(SHORT, BACK)), 0, FEWER),
+    (
+        60,
+        Some(Fact::Must(0, LONG)),
+        0,
+        "[60, 0] - [120, 1] [40, 2] ",
+    ),
+    (60, Some(Fact::Must(0, AGAIN)), 0, ALL),
+    (60, Some(Fact::Must(0, AGAIN)), 1, "- - [110, 4] - "),
+    (60, Some(Fact::Tie(LONG, BACK)), 0, FEWER),
+    (60, Some(Fact::Tie(LONG, BACK)), 1, "- - - - "),
+    // The stop before the last flight is an hour: just long enough, as in the second row, or a minute too short.
+    (61, None, 1, "- - [110, 4] - "),
+    (
+        60,
+        Some(Fact::Must(0, BACK)),
+        0,
+        "[60, 0] [30, 1] [90, 1] [40, 2] ",
+    ),
+    (
+        61,
+        Some(Fact::Must(0, BACK)),
+        0,
+        "[60, 0] [30, 1] [90, 1] - ",
+    ),
+];
+
 #[test]
 fn floors_under_facts(rt: HostRuntime) -> Result<(), Fail> {
-    let (all, fewer) = (
-        "[60, 0] [30, 1] [90, 1] [40, 1] ",
-        "[60, 0] [30, 1] [120, 1] [40, 1] ",
-    );
-    for &(fact, k, want) in &[
-        (None, 0, all),
-        (None, 1, "- - [110, 4] [40, 5] "),
-        (Some(Fact::Bar(0, SHORT)), 0, "[60, 0] - [120, 1] [40, 1] "),
-        (Some(Fact::Bar(0, SHORT)), 1, "- - [110, 4] [40, 5] "),
-        (Some(Fact::Bar(0, BACK)), 0, "[60, 0] [30, 1] - [40, 1] "),
-        (Some(Fact::Cut(SHORT, BACK)), 0, fewer),
-        (Some(Fact::Must(0, LONG)), 0, "[60, 0] - [120, 1] [40, 2] "),
-        (Some(Fact::Must(0, AGAIN)), 0, all),
-        (Some(Fact::Must(0, AGAIN)), 1, "- - [110, 4] - "),
-        (Some(Fact::Tie(LONG, BACK)), 0, fewer),
-        (Some(Fact::Tie(LONG, BACK)), 1, "- - - - "),
-    ] {
-        assert!(rt; has_floors(rt.alloc(), 60, fact, k, want)?);
-    }
-    Ok(())
-}
-
-// The stop before the last flight is an hour: just long enough, or a minute too short.
-#[test]
-fn stops_clear_floors(rt: HostRuntime) -> Result<(), Fail> {
-    for &(stop, fact, k, want) in &[
-        (60, None, 1, "- - [110, 4] [40, 5] "),
-        (61, None, 1, "- - [110, 4] - "),
-        (
-            60,
-            Some(Fact::Must(0, BACK)),
-            0,
-            "[60, 0] [30, 1] [90, 1] [40, 2] ",
-        ),
-        (
-            61,
-            Some(Fact::Must(0, BACK)),
-            0,
-            "[60, 0] [30, 1] [90, 1] - ",
-        ),
-    ] {
-        assert!(rt; has_floors(rt.alloc(), stop, fact, k, want)?);
+    for &(stop, fact, k, want) in FLOORS {
+        assert!(rt;
+            has_floors(rt.alloc(), stop, fact, k, want)?,
+            "{stop} {fact:?} {k}"
+        );
     }
     Ok(())
 }

@@ -160,240 +160,212 @@ fn is_right(alloc: Global, book: &Book, row: &Row) -> Result<bool, Memory> {
 }
 
 // The number of the first row that is answered otherwise.
-fn first_wrong(alloc: Global, rows: &[Row]) -> Result<Option<usize>, Fail> {
-    let book = book(alloc)?;
+fn first_wrong_in(alloc: Global, book: &Book, rows: &[Row]) -> Result<Option<usize>, Memory> {
     for (number, row) in rows.iter().enumerate() {
-        if !is_right(alloc, &book, row)? {
+        if !is_right(alloc, book, row)? {
             return Ok(Some(number));
         }
     }
     Ok(None)
 }
 
-// Who may fly an activity, after each kind of fact.
-#[test]
-fn alive_by_fact(rt: HostRuntime) -> Result<(), Fail> {
-    let wrong = first_wrong(
-        rt.alloc(),
-        &[
-            (&[Fact::Bar(0, 1)], Question::Alive(0, 1), false),
-            (&[Fact::Bar(0, 1)], Question::Alive(1, 1), true),
-            (&[Fact::Bar(0, 1)], Question::Alive(0, 2), true),
-            (&[Fact::Must(0, 1)], Question::Alive(0, 1), true),
-            (&[Fact::Must(0, 1)], Question::Alive(1, 1), false),
-            (&[Fact::Must(0, 1)], Question::Alive(1, 0), true),
-            (&[Fact::Must(1, 1)], Question::Alive(0, 1), false),
-            (&[Fact::Cut(0, 1)], Question::Alive(0, 1), true),
-            (&[Fact::Tie(0, 1)], Question::Alive(1, 1), true),
-        ],
-    )?;
-    assert!(rt; wrong.is_none(), "row {wrong:?}");
-    Ok(())
+fn first_wrong(alloc: Global, rows: &[Row]) -> Result<Option<usize>, Fail> {
+    let book = book(alloc)?;
+    Ok(first_wrong_in(alloc, &book, rows)?)
 }
+
+// Who may fly an activity, after each kind of fact.
+const ALIVE: &[Row] = &[
+    (&[Fact::Bar(0, 1)], Question::Alive(0, 1), false),
+    (&[Fact::Bar(0, 1)], Question::Alive(1, 1), true),
+    (&[Fact::Bar(0, 1)], Question::Alive(0, 2), true),
+    (&[Fact::Must(0, 1)], Question::Alive(0, 1), true),
+    (&[Fact::Must(0, 1)], Question::Alive(1, 1), false),
+    (&[Fact::Must(0, 1)], Question::Alive(1, 0), true),
+    (&[Fact::Must(1, 1)], Question::Alive(0, 1), false),
+    (&[Fact::Cut(0, 1)], Question::Alive(0, 1), true),
+    (&[Fact::Tie(0, 1)], Question::Alive(1, 1), true),
+];
 
 // Links after each kind of fact: a Must strictly between, a Must of the first activity before the carry-in's link, a
 // Cut of this link and of another, and a Tie looked at from both ends.
-#[test]
-fn usable_by_fact(rt: HostRuntime) -> Result<(), Fail> {
-    let wrong = first_wrong(
-        rt.alloc(),
-        &[
-            (
-                &[Fact::Bar(0, 1)],
-                Question::Usable(0, Place::After(0), 1),
-                false,
-            ),
-            (
-                &[Fact::Bar(0, 1)],
-                Question::Usable(0, Place::After(1), 2),
-                false,
-            ),
-            (
-                &[Fact::Bar(0, 1)],
-                Question::Usable(1, Place::After(0), 1),
-                true,
-            ),
-            (
-                &[Fact::Bar(0, 1)],
-                Question::Usable(0, Place::After(0), 3),
-                true,
-            ),
-            (
-                &[Fact::Must(0, 1)],
-                Question::Usable(0, Place::After(0), 1),
-                true,
-            ),
-            (
-                &[Fact::Must(0, 1)],
-                Question::Usable(0, Place::After(1), 2),
-                true,
-            ),
-            (
-                &[Fact::Must(0, 1)],
-                Question::Usable(0, Place::After(0), 3),
-                false,
-            ),
-            (
-                &[Fact::Must(0, 1)],
-                Question::Usable(0, Place::Carry, 2),
-                false,
-            ),
-            (
-                &[Fact::Must(0, 1)],
-                Question::Usable(1, Place::After(0), 3),
-                true,
-            ),
-            (
-                &[Fact::Must(0, 1)],
-                Question::Usable(1, Place::After(0), 1),
-                false,
-            ),
-            (
-                &[Fact::Must(0, 0)],
-                Question::Usable(0, Place::Carry, 0),
-                true,
-            ),
-            (
-                &[Fact::Must(0, 0)],
-                Question::Usable(0, Place::Carry, 2),
-                false,
-            ),
-            (
-                &[Fact::Must(0, 0)],
-                Question::Usable(0, Place::After(0), 1),
-                true,
-            ),
-            (
-                &[Fact::Cut(0, 1)],
-                Question::Usable(0, Place::After(0), 1),
-                false,
-            ),
-            (
-                &[Fact::Cut(0, 1)],
-                Question::Usable(1, Place::After(0), 1),
-                false,
-            ),
-            (
-                &[Fact::Cut(0, 1)],
-                Question::Usable(0, Place::After(0), 3),
-                true,
-            ),
-            (
-                &[Fact::Cut(1, 0)],
-                Question::Usable(0, Place::After(0), 1),
-                true,
-            ),
-            (
-                &[Fact::Cut(0, 1)],
-                Question::Usable(0, Place::Carry, 0),
-                true,
-            ),
-            (
-                &[Fact::Tie(0, 3)],
-                Question::Usable(0, Place::After(0), 3),
-                true,
-            ),
-            (
-                &[Fact::Tie(0, 3)],
-                Question::Usable(0, Place::After(0), 1),
-                false,
-            ),
-            (
-                &[Fact::Tie(0, 3)],
-                Question::Usable(0, Place::After(2), 3),
-                false,
-            ),
-            (
-                &[Fact::Tie(0, 3)],
-                Question::Usable(0, Place::After(1), 2),
-                true,
-            ),
-            (
-                &[Fact::Tie(1, 2)],
-                Question::Usable(0, Place::Carry, 2),
-                false,
-            ),
-            (
-                &[Fact::Tie(1, 2)],
-                Question::Usable(0, Place::Carry, 0),
-                true,
-            ),
-            (
-                &[Fact::Tie(1, 2)],
-                Question::Usable(1, Place::After(1), 4),
-                false,
-            ),
-            (
-                &[Fact::Cut(4, 4)],
-                Question::Usable(0, Place::After(1), 0),
-                false,
-            ),
-        ],
-    )?;
-    assert!(rt; wrong.is_none(), "row {wrong:?}");
-    Ok(())
-}
+const USABLE: &[Row] = &[
+    (
+        &[Fact::Bar(0, 1)],
+        Question::Usable(0, Place::After(0), 1),
+        false,
+    ),
+    (
+        &[Fact::Bar(0, 1)],
+        Question::Usable(0, Place::After(1), 2),
+        false,
+    ),
+    (
+        &[Fact::Bar(0, 1)],
+        Question::Usable(1, Place::After(0), 1),
+        true,
+    ),
+    (
+        &[Fact::Bar(0, 1)],
+        Question::Usable(0, Place::After(0), 3),
+        true,
+    ),
+    (
+        &[Fact::Must(0, 1)],
+        Question::Usable(0, Place::After(0), 1),
+        true,
+    ),
+    (
+        &[Fact::Must(0, 1)],
+        Question::Usable(0, Place::After(1), 2),
+        true,
+    ),
+    (
+        &[Fact::Must(0, 1)],
+        Question::Usable(0, Place::After(0), 3),
+        false,
+    ),
+    (
+        &[Fact::Must(0, 1)],
+        Question::Usable(0, Place::Carry, 2),
+        false,
+    ),
+    (
+        &[Fact::Must(0, 1)],
+        Question::Usable(1, Place::After(0), 3),
+        true,
+    ),
+    (
+        &[Fact::Must(0, 1)],
+        Question::Usable(1, Place::After(0), 1),
+        false,
+    ),
+    (
+        &[Fact::Must(0, 0)],
+        Question::Usable(0, Place::Carry, 0),
+        true,
+    ),
+    (
+        &[Fact::Must(0, 0)],
+        Question::Usable(0, Place::Carry, 2),
+        false,
+    ),
+    (
+        &[Fact::Must(0, 0)],
+        Question::Usable(0, Place::After(0), 1),
+        true,
+    ),
+    (
+        &[Fact::Cut(0, 1)],
+        Question::Usable(0, Place::After(0), 1),
+        false,
+    ),
+    (
+        &[Fact::Cut(0, 1)],
+        Question::Usable(1, Place::After(0), 1),
+        false,
+    ),
+    (
+        &[Fact::Cut(0, 1)],
+        Question::Usable(0, Place::After(0), 3),
+        true,
+    ),
+    (
+        &[Fact::Cut(1, 0)],
+        Question::Usable(0, Place::After(0), 1),
+        true,
+    ),
+    (
+        &[Fact::Cut(0, 1)],
+        Question::Usable(0, Place::Carry, 0),
+        true,
+    ),
+    (
+        &[Fact::Tie(0, 3)],
+        Question::Usable(0, Place::After(0), 3),
+        true,
+    ),
+    (
+        &[Fact::Tie(0, 3)],
+        Question::Usable(0, Place::After(0), 1),
+        false,
+    ),
+    (
+        &[Fact::Tie(0, 3)],
+        Question::Usable(0, Place::After(2), 3),
+        false,
+    ),
+    (
+        &[Fact::Tie(0, 3)],
+        Question::Usable(0, Place::After(1), 2),
+        true,
+    ),
+    (
+        &[Fact::Tie(1, 2)],
+        Question::Usable(0, Place::Carry, 2),
+        false,
+    ),
+    (
+        &[Fact::Tie(1, 2)],
+        Question::Usable(0, Place::Carry, 0),
+        true,
+    ),
+    (
+        &[Fact::Tie(1, 2)],
+        Question::Usable(1, Place::After(1), 4),
+        false,
+    ),
+    (
+        &[Fact::Cut(4, 4)],
+        Question::Usable(0, Place::After(1), 0),
+        false,
+    ),
+];
 
 // Ends after each kind of fact: behind a Must or at it, of this aircraft or another, and where a Tie begins or ends.
-#[test]
-fn ends_by_fact(rt: HostRuntime) -> Result<(), Fail> {
-    let wrong = first_wrong(
-        rt.alloc(),
-        &[
-            (
-                &[Fact::Must(0, 3)],
-                Question::End(0, Place::After(1)),
-                false,
-            ),
-            (&[Fact::Must(0, 3)], Question::End(0, Place::After(3)), true),
-            (&[Fact::Must(0, 3)], Question::End(0, Place::After(4)), true),
-            (&[Fact::Must(0, 3)], Question::End(0, Place::Carry), false),
-            (&[Fact::Must(0, 3)], Question::End(1, Place::Carry), true),
-            (&[Fact::Must(0, 0)], Question::End(0, Place::Carry), false),
-            (&[Fact::Must(0, 0)], Question::End(0, Place::After(0)), true),
-            (&[Fact::Tie(1, 2)], Question::End(0, Place::After(1)), false),
-            (&[Fact::Tie(1, 2)], Question::End(1, Place::After(1)), false),
-            (&[Fact::Tie(1, 2)], Question::End(0, Place::After(2)), true),
-            (&[Fact::Tie(0, 1)], Question::End(0, Place::Carry), true),
-            (&[Fact::Bar(0, 1)], Question::End(0, Place::After(0)), true),
-            (&[Fact::Cut(1, 2)], Question::End(0, Place::After(1)), true),
-        ],
-    )?;
-    assert!(rt; wrong.is_none(), "row {wrong:?}");
-    Ok(())
-}
+const ENDS: &[Row] = &[
+    (
+        &[Fact::Must(0, 3)],
+        Question::End(0, Place::After(1)),
+        false,
+    ),
+    (&[Fact::Must(0, 3)], Question::End(0, Place::After(3)), true),
+    (&[Fact::Must(0, 3)], Question::End(0, Place::After(4)), true),
+    (&[Fact::Must(0, 3)], Question::End(0, Place::Carry), false),
+    (&[Fact::Must(0, 3)], Question::End(1, Place::Carry), true),
+    (&[Fact::Must(0, 0)], Question::End(0, Place::Carry), false),
+    (&[Fact::Must(0, 0)], Question::End(0, Place::After(0)), true),
+    (&[Fact::Tie(1, 2)], Question::End(0, Place::After(1)), false),
+    (&[Fact::Tie(1, 2)], Question::End(1, Place::After(1)), false),
+    (&[Fact::Tie(1, 2)], Question::End(0, Place::After(2)), true),
+    (&[Fact::Tie(0, 1)], Question::End(0, Place::Carry), true),
+    (&[Fact::Bar(0, 1)], Question::End(0, Place::After(0)), true),
+    (&[Fact::Cut(1, 2)], Question::End(0, Place::After(1)), true),
+];
 
 // Routes beside one fact: whole ones, one that is broken in its middle, one that ends too early, none at all, and numbers
 // that are no activity's.
-#[test]
-fn routes_by_fact(rt: HostRuntime) -> Result<(), Fail> {
-    let wrong = first_wrong(
-        rt.alloc(),
-        &[
-            (&[Fact::Bar(1, 0)], Question::Fits(0, &[0, 1, 2]), true),
-            (&[Fact::Bar(0, 1)], Question::Fits(0, &[0, 1, 2]), false),
-            (&[Fact::Bar(0, 1)], Question::Fits(0, &[0, 3]), true),
-            (&[Fact::Must(0, 1)], Question::Fits(0, &[0, 1, 2]), true),
-            (&[Fact::Must(0, 1)], Question::Fits(0, &[0, 3]), false),
-            (&[Fact::Must(0, 3)], Question::Fits(0, &[0, 1]), false),
-            (&[Fact::Must(0, 3)], Question::Fits(1, &[0, 1]), true),
-            (&[Fact::Must(0, 3)], Question::Fits(0, &[]), false),
-            (&[Fact::Must(0, 3)], Question::Fits(1, &[]), true),
-            (&[Fact::Cut(1, 2)], Question::Fits(0, &[0, 1, 2]), false),
-            (&[Fact::Tie(1, 2)], Question::Fits(0, &[0, 1]), false),
-            (&[Fact::Tie(1, 2)], Question::Fits(0, &[0, 1, 2]), true),
-            (&[Fact::Cut(1, 2)], Question::Fits(0, &[0, 2]), false),
-            (&[Fact::Cut(1, 2)], Question::Fits(0, &[0, 1, 5]), false),
-            (
-                &[Fact::Cut(1, 2)],
-                Question::Fits(0, &[4_294_967_295]),
-                false,
-            ),
-        ],
-    )?;
-    assert!(rt; wrong.is_none(), "row {wrong:?}");
-    Ok(())
-}
+const ROUTES: &[Row] = &[
+    (&[Fact::Bar(1, 0)], Question::Fits(0, &[0, 1, 2]), true),
+    (&[Fact::Bar(0, 1)], Question::Fits(0, &[0, 1, 2]), false),
+    (&[Fact::Bar(0, 1)], Question::Fits(0, &[0, 3]), true),
+    (&[Fact::Must(0, 1)], Question::Fits(0, &[0, 1, 2]), true),
+    (&[Fact::Must(0, 1)], Question::Fits(0, &[0, 3]), false),
+    (&[Fact::Must(0, 3)], Question::Fits(0, &[0, 1]), false),
+    (&[Fact::Must(0, 3)], Question::Fits(1, &[0, 1]), true),
+    (&[Fact::Must(0, 3)], Question::Fits(0, &[]), false),
+    (&[Fact::Must(0, 3)], Question::Fits(1, &[]), true),
+    (&[Fact::Cut(1, 2)], Question::Fits(0, &[0, 1, 2]), false),
+    (&[Fact::Tie(1, 2)], Question::Fits(0, &[0, 1]), false),
+    (&[Fact::Tie(1, 2)], Question::Fits(0, &[0, 1, 2]), true),
+    (&[Fact::Cut(1, 2)], Question::Fits(0, &[0, 2]), false),
+    (&[Fact::Cut(1, 2)], Question::Fits(0, &[0, 1, 5]), false),
+    (
+        &[Fact::Cut(1, 2)],
+        Question::Fits(0, &[4_294_967_295]),
+        false,
+    ),
+];
 
 // What adding a fact twice answers; nothing where it is none of the book.
 fn add_twice(book: &Book, marks: &mut Marks, fact: Fact) -> Result<Option<(Added, Added)>, Memory>
@@ -424,18 +396,25 @@ fn added(
 
 const LAST: Fact = Fact::Tie(0, 3);
 
+const BEFORE: &[Fact] = &[
+    Fact::Bar(0, 1),
+    Fact::Must(0, 2),
+    Fact::Cut(0, 1),
+    Fact::Tie(0, 1),
+    LAST,
+];
+
+// Whether adding a fact twice first answers this, then that it is known, and this fact stands last.
+fn is_added(alloc: Global, fact: Fact, first: Added, end: Fact) -> Result<bool, Fail> {
+    let book = book(alloc)?;
+    let answer = added(alloc, &book, BEFORE, fact)?;
+    Ok(answer == (Some((first, Added::Known)), Some(end)))
+}
+
 // A fact is new once, stands last, and is known from then on; facts that were there before are known at once.
 #[test]
 fn each_fact_once(rt: HostRuntime) -> Result<(), Fail> {
-    let book = book(rt.alloc())?;
-    let facts = &[
-        Fact::Bar(0, 1),
-        Fact::Must(0, 2),
-        Fact::Cut(0, 1),
-        Fact::Tie(0, 1),
-        LAST,
-    ];
-    for row in &[
+    for &(fact, first, end) in &[
         (Fact::Bar(0, 1), Added::Known, LAST),
         (Fact::Must(0, 2), Added::Known, LAST),
         (Fact::Cut(0, 1), Added::Known, LAST),
@@ -447,12 +426,7 @@ fn each_fact_once(rt: HostRuntime) -> Result<(), Fail> {
         (Fact::Tie(0, 4), Added::New, Fact::Tie(0, 4)),
         (Fact::Tie(1, 0), Added::New, Fact::Tie(1, 0)),
     ] {
-        let &(fact, first, end) = row;
-        let answer = added(rt.alloc(), &book, facts, fact)?;
-        assert!(rt;
-            answer == (Some((first, Added::Known)), Some(end)),
-            "{row:?}"
-        );
+        assert!(rt; is_added(rt.alloc(), fact, first, end)?, "{fact:?}");
     }
     Ok(())
 }
@@ -466,26 +440,18 @@ const FACTS: &[Fact] = &[
 ];
 
 // Each fact is there that was added, and no other of its kind is.
-#[test]
-fn each_fact_is_there(rt: HostRuntime) -> Result<(), Fail> {
-    let wrong = first_wrong(
-        rt.alloc(),
-        &[
-            (FACTS, Question::Has(Fact::Bar(0, 1)), true),
-            (FACTS, Question::Has(Fact::Bar(1, 0)), false),
-            (FACTS, Question::Has(Fact::Must(1, 2)), true),
-            (FACTS, Question::Has(Fact::Must(0, 1)), false),
-            (FACTS, Question::Has(Fact::Cut(0, 1)), true),
-            (FACTS, Question::Has(Fact::Cut(1, 0)), false),
-            (FACTS, Question::Has(Fact::Tie(0, 1)), true),
-            (FACTS, Question::Has(Fact::Tie(0, 3)), true),
-            (FACTS, Question::Has(Fact::Tie(0, 2)), false),
-            (FACTS, Question::Has(Fact::Tie(1, 2)), false),
-        ],
-    )?;
-    assert!(rt; wrong.is_none(), "row {wrong:?}");
-    Ok(())
-}
+const THERE: &[Row] = &[
+    (FACTS, Question::Has(Fact::Bar(0, 1)), true),
+    (FACTS, Question::Has(Fact::Bar(1, 0)), false),
+    (FACTS, Question::Has(Fact::Must(1, 2)), true),
+    (FACTS, Question::Has(Fact::Must(0, 1)), false),
+    (FACTS, Question::Has(Fact::Cut(0, 1)), true),
+    (FACTS, Question::Has(Fact::Cut(1, 0)), false),
+    (FACTS, Question::Has(Fact::Tie(0, 1)), true),
+    (FACTS, Question::Has(Fact::Tie(0, 3)), true),
+    (FACTS, Question::Has(Fact::Tie(0, 2)), false),
+    (FACTS, Question::Has(Fact::Tie(1, 2)), false),
+];
 
 // Whether a copy of marks has a fact alone.
 fn is_copied(marks: &Marks, fact: Fact) -> Result<bool, Memory> {
@@ -493,32 +459,28 @@ fn is_copied(marks: &Marks, fact: Fact) -> Result<bool, Memory> {
     Ok(copy.facts() == [fact].as_slice())
 }
 
-// What adding a fact twice to marks without facts answers, and whether a copy that is made then has it alone.
-fn copied(
-    alloc: Global,
-    book: &Book,
-    fact: Fact,
-) -> Result<(Option<(Added, Added)>, bool), Memory> {
+// Whether a fact that is added twice to marks without facts is new, then known, and a copy that is made then has it alone.
+fn copies(alloc: Global, book: &Book, fact: Fact) -> Result<bool, Memory> {
     let mut marks = Marks::new(alloc, book)?;
     let answers = add_twice(book, &mut marks, fact)?;
-    Ok((answers, is_copied(&marks, fact)?))
+    Ok(answers == Some((Added::New, Added::Known)) && is_copied(&marks, fact)?)
+}
+
+fn copies_in_book(alloc: Global, fact: Fact) -> Result<bool, Fail> {
+    let book = book(alloc)?;
+    Ok(copies(alloc, &book, fact)?)
 }
 
 // New, then known; and a copy has it, once.
 #[test]
 fn copy_has_what_was_added(rt: HostRuntime) -> Result<(), Fail> {
-    let book = book(rt.alloc())?;
     for &fact in &[
         Fact::Bar(0, 1),
         Fact::Must(1, 4),
         Fact::Cut(0, 1),
         Fact::Tie(0, 3),
     ] {
-        let answer = copied(rt.alloc(), &book, fact)?;
-        assert!(rt;
-            answer == (Some((Added::New, Added::Known)), true),
-            "{fact:?}"
-        );
+        assert!(rt; copies_in_book(rt.alloc(), fact)?, "{fact:?}");
     }
     Ok(())
 }
@@ -556,14 +518,25 @@ fn parted(
     Ok((last_fact(marks), last))
 }
 
+const HERE: Fact = Fact::Bar(0, 2);
+
+const ELSEWHERE: Fact = Fact::Must(0, 1);
+
+fn is_parted(alloc: Global, book: &Book) -> Result<bool, Memory> {
+    let mut marks = marks(alloc, book, &[])?;
+    let last = parted(book, &mut marks, HERE, ELSEWHERE)?;
+    Ok(last == (Some(HERE), Some(ELSEWHERE)))
+}
+
+fn is_parted_in_book(alloc: Global) -> Result<bool, Fail> {
+    let book = book(alloc)?;
+    Ok(is_parted(alloc, &book)?)
+}
+
 // What a copy adds the marks do not have, and the other way round.
 #[test]
 fn copy_goes_its_own_way(rt: HostRuntime) -> Result<(), Fail> {
-    let book = book(rt.alloc())?;
-    let mut marks = marks(rt.alloc(), &book, &[])?;
-    let (here, there) = (Fact::Bar(0, 2), Fact::Must(0, 1));
-    let answer = parted(&book, &mut marks, here, there)?;
-    assert!(rt; answer == (Some(here), Some(there)), "{answer:?}");
+    assert!(rt; is_parted_in_book(rt.alloc())?);
     Ok(())
 }
 
@@ -577,58 +550,62 @@ const TIED: &[Fact] = &[
 const NOTHING: Named = Named::Nothing;
 
 // One is named, several or nothing; and what comes next, or the end where nothing does.
-#[test]
-fn named_and_next(rt: HostRuntime) -> Result<(), Fail> {
-    let wrong = first_wrong(
-        rt.alloc(),
-        &[
-            (
-                TIED,
-                Question::Named(0, [Named::Several, NOTHING, NOTHING]),
-                true,
-            ),
-            (
-                TIED,
-                Question::Named(1, [NOTHING, Named::One(0), NOTHING]),
-                true,
-            ),
-            (
-                TIED,
-                Question::Named(3, [NOTHING, Named::One(0), NOTHING]),
-                true,
-            ),
-            (
-                TIED,
-                Question::Named(4, [NOTHING, NOTHING, Named::One(1)]),
-                true,
-            ),
-            (TIED, Question::Next(3, 0, (0, 1)), true),
-            (TIED, Question::Next(3, 1, (1, 1)), true),
-            (TIED, Question::Next(4, 0, (1, 5)), true),
-            (TIED, Question::Next(3, 2, (2, 5)), true),
-            (TIED, Question::NextMust(1, 0, 4), true),
-            (TIED, Question::NextMust(1, 4, 4), true),
-            (TIED, Question::NextMust(1, 5, 5), true),
-            (TIED, Question::NextMust(0, 0, 5), true),
-        ],
-    )?;
-    assert!(rt; wrong.is_none(), "row {wrong:?}");
-    Ok(())
-}
+const NAMED: &[Row] = &[
+    (
+        TIED,
+        Question::Named(0, [Named::Several, NOTHING, NOTHING]),
+        true,
+    ),
+    (
+        TIED,
+        Question::Named(1, [NOTHING, Named::One(0), NOTHING]),
+        true,
+    ),
+    (
+        TIED,
+        Question::Named(3, [NOTHING, Named::One(0), NOTHING]),
+        true,
+    ),
+    (
+        TIED,
+        Question::Named(4, [NOTHING, NOTHING, Named::One(1)]),
+        true,
+    ),
+    (TIED, Question::Next(3, 0, (0, 1)), true),
+    (TIED, Question::Next(3, 1, (1, 1)), true),
+    (TIED, Question::Next(4, 0, (1, 5)), true),
+    (TIED, Question::Next(3, 2, (2, 5)), true),
+    (TIED, Question::NextMust(1, 0, 4), true),
+    (TIED, Question::NextMust(1, 4, 4), true),
+    (TIED, Question::NextMust(1, 5, 5), true),
+    (TIED, Question::NextMust(0, 0, 5), true),
+];
 
 const CONTRARY: &[Fact] = &[Fact::Tie(0, 1), Fact::Tie(0, 3)];
 
 // Ties that no plan keeps let nothing through.
+const CONTRARY_TIES: &[Row] = &[
+    (CONTRARY, Question::Usable(0, Place::After(0), 1), false),
+    (CONTRARY, Question::Usable(0, Place::After(0), 3), false),
+    (CONTRARY, Question::End(0, Place::After(0)), false),
+];
+
+// All these rows, and what they are about.
+const TABLES: &[(&str, &[Row])] = &[
+    ("alive", ALIVE),
+    ("usable", USABLE),
+    ("ends", ENDS),
+    ("routes", ROUTES),
+    ("there", THERE),
+    ("named and next", NAMED),
+    ("contrary ties", CONTRARY_TIES),
+];
+
 #[test]
-fn contrary_ties(rt: HostRuntime) -> Result<(), Fail> {
-    let wrong = first_wrong(
-        rt.alloc(),
-        &[
-            (CONTRARY, Question::Usable(0, Place::After(0), 1), false),
-            (CONTRARY, Question::Usable(0, Place::After(0), 3), false),
-            (CONTRARY, Question::End(0, Place::After(0)), false),
-        ],
-    )?;
-    assert!(rt; wrong.is_none(), "row {wrong:?}");
+fn marks_answer_by_their_facts(rt: HostRuntime) -> Result<(), Fail> {
+    for &(about, rows) in TABLES {
+        let wrong = first_wrong(rt.alloc(), rows)?;
+        assert!(rt; wrong.is_none(), "{about}, row {wrong:?}");
+    }
     Ok(())
 }
