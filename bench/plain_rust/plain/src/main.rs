@@ -33,6 +33,10 @@ impl TreeLog for Trace {
         false
     }
 
+    fn wants_labels(&self) -> bool {
+        false
+    }
+
     fn note(&mut self, event: &Event) -> Result<(), LogFail> {
         match event {
             Event::Fact(_) => self.facts += 1,
