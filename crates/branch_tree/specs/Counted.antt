@@ -13,6 +13,7 @@ use Rattle.dive_heuristic.specs.declared.answer.Dive.{Dive}
 use Rattle.dive_heuristic.specs.Dive.{IsDiveOf, IsPlanned}
 use Rattle.node_leaves.specs.Place.{Open}
 use Rattle.node_leaves.specs.Node.{Ending, Node, closed_marks, IsShownNode, Hole, Stuck, Bounded, Split}
+use Rattle.node_leaves.specs.Priced.{HasLeastValues}
 use Rattle.node_leaves.specs.Target.{IsTarget, Passes, bound_under, HasUsed}
 
 -- a node is split only under settled duals, with routes out of the pool counted too, and where their bound still lies below
