@@ -16,9 +16,9 @@ ghost use Rattle.plan_finder.specs.Columns.{AreColumns};
 ghost use Rattle.plan_finder.specs.Problem.{IsProblem};
 
 use crate::problem::Problem;
-use crate::weights::Weights;
 use branch_marks::Marks;
 use maint_counters::is_legal_route;
+use pool_plans::Weights;
 use restricted_master::{Pool, PoolAdd};
 use route_search::{Found, RouteSearch, Suggestions};
 use std::alloc::Global;
@@ -26,7 +26,7 @@ use tail_book::laws::{every_book_is_sound, legal_routes_rise};
 use tail_book::{Duals, Memory, Route};
 
 /// A pool, and what searches for it keep.
-#[derive(Debug, Drop)]
+#[derive(Drop)]
 pub struct Columns {
     pub pool: Pool,
     pub search: RouteSearch,
@@ -63,7 +63,8 @@ fn add_route(problem: &Problem, pool: &mut Pool, k: u32, route: &Route) -> Resul
     requires pool { IsPoolFor problem.now.table.now problem.now.book.now pool.old }
     ensures pool { IsPoolFor problem.now.table.now problem.now.book.now pool.new }
     ensures fitting { (facts : List Fact) → All (IsFittingEntry problem.now.book.now facts) pool.old.entries
-        → IsFittingEntry problem.now.book.now facts (record { aircraft = k; route = route.now }) → All (IsFittingEntry problem.now.book.now facts) pool.new.entries }
+        → IsFittingEntry problem.now.book.now facts (record { aircraft = k; route = route.now })
+        → All (IsFittingEntry problem.now.book.now facts) pool.new.entries }
 {
     match pool.add(problem.book, problem.table, k, route)? {
         PoolAdd::New(_) => Ok(()),
@@ -86,7 +87,8 @@ pub fn add_judged(
     requires pool { IsPoolFor problem.now.table.now problem.now.book.now pool.old }
     requires search { IsSearchOf problem.now.book.now search.old }
     ensures pool { IsPoolFor problem.now.table.now problem.now.book.now pool.new }
-    ensures fitting { All (IsFittingEntry problem.now.book.now marks.now.facts) pool.old.entries → All (IsFittingEntry problem.now.book.now marks.now.facts) pool.new.entries }
+    ensures fitting { All (IsFittingEntry problem.now.book.now marks.now.facts) pool.old.entries
+        → All (IsFittingEntry problem.now.book.now marks.now.facts) pool.new.entries }
     ensures search { IsSearchOf problem.now.book.now search.new }
 {
     legal_routes_rise();
@@ -157,6 +159,47 @@ impl Columns {
         add_judged(alloc, problem, marks, pool, search, k, route)
     }
 
+    // Adds the routes of a pool that fit the marks and are no more than so much heavier than the lightest of their aircraft.
+    fn add_light(
+        &mut self,
+        alloc: Global,
+        problem: &Problem,
+        marks: &Marks,
+        from: &Pool,
+        weights: &Weights,
+        reach: i64,
+    ) -> Result<(), Memory>
+        requires problem { IsProblem problem.now }
+        requires marks { AreMarksOf problem.now.book.now marks.now }
+        requires columns { AreColumns problem.now self.old }
+        ensures columns { AreColumns problem.now self.new }
+    {
+        for i in 0..from.count() {
+            let k = from.aircraft(i);
+            if weights.excess(i, k as usize) <= reach {
+                self.add(alloc, problem, marks, k, from.route(i))?;
+            }
+        }
+        Ok(())
+    }
+
+    // No columns again.
+    fn clear(&mut self, alloc: Global, problem: &Problem) -> Result<(), Memory>
+        requires columns { AreColumns problem.now self.old }
+        ensures columns { AreColumns problem.now self.new }
+    {
+        self.pool = Pool::new(alloc)?;
+        Ok(())
+    }
+
+    /// The columns themselves, of which none are left.
+    pub fn take_pool(&mut self, alloc: Global, problem: &Problem) -> Result<Pool, Memory>
+        requires columns { AreColumns problem.now self.old }
+        ensures columns { AreColumns problem.now self.new }
+    {
+        Ok(std::mem::replace(&mut self.pool, Pool::new(alloc)?))
+    }
+
     /// Begins with the routes of a pool that fit the marks and are no more than so much heavier than the lightest of their
     /// aircraft, in thousandths of a cost unit.
     pub fn begin(
@@ -173,16 +216,10 @@ impl Columns {
         requires columns { AreColumns problem.now self.old }
         ensures columns { AreColumns problem.now self.new }
     {
+        self.clear(alloc, problem)?;
         let book = problem.book;
         let weights = Weights::of(alloc, from, &duals.values, book.tails.len())?;
-        self.pool = Pool::new(alloc)?;
-        for i in 0..from.count() {
-            let k = from.aircraft(i);
-            if weights.excess(i, k as usize) <= reach {
-                self.add(alloc, problem, marks, k, from.route(i))?;
-            }
-        }
-        Ok(())
+        self.add_light(alloc, problem, marks, from, &weights, reach)
     }
 
     /// Begins with the routes of a plan that fit the marks.
@@ -198,7 +235,7 @@ impl Columns {
         requires columns { AreColumns problem.now self.old }
         ensures columns { AreColumns problem.now self.new }
     {
-        self.pool = Pool::new(alloc)?;
+        self.clear(alloc, problem)?;
         self.add_plan(alloc, problem, marks, routes)
     }
 
@@ -236,8 +273,70 @@ impl Columns {
         requires columns { AreColumns problem.now self.old }
         ensures columns { AreColumns problem.now self.new }
     {
-        let from = std::mem::replace(&mut self.pool, Pool::new(alloc)?);
+        let from = self.take_pool(alloc, problem)?;
         self.begin(alloc, problem, marks, duals, &from, reach)
+    }
+
+    // The least weight of an aircraft's routes that fit the marks, if it is within the cut. A route that has it enters the pool.
+    fn add_least(
+        &mut self,
+        alloc: Global,
+        problem: &Problem,
+        marks: &Marks,
+        duals: &Duals,
+        k: u32,
+        cut: i64,
+        slack: u32,
+    ) -> Result<Option<i64>, Memory>
+        requires problem { IsProblem problem.now }
+        requires marks { AreMarksOf problem.now.book.now marks.now }
+        requires duals { AreDuals problem.now.table.now problem.now.book.now duals.now.values }
+        requires aircraft { k < aircraft problem.now.book.now }
+        requires columns { AreColumns problem.now self.old }
+        ensures columns { AreColumns problem.now self.new }
+    {
+        let Problem { book, table, net } = *problem;
+        let found = self
+            .search
+            .least_route(book, table, net, marks, duals, k, cut, slack)?;
+        match found {
+            Found::Best { value, route } => {
+                self.add(alloc, problem, marks, k, &route.0)?;
+                Ok(Some(value))
+            }
+            Found::NoneWithin => Ok(None),
+        }
+    }
+
+    // Adds routes of an aircraft that weigh no more than the reach.
+    fn add_near(
+        &mut self,
+        alloc: Global,
+        problem: &Problem,
+        marks: &Marks,
+        duals: &Duals,
+        k: u32,
+        reach: i64,
+    ) -> Result<(), Memory>
+        requires problem { IsProblem problem.now }
+        requires marks { AreMarksOf problem.now.book.now marks.now }
+        requires duals { AreDuals problem.now.table.now problem.now.book.now duals.now.values }
+        requires aircraft { k < aircraft problem.now.book.now }
+        requires columns { AreColumns problem.now self.old }
+        ensures columns { AreColumns problem.now self.new }
+    {
+        let Problem { book, table, net } = *problem;
+        self.search.suggest(
+            book,
+            table,
+            net,
+            marks,
+            duals,
+            k,
+            reach,
+            &mut self.suggested,
+        )?;
+        self.add_suggested(alloc, problem, marks, k)
     }
 
     /// The least weight of an aircraft's routes that fit the marks, in thousandths of a cost unit, if it is within the cut. A route
@@ -259,29 +358,14 @@ impl Columns {
         requires columns { AreColumns problem.now self.old }
         ensures columns { AreColumns problem.now self.new }
     {
-        let Problem { book, table, net } = *problem;
-        let found = self
-            .search
-            .least_route(book, table, net, marks, duals, k, cut, slack)?;
+        let least = self.add_least(alloc, problem, marks, duals, k, cut, slack)?;
         let labels = self.labels(problem);
         self.spend(labels);
-        let Found::Best { value, route } = found else {
-            return Ok(None);
-        };
-        self.add(alloc, problem, marks, k, &route.0)?;
-        let reach = value.saturating_add(i64::from(slack));
-        self.search.suggest(
-            book,
-            table,
-            net,
-            marks,
-            duals,
-            k,
-            reach,
-            &mut self.suggested,
-        )?;
-        self.add_suggested(alloc, problem, marks, k)?;
-        Ok(Some(value))
+        if let Some(value) = least {
+            let reach = value.saturating_add(i64::from(slack));
+            self.add_near(alloc, problem, marks, duals, k, reach)?;
+        }
+        Ok(least)
     }
 
     // Adds the suggested routes of an aircraft.

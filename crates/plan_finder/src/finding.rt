@@ -11,6 +11,7 @@ ghost use Rattle.plan_finder.specs.Finding.{IsFittingPlan};
 ghost use Rattle.plan_finder.specs.Problem.{IsProblem};
 
 use crate::columns::{Columns, add_judged};
+use crate::copying::same_routes;
 use crate::ground::Ground;
 use crate::judging::judge;
 use crate::ladder::Ladder;
@@ -18,10 +19,8 @@ use crate::problem::Problem;
 use crate::repairing::repair;
 use crate::restarting::restart;
 use crate::soft_dive::{Course, MANY, soft_dive};
-use crate::soft_plan::SoftPlan;
-use crate::weights::copy_of;
 use branch_marks::Marks;
-use pool_plans::Found;
+use pool_plans::{Found, SoftPlan};
 use restricted_master::Pool;
 use std::alloc::Global;
 use tail_book::{Duals, Memory, Plan, Route};
@@ -36,7 +35,7 @@ pub struct Sought<'a> {
 }
 
 // The dives, one after the other until one leaves nothing out.
-const COURSES: [Course; 5] = [
+const COURSES: &[Course] = &[
     Course {
         slices: 3,
         is_fine: false,
@@ -65,7 +64,7 @@ const COURSES: [Course; 5] = [
 ];
 
 // The same in a large fleet.
-const COURSES_OF_MANY: [Course; 4] = [
+const COURSES_OF_MANY: &[Course] = &[
     Course {
         slices: 4,
         is_fine: false,
@@ -88,69 +87,42 @@ const COURSES_OF_MANY: [Course; 4] = [
     },
 ];
 
-// A dive from the duals, which stay as they are.
-fn dived(
-    alloc: Global,
-    problem: &Problem,
-    sought: &Sought,
-    columns: &mut Columns,
-    pool: &Pool,
-    course: Course,
-) -> Result<SoftPlan, Memory>
-    requires problem { IsProblem problem.now }
-    requires marks { AreMarksOf problem.now.book.now sought.now.marks.now }
-    requires duals { AreDuals problem.now.table.now problem.now.book.now sought.now.duals.now.values }
-    requires columns { AreColumns problem.now columns.old }
-    ensures columns { AreColumns problem.now columns.new }
-{
-    let mut duals = copy_of(sought.duals)?;
-    let marks = sought.marks;
-    soft_dive(alloc, problem, marks, columns, pool, &mut duals, course)
-}
-
-// Of two plans the one that leaves less out.
-fn fuller(one: SoftPlan, other: SoftPlan) -> SoftPlan {
-    if other.count_left() < one.count_left() {
-        other
-    } else {
-        one
-    }
-}
-
-// The plan that leaves least out, by one of these dives after the other, until one leaves nothing out.
-fn fullest_by(
+// Dives one time after the other, until one leaves nothing out. Of the plans the one stays that leaves least out.
+fn dive_by(
     alloc: Global,
     problem: &Problem,
     sought: &Sought,
     columns: &mut Columns,
     pool: &Pool,
     courses: &[Course],
-) -> Result<SoftPlan, Memory>
+    best: &mut SoftPlan,
+) -> Result<(), Memory>
     requires problem { IsProblem problem.now }
     requires marks { AreMarksOf problem.now.book.now sought.now.marks.now }
     requires duals { AreDuals problem.now.table.now problem.now.book.now sought.now.duals.now.values }
     requires columns { AreColumns problem.now columns.old }
     ensures columns { AreColumns problem.now columns.new }
 {
-    let mut best = SoftPlan::none(alloc, problem.book)?;
+    let Sought { marks, duals, .. } = *sought;
     for i in 0..courses.len() {
         if columns.is_spent() || best.count_left() == 0 {
-            return Ok(best);
+            return Ok(());
         }
-        let next = dived(alloc, problem, sought, columns, pool, courses[i])?;
-        best = fuller(best, next);
+        let course = courses[i];
+        best.take_fuller(soft_dive(alloc, problem, marks, columns, pool, duals, course)?);
     }
-    Ok(best)
+    Ok(())
 }
 
 // The same by the dives of a fleet of the book's size.
-fn fullest(
+fn dive_all(
     alloc: Global,
     problem: &Problem,
     sought: &Sought,
     columns: &mut Columns,
     pool: &Pool,
-) -> Result<SoftPlan, Memory>
+    best: &mut SoftPlan,
+) -> Result<(), Memory>
     requires problem { IsProblem problem.now }
     requires marks { AreMarksOf problem.now.book.now sought.now.marks.now }
     requires duals { AreDuals problem.now.table.now problem.now.book.now sought.now.duals.now.values }
@@ -159,37 +131,82 @@ fn fullest(
 {
     let book = problem.book;
     if book.tails.len() < MANY {
-        fullest_by(alloc, problem, sought, columns, pool, &COURSES)
+        dive_by(alloc, problem, sought, columns, pool, COURSES, best)
     } else {
-        fullest_by(alloc, problem, sought, columns, pool, &COURSES_OF_MANY)
+        dive_by(alloc, problem, sought, columns, pool, COURSES_OF_MANY, best)
     }
 }
 
-// A plan made cheaper, as far as the ladder and new starts go.
+// A plan by dives, with repairs of what the fullest one leaves out.
+fn repaired(
+    alloc: Global,
+    problem: &Problem,
+    sought: &Sought,
+    columns: &mut Columns,
+    pool: &Pool,
+) -> Result<SoftPlan, Memory>
+    requires problem { IsProblem problem.now }
+    requires marks { AreMarksOf problem.now.book.now sought.now.marks.now }
+    requires duals { AreDuals problem.now.table.now problem.now.book.now sought.now.duals.now.values }
+    requires columns { AreColumns problem.now columns.old }
+    ensures columns { AreColumns problem.now columns.new }
+{
+    let Sought { marks, duals, .. } = *sought;
+    let mut plan = SoftPlan::none(alloc, problem.book)?;
+    dive_all(alloc, problem, sought, columns, pool, &mut plan)?;
+    let ground = Ground { marks, pool, duals };
+    repair(alloc, problem, columns, &ground, &mut plan)?;
+    Ok(plan)
+}
+
+// Makes a plan cheaper, as far as the ladder and new starts go.
+fn cheapen(
+    alloc: Global,
+    problem: &Problem,
+    columns: &mut Columns,
+    ground: &Ground,
+    best: &mut Found,
+) -> Result<(), Memory>
+    requires problem { IsProblem problem.now }
+    requires marks { AreMarksOf problem.now.book.now ground.now.marks.now }
+    requires duals { AreDuals problem.now.table.now problem.now.book.now ground.now.duals.now.values }
+    requires columns { AreColumns problem.now columns.old }
+    requires best { IsFittingPlan problem.now.table.now problem.now.book.now ground.now.marks.now.facts best.old.cost best.old.plan }
+    ensures columns { AreColumns problem.now columns.new }
+    ensures best { IsFittingPlan problem.now.table.now problem.now.book.now ground.now.marks.now.facts best.new.cost best.new.plan }
+{
+    let Some(mut ladder) = Ladder::new(alloc, problem, columns, ground)? else {
+        return Ok(());
+    };
+    ladder.climb(alloc, problem, columns, ground, best)?;
+    restart(alloc, problem, columns, ground, &mut ladder, best)
+}
+
+// Routes as a plan, where they are a legal one that fits the marks. It is made cheaper as far as that goes.
 fn cheapened(
     alloc: Global,
     problem: &Problem,
     columns: &mut Columns,
     ground: &Ground,
-    first: Found,
-) -> Result<Found, Memory>
+    routes: Vec<Route>,
+) -> Result<Option<Found>, Memory>
     requires problem { IsProblem problem.now }
     requires marks { AreMarksOf problem.now.book.now ground.now.marks.now }
     requires duals { AreDuals problem.now.table.now problem.now.book.now ground.now.duals.now.values }
     requires columns { AreColumns problem.now columns.old }
-    requires first { IsFittingPlan problem.now.table.now problem.now.book.now ground.now.marks.now.facts first.cost first.plan }
     ensures columns { AreColumns problem.now columns.new }
-    ensures plan { IfOk result (λ plan. IsFittingPlan problem.now.table.now problem.now.book.now ground.now.marks.now.facts plan.cost plan.plan) }
+    ensures plan { IfOk result (λ found. IfSome found (λ plan.
+        IsFittingPlan problem.now.table.now problem.now.book.now ground.now.marks.now.facts plan.cost plan.plan)) }
 {
-    let Some(mut ladder) = Ladder::new(alloc, problem, columns, ground)? else {
-        return Ok(first);
+    let Some(mut found) = judge(alloc, problem, ground.marks, routes)? else {
+        return Ok(None);
     };
-    let best = ladder.climb(alloc, problem, columns, ground, first)?;
-    restart(alloc, problem, columns, ground, &mut ladder, best)
+    cheapen(alloc, problem, columns, ground, &mut found)?;
+    Ok(Some(found))
 }
 
-// A plan by dives, and repairs of what the fullest one leaves out. It is made cheaper as far as that goes.
-fn repaired(
+// A plan by dives and repairs, made cheaper as far as that goes.
+fn found_by(
     alloc: Global,
     problem: &Problem,
     sought: &Sought,
@@ -201,19 +218,16 @@ fn repaired(
     requires duals { AreDuals problem.now.table.now problem.now.book.now sought.now.duals.now.values }
     requires columns { AreColumns problem.now columns.old }
     ensures columns { AreColumns problem.now columns.new }
-    ensures plan { IfOk result (λ found. IfSome found (λ plan. IsFittingPlan problem.now.table.now problem.now.book.now sought.now.marks.now.facts plan.cost plan.plan)) }
+    ensures plan { IfOk result (λ found. IfSome found (λ plan.
+        IsFittingPlan problem.now.table.now problem.now.book.now sought.now.marks.now.facts plan.cost plan.plan)) }
 {
     let Sought { marks, duals, .. } = *sought;
-    let mut plan = fullest(alloc, problem, sought, columns, pool)?;
-    let ground = Ground { marks, pool, duals };
-    repair(alloc, problem, columns, &ground, &mut plan)?;
+    let plan = repaired(alloc, problem, sought, columns, pool)?;
     if plan.count_left() > 0 {
         return Ok(None);
     }
-    match judge(alloc, problem, marks, plan.routes)? {
-        Some(found) => Ok(Some(cheapened(alloc, problem, columns, &ground, found)?)),
-        None => Ok(None),
-    }
+    let ground = Ground { marks, pool, duals };
+    cheapened(alloc, problem, columns, &ground, plan.routes)
 }
 
 // Adds the routes of a plan to a pool.
@@ -230,7 +244,8 @@ fn add_all(
     requires columns { AreColumns problem.now columns.old }
     requires pool { IsPoolFor problem.now.table.now problem.now.book.now pool.old }
     ensures pool { IsPoolFor problem.now.table.now problem.now.book.now pool.new }
-    ensures fitting { All (IsFittingEntry problem.now.book.now marks.now.facts) pool.old.entries → All (IsFittingEntry problem.now.book.now marks.now.facts) pool.new.entries }
+    ensures fitting { All (IsFittingEntry problem.now.book.now marks.now.facts) pool.old.entries
+        → All (IsFittingEntry problem.now.book.now marks.now.facts) pool.new.entries }
 {
     let search = &mut columns.search;
     for k in 0..routes.len() {
@@ -240,14 +255,31 @@ fn add_all(
     Ok(())
 }
 
-// The same routes.
-fn same_routes(alloc: Global, routes: &[Route]) -> Result<Vec<Route>, Memory> {
-    let mut copied = Vec::with_capacity(alloc, routes.len())?;
-    for k in 0..routes.len() {
-        let route = &routes[k];
-        copied.push(Route(Vec::from_slice(alloc, &route.0)?))?;
-    }
-    Ok(copied)
+// Finds a plan, and adds its routes to the pool.
+fn find_with(
+    alloc: Global,
+    problem: &Problem,
+    sought: &Sought,
+    columns: &mut Columns,
+    pool: &mut Pool,
+) -> Result<Option<Found>, Memory>
+    requires problem { IsProblem problem.now }
+    requires marks { AreMarksOf problem.now.book.now sought.now.marks.now }
+    requires duals { AreDuals problem.now.table.now problem.now.book.now sought.now.duals.now.values }
+    requires columns { AreColumns problem.now columns.old }
+    requires pool { IsPoolFor problem.now.table.now problem.now.book.now pool.old }
+    ensures plan { IfOk result (λ found. IfSome found (λ plan.
+        IsFittingPlan problem.now.table.now problem.now.book.now sought.now.marks.now.facts plan.cost plan.plan)) }
+    ensures pool { IsPoolFor problem.now.table.now problem.now.book.now pool.new }
+    ensures fitting { All (IsFittingEntry problem.now.book.now sought.now.marks.now.facts) pool.old.entries
+        → All (IsFittingEntry problem.now.book.now sought.now.marks.now.facts) pool.new.entries }
+{
+    let Some(found) = found_by(alloc, problem, sought, columns, pool)? else {
+        return Ok(None);
+    };
+    let (marks, plan) = (sought.marks, &found.plan);
+    add_all(alloc, problem, marks, columns, pool, &plan.0)?;
+    Ok(Some(found))
 }
 
 /// Looks for a legal plan that fits the marks. What it answers has the cost that it says; how good that is, and whether there was
@@ -262,17 +294,78 @@ pub fn find_by_dives(
     requires marks { AreMarksOf problem.now.book.now sought.now.marks.now }
     requires duals { AreDuals problem.now.table.now problem.now.book.now sought.now.duals.now.values }
     requires pool { IsPoolFor problem.now.table.now problem.now.book.now pool.old }
-    ensures plan { IfOk result (λ found. IfSome found (λ plan. IsFittingPlan problem.now.table.now problem.now.book.now sought.now.marks.now.facts plan.cost plan.plan)) }
+    ensures plan { IfOk result (λ found. IfSome found (λ plan.
+        IsFittingPlan problem.now.table.now problem.now.book.now sought.now.marks.now.facts plan.cost plan.plan)) }
     ensures pool { IsPoolFor problem.now.table.now problem.now.book.now pool.new }
-    ensures fitting { All (IsFittingEntry problem.now.book.now sought.now.marks.now.facts) pool.old.entries → All (IsFittingEntry problem.now.book.now sought.now.marks.now.facts) pool.new.entries }
+    ensures fitting { All (IsFittingEntry problem.now.book.now sought.now.marks.now.facts) pool.old.entries
+        → All (IsFittingEntry problem.now.book.now sought.now.marks.now.facts) pool.new.entries }
 {
     let mut columns = Columns::new(alloc, problem, sought.work)?;
-    let found = repaired(alloc, problem, sought, &mut columns, pool)?;
-    if let Some(found) = &found {
-        let (marks, plan) = (sought.marks, &found.plan);
-        add_all(alloc, problem, marks, &mut columns, pool, &plan.0)?;
+    find_with(alloc, problem, sought, &mut columns, pool)
+}
+
+// Makes a plan cheaper by the ladder alone.
+fn climb(
+    alloc: Global,
+    problem: &Problem,
+    columns: &mut Columns,
+    ground: &Ground,
+    best: &mut Found,
+) -> Result<(), Memory>
+    requires problem { IsProblem problem.now }
+    requires marks { AreMarksOf problem.now.book.now ground.now.marks.now }
+    requires duals { AreDuals problem.now.table.now problem.now.book.now ground.now.duals.now.values }
+    requires columns { AreColumns problem.now columns.old }
+    requires best { IsFittingPlan problem.now.table.now problem.now.book.now ground.now.marks.now.facts best.old.cost best.old.plan }
+    ensures { IsFittingPlan problem.now.table.now problem.now.book.now ground.now.marks.now.facts best.new.cost best.new.plan }
+{
+    match Ladder::new(alloc, problem, columns, ground)? {
+        Some(mut ladder) => ladder.climb(alloc, problem, columns, ground, best),
+        None => Ok(()),
     }
-    Ok(found)
+}
+
+// The same, where the routes that a ladder begins with are those of the plan.
+fn climb_near(
+    alloc: Global,
+    problem: &Problem,
+    sought: &Sought,
+    columns: &mut Columns,
+    best: &mut Found,
+) -> Result<(), Memory>
+    requires problem { IsProblem problem.now }
+    requires marks { AreMarksOf problem.now.book.now sought.now.marks.now }
+    requires duals { AreDuals problem.now.table.now problem.now.book.now sought.now.duals.now.values }
+    requires columns { AreColumns problem.now columns.old }
+    requires best { IsFittingPlan problem.now.table.now problem.now.book.now sought.now.marks.now.facts best.old.cost best.old.plan }
+    ensures { IsFittingPlan problem.now.table.now problem.now.book.now sought.now.marks.now.facts best.new.cost best.new.plan }
+{
+    let Sought { marks, duals, .. } = *sought;
+    columns.begin_with(alloc, problem, marks, &best.plan.0)?;
+    let pool = columns.take_pool(alloc, problem)?;
+    let ground = Ground {
+        marks,
+        pool: &pool,
+        duals,
+    };
+    climb(alloc, problem, columns, &ground, best)
+}
+
+// The same with columns of its own.
+fn exchange_in(
+    alloc: Global,
+    problem: &Problem,
+    sought: &Sought,
+    best: &mut Found,
+) -> Result<(), Memory>
+    requires problem { IsProblem problem.now }
+    requires marks { AreMarksOf problem.now.book.now sought.now.marks.now }
+    requires duals { AreDuals problem.now.table.now problem.now.book.now sought.now.duals.now.values }
+    requires best { IsFittingPlan problem.now.table.now problem.now.book.now sought.now.marks.now.facts best.old.cost best.old.plan }
+    ensures { IsFittingPlan problem.now.table.now problem.now.book.now sought.now.marks.now.facts best.new.cost best.new.plan }
+{
+    let mut columns = Columns::new(alloc, problem, sought.work)?;
+    climb_near(alloc, problem, sought, &mut columns, best)
 }
 
 /// Looks for a cheaper plan near a given one, by the ladder alone. What it answers fits the marks and has the cost that it says: the
@@ -286,22 +379,13 @@ pub fn exchange(
     requires problem { IsProblem problem.now }
     requires marks { AreMarksOf problem.now.book.now sought.now.marks.now }
     requires duals { AreDuals problem.now.table.now problem.now.book.now sought.now.duals.now.values }
-    ensures plan { IfOk result (λ found. IfSome found (λ plan. IsFittingPlan problem.now.table.now problem.now.book.now sought.now.marks.now.facts plan.cost plan.plan)) }
+    ensures plan { IfOk result (λ found. IfSome found (λ plan.
+        IsFittingPlan problem.now.table.now problem.now.book.now sought.now.marks.now.facts plan.cost plan.plan)) }
 {
-    let Sought { marks, duals, work } = *sought;
-    let Some(first) = judge(alloc, problem, marks, same_routes(alloc, &plan.0)?)? else {
+    let routes = same_routes(alloc, &plan.0)?;
+    let Some(mut best) = judge(alloc, problem, sought.marks, routes)? else {
         return Ok(None);
     };
-    let mut columns = Columns::new(alloc, problem, work)?;
-    columns.begin_with(alloc, problem, marks, &first.plan.0)?;
-    let pool = std::mem::replace(&mut columns.pool, Pool::new(alloc)?);
-    let ground = Ground {
-        marks,
-        pool: &pool,
-        duals,
-    };
-    match Ladder::new(alloc, problem, &mut columns, &ground)? {
-        Some(mut ladder) => Ok(Some(ladder.climb(alloc, problem, &mut columns, &ground, first)?)),
-        None => Ok(Some(first)),
-    }
+    exchange_in(alloc, problem, sought, &mut best)?;
+    Ok(Some(best))
 }

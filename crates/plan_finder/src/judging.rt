@@ -35,6 +35,23 @@ fn all_fit(problem: &Problem, marks: &Marks, routes: &[Route]) -> bool
     true
 }
 
+// What a plan costs, where it is a legal one that fits.
+fn cost_of(
+    alloc: Global,
+    problem: &Problem,
+    marks: &Marks,
+    plan: &Plan,
+) -> Result<Option<u64>, Memory>
+    requires problem { IsProblem problem.now }
+    requires marks { AreMarksOf problem.now.book.now marks.now }
+    ensures { IfOk result (λ judged. IfSome judged (λ cost. IsFittingPlan problem.now.table.now problem.now.book.now marks.now.facts cost plan.now)) }
+{
+    if !all_fit(problem, marks, &plan.0) {
+        return Ok(None);
+    }
+    audit_plan(alloc, problem.book, problem.table, plan)
+}
+
 /// Routes as a plan with its cost, where they are a legal one that fits.
 pub fn judge(
     alloc: Global,
@@ -47,10 +64,7 @@ pub fn judge(
     ensures { IfOk result (λ found. IfSome found (λ plan. IsFittingPlan problem.now.table.now problem.now.book.now marks.now.facts plan.cost plan.plan)) }
 {
     let plan = Plan(routes);
-    if !all_fit(problem, marks, &plan.0) {
-        return Ok(None);
-    }
-    match audit_plan(alloc, problem.book, problem.table, &plan)? {
+    match cost_of(alloc, problem, marks, &plan)? {
         Some(cost) => Ok(Some(Found { plan, cost })),
         None => Ok(None),
     }

@@ -5,7 +5,6 @@
 //! while the routes in it stay. The ladder ends where the plan is within less than a cost unit of the bound of the duals, where
 //! no part of it is gained on, or where the work is spent.
 
-ghost use Rattle.std.specs.Prelude.{IfOk};
 ghost use Rattle.branch_marks.specs.Settled.{AreDuals};
 ghost use Rattle.branch_marks.specs.inside.MarkTables.{AreMarksOf};
 ghost use Rattle.plan_finder.specs.Columns.{AreColumns};
@@ -17,22 +16,20 @@ use crate::ground::Ground;
 use crate::judging::judge;
 use crate::neighbourhood::{Neighbourhood, room_for};
 use crate::problem::Problem;
-use crate::standing::{furthest_first, kept_beside};
-use crate::tried::{Part, Tried};
 use crate::window::{replan_aircraft, replan_window};
-use pool_plans::Found;
+use pool_plans::{Found, Part, Tried, furthest_first, kept_beside};
 use restricted_master::Pool;
 use std::alloc::Global;
 use tail_book::{Memory, Route};
 
 // A rung: how many activities its windows have, and its sets how many aircraft.
-#[derive(Clone, Copy, Debug)]
+#[derive(Clone, Copy)]
 struct Rung {
     activities: u32,
     aircraft: usize,
 }
 
-const RUNGS: [Rung; 6] = [
+const RUNGS: &[Rung] = &[
     Rung {
         activities: 40,
         aircraft: 3,
@@ -64,34 +61,35 @@ const TURNS: u32 = 20;
 
 /// A ladder for plans under the same marks and duals: the bound of these, in thousandths of a cost unit, with lightest routes, and
 /// the parts that were tried.
-#[derive(Debug, Drop)]
+#[derive(Drop)]
 pub struct Ladder {
     bound: i128,
     lightest: Pool,
     tried: Tried,
 }
 
-// The cheaper of a plan and one of other routes, if these are a legal plan that fits the marks.
-fn cheaper(
+// Takes other routes for the best plan, if they are a cheaper one that is legal and fits the marks.
+fn take_cheaper(
     alloc: Global,
     problem: &Problem,
     ground: &Ground,
-    best: Found,
+    best: &mut Found,
     routes: Option<Vec<Route>>,
-) -> Result<Found, Memory>
+) -> Result<(), Memory>
     requires problem { IsProblem problem.now }
     requires marks { AreMarksOf problem.now.book.now ground.now.marks.now }
-    requires best { IsFittingPlan problem.now.table.now problem.now.book.now ground.now.marks.now.facts best.cost best.plan }
-    ensures { IfOk result (λ plan. IsFittingPlan problem.now.table.now problem.now.book.now ground.now.marks.now.facts plan.cost plan.plan) }
+    requires best { IsFittingPlan problem.now.table.now problem.now.book.now ground.now.marks.now.facts best.old.cost best.old.plan }
+    ensures { IsFittingPlan problem.now.table.now problem.now.book.now ground.now.marks.now.facts best.new.cost best.new.plan }
 {
     let Some(routes) = routes else {
-        return Ok(best);
+        return Ok(());
     };
-    let marks = ground.marks;
-    match judge(alloc, problem, marks, routes)? {
-        Some(other) if other.cost < best.cost => Ok(other),
-        _ => Ok(best),
+    if let Some(other) = judge(alloc, problem, ground.marks, routes)? {
+        if other.cost < best.cost {
+            *best = other;
+        }
     }
+    Ok(())
 }
 
 // The sum of duals and least weights, in thousandths of a cost unit. The columns are left with lightest routes. Nothing where an
@@ -138,7 +136,7 @@ impl Ladder {
         };
         Ok(Some(Ladder {
             bound,
-            lightest: std::mem::replace(&mut columns.pool, Pool::new(alloc)?),
+            lightest: columns.take_pool(alloc, problem)?,
             tried: Tried::nothing(alloc),
         }))
     }
@@ -148,37 +146,6 @@ impl Ladder {
         !columns.is_spent() && room_for(self.bound, best.cost) >= 0
     }
 
-    // Plans windows of so many activities again, from the first ones to the last. A third of a window lies between two of them.
-    fn try_windows(
-        &mut self,
-        alloc: Global,
-        problem: &Problem,
-        columns: &mut Columns,
-        ground: &Ground,
-        first: Found,
-        width: u32,
-    ) -> Result<Found, Memory>
-        requires problem { IsProblem problem.now }
-        requires marks { AreMarksOf problem.now.book.now ground.now.marks.now }
-        requires duals { AreDuals problem.now.table.now problem.now.book.now ground.now.duals.now.values }
-        requires columns { AreColumns problem.now columns.old }
-        requires first { IsFittingPlan problem.now.table.now problem.now.book.now ground.now.marks.now.facts first.cost first.plan }
-        ensures columns { AreColumns problem.now columns.new }
-        ensures plan { IfOk result (λ plan. IsFittingPlan problem.now.table.now problem.now.book.now ground.now.marks.now.facts plan.cost plan.plan) }
-    {
-        let book = problem.book;
-        let mut best = first;
-        for i in 0..book.activities.len() as u32 {
-            let from = i.saturating_mul(width / 3);
-            if from as usize >= book.activities.len() || !self.is_open(columns, &best) {
-                return Ok(best);
-            }
-            let to = from.saturating_add(width);
-            best = self.try_window(alloc, problem, columns, ground, best, from, to)?;
-        }
-        Ok(best)
-    }
-
     // Plans a window of activities again, unless that was tried.
     fn try_window(
         &mut self,
@@ -186,17 +153,17 @@ impl Ladder {
         problem: &Problem,
         columns: &mut Columns,
         ground: &Ground,
-        best: Found,
+        best: &mut Found,
         from: u32,
         to: u32,
-    ) -> Result<Found, Memory>
+    ) -> Result<(), Memory>
         requires problem { IsProblem problem.now }
         requires marks { AreMarksOf problem.now.book.now ground.now.marks.now }
         requires duals { AreDuals problem.now.table.now problem.now.book.now ground.now.duals.now.values }
         requires columns { AreColumns problem.now columns.old }
-        requires best { IsFittingPlan problem.now.table.now problem.now.book.now ground.now.marks.now.facts best.cost best.plan }
+        requires best { IsFittingPlan problem.now.table.now problem.now.book.now ground.now.marks.now.facts best.old.cost best.old.plan }
         ensures columns { AreColumns problem.now columns.new }
-        ensures plan { IfOk result (λ plan. IsFittingPlan problem.now.table.now problem.now.book.now ground.now.marks.now.facts plan.cost plan.plan) }
+        ensures best { IsFittingPlan problem.now.table.now problem.now.book.now ground.now.marks.now.facts best.new.cost best.new.plan }
     {
         let part = Part {
             kept: &[],
@@ -204,44 +171,40 @@ impl Ladder {
             to,
         };
         if !self.tried.note(part, &best.plan.0)? {
-            return Ok(best);
+            return Ok(());
         }
-        let routes = replan_window(alloc, problem, columns, ground, &best, from, to)?;
-        cheaper(alloc, problem, ground, best, routes)
+        let routes = replan_window(alloc, problem, columns, ground, best, from, to)?;
+        take_cheaper(alloc, problem, ground, best, routes)
     }
 
-    // Plans again what sets of so many aircraft fly: a third of them are those that stand furthest above their lightest routes, the
-    // others come one after the other in that order.
-    fn try_sets(
+    // Plans windows of so many activities again, from the first ones to the last. A third of a window lies between two of them.
+    fn try_windows(
         &mut self,
         alloc: Global,
         problem: &Problem,
         columns: &mut Columns,
         ground: &Ground,
-        first: Found,
-        aircraft: usize,
-    ) -> Result<Found, Memory>
+        best: &mut Found,
+        width: u32,
+    ) -> Result<(), Memory>
         requires problem { IsProblem problem.now }
         requires marks { AreMarksOf problem.now.book.now ground.now.marks.now }
         requires duals { AreDuals problem.now.table.now problem.now.book.now ground.now.duals.now.values }
         requires columns { AreColumns problem.now columns.old }
-        requires first { IsFittingPlan problem.now.table.now problem.now.book.now ground.now.marks.now.facts first.cost first.plan }
+        requires best { IsFittingPlan problem.now.table.now problem.now.book.now ground.now.marks.now.facts best.old.cost best.old.plan }
         ensures columns { AreColumns problem.now columns.new }
-        ensures plan { IfOk result (λ plan. IsFittingPlan problem.now.table.now problem.now.book.now ground.now.marks.now.facts plan.cost plan.plan) }
+        ensures best { IsFittingPlan problem.now.table.now problem.now.book.now ground.now.marks.now.facts best.new.cost best.new.plan }
     {
-        let order = self.order_of(alloc, problem, columns, ground, &first)?;
-        let ahead = aircraft / 3;
-        let many = aircraft.saturating_sub(ahead);
-        let mut best = first;
-        for i in 0..order.len() {
-            let from = ahead.saturating_add(i.saturating_mul(many / 2));
-            if from >= order.len() || !self.is_open(columns, &best) {
-                return Ok(best);
+        let book = problem.book;
+        for i in 0..book.activities.len() as u32 {
+            let from = i.saturating_mul(width / 3);
+            if from as usize >= book.activities.len() || !self.is_open(columns, best) {
+                return Ok(());
             }
-            let kept = kept_beside(alloc, &order, ahead, from, many)?;
-            best = self.try_set(alloc, problem, columns, ground, best, &kept)?;
+            let to = from.saturating_add(width);
+            self.try_window(alloc, problem, columns, ground, best, from, to)?;
         }
-        Ok(best)
+        Ok(())
     }
 
     // Plans again what the aircraft fly that do not keep their route, unless that was tried.
@@ -251,16 +214,16 @@ impl Ladder {
         problem: &Problem,
         columns: &mut Columns,
         ground: &Ground,
-        best: Found,
+        best: &mut Found,
         kept: &[bool],
-    ) -> Result<Found, Memory>
+    ) -> Result<(), Memory>
         requires problem { IsProblem problem.now }
         requires marks { AreMarksOf problem.now.book.now ground.now.marks.now }
         requires duals { AreDuals problem.now.table.now problem.now.book.now ground.now.duals.now.values }
         requires columns { AreColumns problem.now columns.old }
-        requires best { IsFittingPlan problem.now.table.now problem.now.book.now ground.now.marks.now.facts best.cost best.plan }
+        requires best { IsFittingPlan problem.now.table.now problem.now.book.now ground.now.marks.now.facts best.old.cost best.old.plan }
         ensures columns { AreColumns problem.now columns.new }
-        ensures plan { IfOk result (λ plan. IsFittingPlan problem.now.table.now problem.now.book.now ground.now.marks.now.facts plan.cost plan.plan) }
+        ensures best { IsFittingPlan problem.now.table.now problem.now.book.now ground.now.marks.now.facts best.new.cost best.new.plan }
     {
         let part = Part {
             kept,
@@ -268,10 +231,69 @@ impl Ladder {
             to: u32::MAX,
         };
         if !self.tried.note(part, &best.plan.0)? {
-            return Ok(best);
+            return Ok(());
         }
-        let routes = replan_aircraft(alloc, problem, columns, ground, &best, kept)?;
-        cheaper(alloc, problem, ground, best, routes)
+        let routes = replan_aircraft(alloc, problem, columns, ground, best, kept)?;
+        take_cheaper(alloc, problem, ground, best, routes)
+    }
+
+    // Plans again what those fly that stand first in an order, and so many from a place on.
+    fn try_set_at(
+        &mut self,
+        alloc: Global,
+        problem: &Problem,
+        columns: &mut Columns,
+        ground: &Ground,
+        best: &mut Found,
+        order: &[usize],
+        first: usize,
+        from: usize,
+        many: usize,
+    ) -> Result<(), Memory>
+        requires problem { IsProblem problem.now }
+        requires marks { AreMarksOf problem.now.book.now ground.now.marks.now }
+        requires duals { AreDuals problem.now.table.now problem.now.book.now ground.now.duals.now.values }
+        requires columns { AreColumns problem.now columns.old }
+        requires best { IsFittingPlan problem.now.table.now problem.now.book.now ground.now.marks.now.facts best.old.cost best.old.plan }
+        ensures columns { AreColumns problem.now columns.new }
+        ensures best { IsFittingPlan problem.now.table.now problem.now.book.now ground.now.marks.now.facts best.new.cost best.new.plan }
+    {
+        let kept = kept_beside(alloc, order, first, from, many)?;
+        self.try_set(alloc, problem, columns, ground, best, &kept)
+    }
+
+    // Plans again what sets of so many aircraft fly: a third of them are those that stand first in an order, the others come one after
+    // the other.
+    fn try_sets_in(
+        &mut self,
+        alloc: Global,
+        problem: &Problem,
+        columns: &mut Columns,
+        ground: &Ground,
+        best: &mut Found,
+        order: &[usize],
+        aircraft: usize,
+    ) -> Result<(), Memory>
+        requires problem { IsProblem problem.now }
+        requires marks { AreMarksOf problem.now.book.now ground.now.marks.now }
+        requires duals { AreDuals problem.now.table.now problem.now.book.now ground.now.duals.now.values }
+        requires columns { AreColumns problem.now columns.old }
+        requires best { IsFittingPlan problem.now.table.now problem.now.book.now ground.now.marks.now.facts best.old.cost best.old.plan }
+        ensures columns { AreColumns problem.now columns.new }
+        ensures best { IsFittingPlan problem.now.table.now problem.now.book.now ground.now.marks.now.facts best.new.cost best.new.plan }
+    {
+        let ahead = aircraft / 3;
+        let many = aircraft.saturating_sub(ahead);
+        for i in 0..order.len() {
+            let from = ahead.saturating_add(i.saturating_mul(many / 2));
+            if from >= order.len() || !self.is_open(columns, best) {
+                return Ok(());
+            }
+            self.try_set_at(
+                alloc, problem, columns, ground, best, order, ahead, from, many,
+            )?;
+        }
+        Ok(())
     }
 
     // The aircraft, those first whose route in a plan stands furthest above their lightest.
@@ -296,6 +318,28 @@ impl Ladder {
         furthest_first(alloc, &columns.pool, &duals.values, m)
     }
 
+    // Plans again what sets of so many aircraft fly, those first that stand furthest above their lightest routes.
+    fn try_sets(
+        &mut self,
+        alloc: Global,
+        problem: &Problem,
+        columns: &mut Columns,
+        ground: &Ground,
+        best: &mut Found,
+        aircraft: usize,
+    ) -> Result<(), Memory>
+        requires problem { IsProblem problem.now }
+        requires marks { AreMarksOf problem.now.book.now ground.now.marks.now }
+        requires duals { AreDuals problem.now.table.now problem.now.book.now ground.now.duals.now.values }
+        requires columns { AreColumns problem.now columns.old }
+        requires best { IsFittingPlan problem.now.table.now problem.now.book.now ground.now.marks.now.facts best.old.cost best.old.plan }
+        ensures columns { AreColumns problem.now columns.new }
+        ensures best { IsFittingPlan problem.now.table.now problem.now.book.now ground.now.marks.now.facts best.new.cost best.new.plan }
+    {
+        let order = self.order_of(alloc, problem, columns, ground, best)?;
+        self.try_sets_in(alloc, problem, columns, ground, best, &order, aircraft)
+    }
+
     // Climbs the ladder once.
     fn climb_once(
         &mut self,
@@ -303,26 +347,25 @@ impl Ladder {
         problem: &Problem,
         columns: &mut Columns,
         ground: &Ground,
-        first: Found,
-    ) -> Result<Found, Memory>
+        best: &mut Found,
+    ) -> Result<(), Memory>
         requires problem { IsProblem problem.now }
         requires marks { AreMarksOf problem.now.book.now ground.now.marks.now }
         requires duals { AreDuals problem.now.table.now problem.now.book.now ground.now.duals.now.values }
         requires columns { AreColumns problem.now columns.old }
-        requires first { IsFittingPlan problem.now.table.now problem.now.book.now ground.now.marks.now.facts first.cost first.plan }
+        requires best { IsFittingPlan problem.now.table.now problem.now.book.now ground.now.marks.now.facts best.old.cost best.old.plan }
         ensures columns { AreColumns problem.now columns.new }
-        ensures plan { IfOk result (λ plan. IsFittingPlan problem.now.table.now problem.now.book.now ground.now.marks.now.facts plan.cost plan.plan) }
+        ensures best { IsFittingPlan problem.now.table.now problem.now.book.now ground.now.marks.now.facts best.new.cost best.new.plan }
     {
-        let mut best = first;
         for i in 0..RUNGS.len() {
             let Rung {
                 activities,
                 aircraft,
             } = RUNGS[i];
-            best = self.try_windows(alloc, problem, columns, ground, best, activities)?;
-            best = self.try_sets(alloc, problem, columns, ground, best, aircraft)?;
+            self.try_windows(alloc, problem, columns, ground, best, activities)?;
+            self.try_sets(alloc, problem, columns, ground, best, aircraft)?;
         }
-        Ok(best)
+        Ok(())
     }
 
     /// Makes a plan cheaper, as far as the bound of the duals and the work leave room, and parts of it are gained on.
@@ -332,24 +375,23 @@ impl Ladder {
         problem: &Problem,
         columns: &mut Columns,
         ground: &Ground,
-        first: Found,
-    ) -> Result<Found, Memory>
+        best: &mut Found,
+    ) -> Result<(), Memory>
         requires problem { IsProblem problem.now }
         requires marks { AreMarksOf problem.now.book.now ground.now.marks.now }
         requires duals { AreDuals problem.now.table.now problem.now.book.now ground.now.duals.now.values }
         requires columns { AreColumns problem.now columns.old }
-        requires first { IsFittingPlan problem.now.table.now problem.now.book.now ground.now.marks.now.facts first.cost first.plan }
+        requires best { IsFittingPlan problem.now.table.now problem.now.book.now ground.now.marks.now.facts best.old.cost best.old.plan }
         ensures columns { AreColumns problem.now columns.new }
-        ensures plan { IfOk result (λ plan. IsFittingPlan problem.now.table.now problem.now.book.now ground.now.marks.now.facts plan.cost plan.plan) }
+        ensures best { IsFittingPlan problem.now.table.now problem.now.book.now ground.now.marks.now.facts best.new.cost best.new.plan }
     {
-        let mut best = first;
         for _turn in 0..TURNS {
             let cost = best.cost;
-            best = self.climb_once(alloc, problem, columns, ground, best)?;
-            if best.cost == cost || !self.is_open(columns, &best) {
-                return Ok(best);
+            self.climb_once(alloc, problem, columns, ground, best)?;
+            if best.cost == cost || !self.is_open(columns, best) {
+                return Ok(());
             }
         }
-        Ok(best)
+        Ok(())
     }
 }

@@ -7,23 +7,16 @@
 #![tactic(auto)]
 
 mod columns;
+mod copying;
 mod finding;
-mod fixing;
 mod ground;
 mod judging;
 mod ladder;
-mod leads;
-mod mixing;
 mod neighbourhood;
 mod problem;
 mod repairing;
 mod restarting;
-mod slice;
 mod soft_dive;
-mod soft_plan;
-mod standing;
-mod tried;
-mod weights;
 mod window;
 
 pub use finding::{Sought, exchange, find_by_dives};

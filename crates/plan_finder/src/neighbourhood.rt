@@ -11,11 +11,11 @@ ghost use Rattle.plan_finder.specs.Columns.{AreColumns};
 ghost use Rattle.plan_finder.specs.Problem.{IsProblem};
 
 use crate::columns::Columns;
+use crate::copying::copy_of;
 use crate::problem::Problem;
-use crate::weights::Weights;
 use branch_marks::Marks;
 use dual_ascent::Ascent;
-use pool_plans::find_cover;
+use pool_plans::{Weights, find_cover};
 use std::alloc::Global;
 use tail_book::laws::every_book_is_sound;
 use tail_book::{COST_UNIT, Duals, Memory, Route};
@@ -111,6 +111,37 @@ impl Columns {
         self.price(alloc, problem, marks, duals, k, cut, slack)
     }
 
+    // The duals of what is not left out, with the least weights of all aircraft.
+    fn sum_up(
+        &mut self,
+        alloc: Global,
+        problem: &Problem,
+        near: &Neighbourhood,
+        duals: &Duals,
+        slack: u32,
+        weights: &Weights,
+    ) -> Result<Option<i128>, Memory>
+        requires problem { IsProblem problem.now }
+        requires marks { AreMarksOf problem.now.book.now near.now.marks.now }
+        requires duals { AreDuals problem.now.table.now problem.now.book.now duals.now.values }
+        requires columns { AreColumns problem.now self.old }
+        ensures columns { AreColumns problem.now self.new }
+    {
+        let book = problem.book;
+        every_book_is_sound(book);
+        let mut sum = sum_of(&duals.values, near.left_out);
+        for k in 0..book.tails.len() as u32 {
+            let low = weights.least(k as usize);
+            let Some(value) = self.weigh_one(alloc, problem, near, duals, k, low, slack)? else {
+                return Ok(None);
+            };
+            sum = sum.saturating_add(i128::from(value));
+        }
+        let routes = self.pool.count() as u64;
+        self.spend(routes);
+        Ok(Some(sum))
+    }
+
     /// The Lagrangian sum of a neighbourhood under duals. Nothing where an aircraft has no route.
     pub fn weigh(
         &mut self,
@@ -127,19 +158,8 @@ impl Columns {
         ensures columns { AreColumns problem.now self.new }
     {
         let book = problem.book;
-        every_book_is_sound(book);
         let weights = Weights::of(alloc, &self.pool, &duals.values, book.tails.len())?;
-        let mut sum = sum_of(&duals.values, near.left_out);
-        for k in 0..book.tails.len() as u32 {
-            let low = weights.least(k as usize);
-            let Some(value) = self.weigh_one(alloc, problem, near, duals, k, low, slack)? else {
-                return Ok(None);
-            };
-            sum = sum.saturating_add(i128::from(value));
-        }
-        let routes = self.pool.count() as u64;
-        self.spend(routes);
-        Ok(Some(sum))
+        self.sum_up(alloc, problem, near, duals, slack, &weights)
     }
 
     // The routes in the pool that cover all but what is left out, where a short search finds some.
@@ -189,14 +209,52 @@ fn ascend(
         if room_for(sum, near.target) < 0 || columns.is_spent() || ascent.is_over() {
             return Ok(None);
         }
-        let found = columns.cover(alloc, problem, near, duals)?;
-        if found.is_some() {
-            return Ok(found);
+        if let Some(routes) = columns.cover(alloc, problem, near, duals)? {
+            return Ok(Some(routes));
         }
         ascent.learn(duals, sum);
         ascent.climb(book, table, &columns.pool, duals)?;
     }
     Ok(None)
+}
+
+// Rounds under an ascent that begins at a temperature.
+fn ascend_from(
+    alloc: Global,
+    problem: &Problem,
+    columns: &mut Columns,
+    near: &Neighbourhood,
+    temperature: i64,
+    duals: &mut Duals,
+) -> Result<Option<Vec<Route>>, Memory>
+    requires problem { IsProblem problem.now }
+    requires marks { AreMarksOf problem.now.book.now near.now.marks.now }
+    requires duals { AreDuals problem.now.table.now problem.now.book.now duals.old.values }
+    requires columns { AreColumns problem.now columns.old }
+    ensures columns { AreColumns problem.now columns.new }
+{
+    let (table, radius) = (problem.table, temperature.saturating_mul(4));
+    let mut ascent = Ascent::starting(alloc, table, duals, temperature, radius)?;
+    ascend(alloc, problem, columns, near, &mut ascent, duals)
+}
+
+// The same from a copy of duals.
+fn ascend_beside(
+    alloc: Global,
+    problem: &Problem,
+    columns: &mut Columns,
+    near: &Neighbourhood,
+    temperature: i64,
+    duals: &Duals,
+) -> Result<Option<Vec<Route>>, Memory>
+    requires problem { IsProblem problem.now }
+    requires marks { AreMarksOf problem.now.book.now near.now.marks.now }
+    requires duals { AreDuals problem.now.table.now problem.now.book.now duals.now.values }
+    requires columns { AreColumns problem.now columns.old }
+    ensures columns { AreColumns problem.now columns.new }
+{
+    let mut duals = copy_of(duals)?;
+    ascend_from(alloc, problem, columns, near, temperature, &mut duals)
 }
 
 /// Searches a neighbourhood of a plan. The routes that are found cover all but what is left out.
@@ -205,15 +263,15 @@ pub fn improve(
     problem: &Problem,
     columns: &mut Columns,
     near: &Neighbourhood,
-    mut duals: Duals,
+    duals: &Duals,
 ) -> Result<Option<Vec<Route>>, Memory>
     requires problem { IsProblem problem.now }
     requires marks { AreMarksOf problem.now.book.now near.now.marks.now }
-    requires duals { AreDuals problem.now.table.now problem.now.book.now duals.values }
+    requires duals { AreDuals problem.now.table.now problem.now.book.now duals.now.values }
     requires columns { AreColumns problem.now columns.old }
     ensures columns { AreColumns problem.now columns.new }
 {
-    let Some(first) = columns.weigh(alloc, problem, near, &duals, 0)? else {
+    let Some(first) = columns.weigh(alloc, problem, near, duals, 0)? else {
         return Ok(None);
     };
     let room = room_for(first, near.target);
@@ -221,13 +279,7 @@ pub fn improve(
         return Ok(None);
     }
     let book = problem.book;
-    let temperature = temperature_for(room, count_free(near.kept, book.tails.len()));
-    let mut ascent = Ascent::starting(
-        alloc,
-        problem.table,
-        &duals,
-        temperature,
-        temperature.saturating_mul(4),
-    )?;
-    ascend(alloc, problem, columns, near, &mut ascent, &mut duals)
+    let free = count_free(near.kept, book.tails.len());
+    let temperature = temperature_for(room, free);
+    ascend_beside(alloc, problem, columns, near, temperature, duals)
 }

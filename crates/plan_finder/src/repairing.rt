@@ -10,23 +10,48 @@ ghost use Rattle.plan_finder.specs.Columns.{AreColumns};
 ghost use Rattle.plan_finder.specs.Problem.{IsProblem};
 
 use crate::columns::Columns;
-use crate::fixing::marks_outside;
 use crate::ground::Ground;
 use crate::neighbourhood::{Neighbourhood, improve};
 use crate::problem::Problem;
-use crate::soft_plan::SoftPlan;
-use crate::weights::copy_of;
+use branch_marks::Marks;
+use pool_plans::{SoftPlan, marks_outside};
 use std::alloc::Global;
 use tail_book::{Memory, Route};
 
 // A stretch reaches so many activities to both sides of one that is left out.
-const WIDTHS: [u32; 5] = [15, 30, 60, 120, 240];
+const WIDTHS: &[u32] = &[15, 30, 60, 120, 240];
 
 // No plan costs as much, in cost units.
 const NO_TARGET: u64 = 1 << 50;
 
 // Routes that fit are taken from a pool, however heavy they are.
 const ANY_WEIGHT: i64 = i64::MAX;
+
+// Plans again what marks leave free, with what a pool has for that.
+fn replan(
+    alloc: Global,
+    problem: &Problem,
+    columns: &mut Columns,
+    ground: &Ground,
+    marks: &Marks,
+    left_out: &[bool],
+) -> Result<Option<Vec<Route>>, Memory>
+    requires problem { IsProblem problem.now }
+    requires marks { AreMarksOf problem.now.book.now marks.now }
+    requires duals { AreDuals problem.now.table.now problem.now.book.now ground.now.duals.now.values }
+    requires columns { AreColumns problem.now columns.old }
+    ensures columns { AreColumns problem.now columns.new }
+{
+    let Ground { pool, duals, .. } = *ground;
+    columns.begin(alloc, problem, marks, duals, pool, ANY_WEIGHT)?;
+    let near = Neighbourhood {
+        marks,
+        left_out,
+        kept: &[],
+        target: NO_TARGET,
+    };
+    improve(alloc, problem, columns, &near, duals)
+}
 
 // Plans a stretch of activities again. What lies before it stays with its aircraft, and what lies behind it stays together.
 fn replan_stretch(
@@ -45,20 +70,34 @@ fn replan_stretch(
     requires columns { AreColumns problem.now columns.old }
     ensures columns { AreColumns problem.now columns.new }
 {
-    let Ground {
-        marks: own,
-        pool,
-        duals,
-    } = *ground;
-    let marks = marks_outside(problem, own, &plan.routes, from, to)?;
-    columns.begin(alloc, problem, &marks, duals, pool, ANY_WEIGHT)?;
-    let near = Neighbourhood {
-        marks: &marks,
-        left_out,
-        kept: &[],
-        target: NO_TARGET,
-    };
-    improve(alloc, problem, columns, &near, copy_of(duals)?)
+    let (book, own) = (problem.book, ground.marks);
+    let marks = marks_outside(book, own, &plan.routes, from, to)?;
+    replan(alloc, problem, columns, ground, &marks, left_out)
+}
+
+// Routes that leave out what a plan does but for one activity, where there are some within a stretch around that.
+fn with_one(
+    alloc: Global,
+    problem: &Problem,
+    columns: &mut Columns,
+    ground: &Ground,
+    plan: &SoftPlan,
+    a: usize,
+    width: u32,
+) -> Result<Option<Vec<Route>>, Memory>
+    requires problem { IsProblem problem.now }
+    requires marks { AreMarksOf problem.now.book.now ground.now.marks.now }
+    requires duals { AreDuals problem.now.table.now problem.now.book.now ground.now.duals.now.values }
+    requires columns { AreColumns problem.now columns.old }
+    ensures columns { AreColumns problem.now columns.new }
+{
+    let mut left_out = plan.left_out.clone()?;
+    if let Some(left) = left_out.get_mut(a) {
+        *left = false;
+    }
+    let middle = (a % (1 << 31)) as u32;
+    let (from, to) = (middle.saturating_sub(width), middle.saturating_add(width));
+    replan_stretch(alloc, problem, columns, ground, plan, &left_out, from, to)
 }
 
 // Puts in an activity that is left out, if that goes within a stretch around it.
@@ -77,18 +116,8 @@ fn put_in(
     requires columns { AreColumns problem.now columns.old }
     ensures columns { AreColumns problem.now columns.new }
 {
-    let mut left_out = plan.left_out.clone()?;
-    if let Some(left) = left_out.get_mut(a) {
-        *left = false;
-    }
-    let middle = (a % (1 << 31)) as u32;
-    let (from, to) = (middle.saturating_sub(width), middle.saturating_add(width));
-    let found = replan_stretch(alloc, problem, columns, ground, plan, &left_out, from, to)?;
-    if let Some(routes) = found {
-        let fuller = SoftPlan::of(alloc, problem.book, routes)?;
-        if fuller.count_left() < plan.count_left() {
-            *plan = fuller;
-        }
+    if let Some(routes) = with_one(alloc, problem, columns, ground, plan, a, width)? {
+        plan.take_fuller(SoftPlan::of(alloc, problem.book, routes)?);
     }
     Ok(())
 }

@@ -9,27 +9,24 @@ ghost use Rattle.plan_finder.specs.Finding.{IsFittingPlan};
 ghost use Rattle.plan_finder.specs.Problem.{IsProblem};
 
 use crate::columns::Columns;
-use crate::fixing::marks_beside;
 use crate::ground::Ground;
 use crate::judging::judge;
 use crate::ladder::Ladder;
-use crate::mixing::mixed;
 use crate::problem::Problem;
 use crate::soft_dive::{Course, soft_dive};
-use crate::weights::copy_of;
 use branch_marks::Marks;
-use pool_plans::Found;
+use pool_plans::{Found, marks_beside, mixed};
 use std::alloc::Global;
-use tail_book::Memory;
+use tail_book::{Memory, Route};
 
 // A start: how many of eight aircraft dive beside the others, and how all of them dive.
-#[derive(Clone, Copy, Debug)]
+#[derive(Clone, Copy)]
 struct Start {
     eighths: u64,
     course: Course,
 }
 
-const STARTS: [Start; 4] = [
+const STARTS: &[Start] = &[
     Start {
         eighths: 4,
         course: Course {
@@ -81,46 +78,103 @@ fn kept_in(alloc: Global, aircraft: usize, turn: usize, eighths: u64) -> Result<
     Ok(kept)
 }
 
-// The cheaper of a plan and one by a dive, under marks that may hold more than those of the ground. Where the dive leaves nothing
-// out, its plan climbs the ladder first.
-fn dived(
+// Takes other routes for the best plan, if they are a cheaper one that is legal and fits the marks, once that has climbed the ladder.
+fn take_climbed(
     alloc: Global,
     problem: &Problem,
     columns: &mut Columns,
     ground: &Ground,
     ladder: &mut Ladder,
-    best: Found,
+    best: &mut Found,
+    routes: Vec<Route>,
+) -> Result<(), Memory>
+    requires problem { IsProblem problem.now }
+    requires own { AreMarksOf problem.now.book.now ground.now.marks.now }
+    requires duals { AreDuals problem.now.table.now problem.now.book.now ground.now.duals.now.values }
+    requires columns { AreColumns problem.now columns.old }
+    requires best { IsFittingPlan problem.now.table.now problem.now.book.now ground.now.marks.now.facts best.old.cost best.old.plan }
+    ensures columns { AreColumns problem.now columns.new }
+    ensures best { IsFittingPlan problem.now.table.now problem.now.book.now ground.now.marks.now.facts best.new.cost best.new.plan }
+{
+    let Some(mut other) = judge(alloc, problem, ground.marks, routes)? else {
+        return Ok(());
+    };
+    ladder.climb(alloc, problem, columns, ground, &mut other)?;
+    if other.cost < best.cost {
+        *best = other;
+    }
+    Ok(())
+}
+
+// Dives under marks that may hold more than those of the ground. Where a dive leaves nothing out, its plan is taken if it comes
+// cheaper than the best.
+fn dive(
+    alloc: Global,
+    problem: &Problem,
+    columns: &mut Columns,
+    ground: &Ground,
+    ladder: &mut Ladder,
+    best: &mut Found,
     marks: &Marks,
     course: Course,
-) -> Result<Found, Memory>
+) -> Result<(), Memory>
     requires problem { IsProblem problem.now }
     requires own { AreMarksOf problem.now.book.now ground.now.marks.now }
     requires marks { AreMarksOf problem.now.book.now marks.now }
     requires duals { AreDuals problem.now.table.now problem.now.book.now ground.now.duals.now.values }
     requires columns { AreColumns problem.now columns.old }
-    requires best { IsFittingPlan problem.now.table.now problem.now.book.now ground.now.marks.now.facts best.cost best.plan }
+    requires best { IsFittingPlan problem.now.table.now problem.now.book.now ground.now.marks.now.facts best.old.cost best.old.plan }
     ensures columns { AreColumns problem.now columns.new }
-    ensures plan { IfOk result (λ plan. IsFittingPlan problem.now.table.now problem.now.book.now ground.now.marks.now.facts plan.cost plan.plan) }
+    ensures best { IsFittingPlan problem.now.table.now problem.now.book.now ground.now.marks.now.facts best.new.cost best.new.plan }
 {
-    let Ground {
-        marks: own,
-        pool,
-        duals,
-    } = *ground;
-    let mut duals = copy_of(duals)?;
-    let plan = soft_dive(alloc, problem, marks, columns, pool, &mut duals, course)?;
+    let Ground { pool, duals, .. } = *ground;
+    let plan = soft_dive(alloc, problem, marks, columns, pool, duals, course)?;
     if plan.count_left() > 0 {
-        return Ok(best);
+        return Ok(());
     }
-    let Some(found) = judge(alloc, problem, own, plan.routes)? else {
-        return Ok(best);
-    };
-    let other = ladder.climb(alloc, problem, columns, ground, found)?;
-    if other.cost < best.cost {
-        Ok(other)
-    } else {
-        Ok(best)
-    }
+    take_climbed(alloc, problem, columns, ground, ladder, best, plan.routes)
+}
+
+// The marks that hold what those aircraft fly that keep their route in the turn of this number.
+fn marks_in(
+    alloc: Global,
+    problem: &Problem,
+    marks: &Marks,
+    best: &Found,
+    turn: usize,
+    eighths: u64,
+) -> Result<Marks, Memory>
+    requires { AreMarksOf problem.now.book.now marks.now }
+    ensures { IfOk result (AreMarksOf problem.now.book.now) }
+{
+    let book = problem.book;
+    let kept = kept_in(alloc, book.tails.len(), turn, eighths)?;
+    marks_beside(book, marks, &best.plan.0, &kept)
+}
+
+// A dive beside the routes of some aircraft.
+fn dive_beside(
+    alloc: Global,
+    problem: &Problem,
+    columns: &mut Columns,
+    ground: &Ground,
+    ladder: &mut Ladder,
+    best: &mut Found,
+    turn: usize,
+    eighths: u64,
+) -> Result<(), Memory>
+    requires problem { IsProblem problem.now }
+    requires own { AreMarksOf problem.now.book.now ground.now.marks.now }
+    requires duals { AreDuals problem.now.table.now problem.now.book.now ground.now.duals.now.values }
+    requires columns { AreColumns problem.now columns.old }
+    requires best { IsFittingPlan problem.now.table.now problem.now.book.now ground.now.marks.now.facts best.old.cost best.old.plan }
+    ensures columns { AreColumns problem.now columns.new }
+    ensures best { IsFittingPlan problem.now.table.now problem.now.book.now ground.now.marks.now.facts best.new.cost best.new.plan }
+{
+    let marks = marks_in(alloc, problem, ground.marks, best, turn, eighths)?;
+    dive(
+        alloc, problem, columns, ground, ladder, best, &marks, BESIDE,
+    )
 }
 
 // A start beside the routes of some aircraft, and one over all of them.
@@ -130,30 +184,33 @@ fn start_over(
     columns: &mut Columns,
     ground: &Ground,
     ladder: &mut Ladder,
-    best: Found,
+    best: &mut Found,
     turn: usize,
     how: Start,
-) -> Result<Found, Memory>
+) -> Result<(), Memory>
     requires problem { IsProblem problem.now }
-    requires marks { AreMarksOf problem.now.book.now ground.now.marks.now }
+    requires own { AreMarksOf problem.now.book.now ground.now.marks.now }
     requires duals { AreDuals problem.now.table.now problem.now.book.now ground.now.duals.now.values }
     requires columns { AreColumns problem.now columns.old }
-    requires best { IsFittingPlan problem.now.table.now problem.now.book.now ground.now.marks.now.facts best.cost best.plan }
+    requires best { IsFittingPlan problem.now.table.now problem.now.book.now ground.now.marks.now.facts best.old.cost best.old.plan }
     ensures columns { AreColumns problem.now columns.new }
-    ensures plan { IfOk result (λ plan. IsFittingPlan problem.now.table.now problem.now.book.now ground.now.marks.now.facts plan.cost plan.plan) }
+    ensures best { IsFittingPlan problem.now.table.now problem.now.book.now ground.now.marks.now.facts best.new.cost best.new.plan }
 {
-    let (book, own) = (problem.book, ground.marks);
-    let kept = kept_in(alloc, book.tails.len(), turn, how.eighths)?;
-    let marks = marks_beside(problem, own, &best.plan.0, &kept)?;
-    let best = dived(
-        alloc, problem, columns, ground, ladder, best, &marks, BESIDE,
+    dive_beside(
+        alloc,
+        problem,
+        columns,
+        ground,
+        ladder,
+        best,
+        turn,
+        how.eighths,
     )?;
-    if !ladder.is_open(columns, &best) {
-        return Ok(best);
+    if !ladder.is_open(columns, best) {
+        return Ok(());
     }
-    dived(
-        alloc, problem, columns, ground, ladder, best, own, how.course,
-    )
+    let (marks, course) = (ground.marks, how.course);
+    dive(alloc, problem, columns, ground, ladder, best, marks, course)
 }
 
 /// Looks for a cheaper plan by one new start after the other, as long as work is left and the bound leaves room.
@@ -163,31 +220,22 @@ pub fn restart(
     columns: &mut Columns,
     ground: &Ground,
     ladder: &mut Ladder,
-    first: Found,
-) -> Result<Found, Memory>
+    best: &mut Found,
+) -> Result<(), Memory>
     requires problem { IsProblem problem.now }
-    requires marks { AreMarksOf problem.now.book.now ground.now.marks.now }
+    requires own { AreMarksOf problem.now.book.now ground.now.marks.now }
     requires duals { AreDuals problem.now.table.now problem.now.book.now ground.now.duals.now.values }
     requires columns { AreColumns problem.now columns.old }
-    requires first { IsFittingPlan problem.now.table.now problem.now.book.now ground.now.marks.now.facts first.cost first.plan }
+    requires best { IsFittingPlan problem.now.table.now problem.now.book.now ground.now.marks.now.facts best.old.cost best.old.plan }
     ensures columns { AreColumns problem.now columns.new }
-    ensures plan { IfOk result (λ plan. IsFittingPlan problem.now.table.now problem.now.book.now ground.now.marks.now.facts plan.cost plan.plan) }
+    ensures best { IsFittingPlan problem.now.table.now problem.now.book.now ground.now.marks.now.facts best.new.cost best.new.plan }
 {
-    let mut best = first;
     for turn in 0..STARTS.len() {
-        if !ladder.is_open(columns, &best) {
-            return Ok(best);
+        if !ladder.is_open(columns, best) {
+            return Ok(());
         }
-        best = start_over(
-            alloc,
-            problem,
-            columns,
-            ground,
-            ladder,
-            best,
-            turn,
-            STARTS[turn],
-        )?;
+        let how = STARTS[turn];
+        start_over(alloc, problem, columns, ground, ladder, best, turn, how)?;
     }
-    Ok(best)
+    Ok(())
 }

@@ -15,14 +15,11 @@ ghost use Rattle.plan_finder.specs.Columns.{AreColumns};
 ghost use Rattle.plan_finder.specs.Problem.{IsProblem};
 
 use crate::columns::Columns;
-use crate::fixing::fix;
-use crate::leads::{Lead, WHOLE, leads_of};
+use crate::copying::copy_of;
 use crate::problem::Problem;
-use crate::slice::{ALL, Slice};
-use crate::soft_plan::SoftPlan;
-use crate::weights::Weights;
 use branch_marks::Marks;
 use dual_ascent::Climber;
+use pool_plans::{ALL, Lead, Slice, SoftPlan, WHOLE, Weights, fix, leads_of};
 use restricted_master::Pool;
 use std::alloc::Global;
 use tail_book::laws::every_book_is_sound;
@@ -34,7 +31,7 @@ pub const MANY: usize = 40;
 
 /// How a dive goes: through so many slices of the timetable, at a temperature in thousandths of a cost unit. A fine one fixes one
 /// aircraft after the other in the slices behind the first, which takes up to three times as long.
-#[derive(Clone, Copy, Debug)]
+#[derive(Clone, Copy)]
 pub struct Course {
     pub slices: u32,
     pub is_fine: bool,
@@ -58,7 +55,7 @@ const REACH: i64 = 30;
 
 /// A dive under way: who flies what so far, and what is left to all others. The aircraft that are free are those of which nothing is
 /// fixed in the slice yet.
-#[derive(Debug, Drop)]
+#[derive(Drop)]
 struct Dive {
     marks: Marks,
     plan: SoftPlan,
@@ -159,6 +156,33 @@ impl Dive {
         Ok(())
     }
 
+    // Prices the aircraft that are free, of which the lightest routes in the pool weigh this.
+    fn price_free(
+        &mut self,
+        alloc: Global,
+        problem: &Problem,
+        columns: &mut Columns,
+        duals: &Duals,
+        weights: &Weights,
+    ) -> Result<(), Memory>
+        requires problem { IsProblem problem.now }
+        requires marks { AreMarksOf problem.now.book.now self.old.marks }
+        requires duals { AreDuals problem.now.table.now problem.now.book.now duals.now.values }
+        requires columns { AreColumns problem.now columns.old }
+        ensures columns { AreColumns problem.now columns.new }
+        ensures marks { self.new.marks ≡ self.old.marks }
+    {
+        let book = problem.book;
+        every_book_is_sound(book);
+        for k in 0..book.tails.len() as u32 {
+            if self.is_free(k as usize) && !columns.is_spent() {
+                let low = weights.least(k as usize);
+                self.price_one(alloc, problem, columns, duals, k, low)?;
+            }
+        }
+        Ok(())
+    }
+
     // Prices the aircraft that are free.
     fn price(
         &mut self,
@@ -175,15 +199,8 @@ impl Dive {
         ensures marks { self.new.marks ≡ self.old.marks }
     {
         let book = problem.book;
-        every_book_is_sound(book);
         let weights = Weights::of(alloc, &columns.pool, &duals.values, book.tails.len())?;
-        for k in 0..book.tails.len() as u32 {
-            if self.is_free(k as usize) && !columns.is_spent() {
-                let low = weights.least(k as usize);
-                self.price_one(alloc, problem, columns, duals, k, low)?;
-            }
-        }
-        Ok(())
+        self.price_free(alloc, problem, columns, duals, &weights)
     }
 
     // Fixes what a lead has in the slice.
@@ -269,7 +286,39 @@ impl Dive {
         Ok(false)
     }
 
-    // Fixes so many leads in the order in which they stand out, as far as they share nothing with what is fixed.
+    // Fixes so many leads in the order in which they stand out, as far as they share nothing with what is fixed. They are those of the
+    // aircraft that are open.
+    fn fix_open(
+        &mut self,
+        alloc: Global,
+        problem: &Problem,
+        pool: &Pool,
+        leads: &[Option<Lead>],
+        many: usize,
+        open: &mut [bool],
+    ) -> Result<(), Memory>
+        requires { AreMarksOf problem.now.book.now self.old.marks }
+        ensures { AreMarksOf problem.now.book.now self.new.marks }
+    {
+        let mut fixed = 0usize;
+        for _turn in 0..open.len() {
+            if fixed >= many {
+                return Ok(());
+            }
+            let Some(k) = first_lead(leads, open) else {
+                return Ok(());
+            };
+            if let Some(is_open) = open.get_mut(k) {
+                *is_open = false;
+            }
+            if self.fix_fitting(alloc, problem, pool, leads, k)? {
+                fixed = fixed.saturating_add(1);
+            }
+        }
+        Ok(())
+    }
+
+    // Does so for the aircraft that are free.
     fn fix_more(
         &mut self,
         alloc: Global,
@@ -285,25 +334,42 @@ impl Dive {
             return Ok(());
         }
         let mut open = self.free.clone()?;
-        let mut fixed = 0usize;
-        for _turn in 0..open.len() {
-            if fixed >= many {
-                return Ok(());
-            }
-            let Some(k) = first_lead(leads, &open) else {
-                return Ok(());
-            };
-            if let Some(is_open) = open.get_mut(k) {
-                *is_open = false;
-            }
-            if self.fix_fitting(alloc, problem, pool, leads, k)? {
-                fixed = fixed.saturating_add(1);
-            }
+        self.fix_open(alloc, problem, pool, leads, many, &mut open)
+    }
+
+    // How many leads are fixed beside the first one.
+    fn more(&self) -> usize {
+        if fixes_several(self.free.len(), self.course, self.slice) {
+            more_for(&self.free)
+        } else {
+            0
         }
-        Ok(())
     }
 
     // Fixes the lead that stands out most, maybe some more, and all others that stand out. Answers whether there was one.
+    fn fix_leads(
+        &mut self,
+        alloc: Global,
+        problem: &Problem,
+        pool: &Pool,
+        leads: &[Option<Lead>],
+    ) -> Result<bool, Memory>
+        requires { AreMarksOf problem.now.book.now self.old.marks }
+        ensures { AreMarksOf problem.now.book.now self.new.marks }
+    {
+        let Some(k) = first_lead(leads, &self.free) else {
+            return Ok(false);
+        };
+        let more = self.more();
+        if let Some(Some(lead)) = leads.get(k).copied() {
+            self.fix(alloc, problem, pool, (k % (1 << 32)) as u32, lead)?;
+        }
+        self.fix_more(alloc, problem, pool, leads, more)?;
+        self.fix_sure(alloc, problem, pool, leads)?;
+        Ok(true)
+    }
+
+    // Does so with the leads of a pool.
     fn choose(
         &mut self,
         alloc: Global,
@@ -314,28 +380,9 @@ impl Dive {
         requires { AreMarksOf problem.now.book.now self.old.marks }
         ensures { AreMarksOf problem.now.book.now self.new.marks }
     {
-        let leads = leads_of(
-            alloc,
-            pool,
-            &duals.values,
-            self.free.len(),
-            self.course.temperature,
-            self.slice,
-        )?;
-        let Some(k) = first_lead(&leads, &self.free) else {
-            return Ok(false);
-        };
-        let more = if fixes_several(self.free.len(), self.course, self.slice) {
-            more_for(&self.free)
-        } else {
-            0
-        };
-        if let Some(Some(lead)) = leads.get(k).copied() {
-            self.fix(alloc, problem, pool, (k % (1 << 32)) as u32, lead)?;
-        }
-        self.fix_more(alloc, problem, pool, &leads, more)?;
-        self.fix_sure(alloc, problem, pool, &leads)?;
-        Ok(true)
+        let (free, temperature, slice) = (self.free.len(), self.course.temperature, self.slice);
+        let leads = leads_of(alloc, pool, &duals.values, free, temperature, slice)?;
+        self.fix_leads(alloc, problem, pool, &leads)
     }
 
     // Prices and climbs, in turn.
@@ -480,13 +527,13 @@ fn begin(alloc: Global, problem: &Problem, marks: &Marks, course: Course) -> Res
     })
 }
 
-/// Dives from duals. The pool suggests routes to begin with.
-pub fn soft_dive(
+// Dives from duals, with what climbs over pools.
+fn dive_with(
     alloc: Global,
     problem: &Problem,
     marks: &Marks,
     columns: &mut Columns,
-    pool: &Pool,
+    climber: &mut Climber,
     duals: &mut Duals,
     course: Course,
 ) -> Result<SoftPlan, Memory>
@@ -494,13 +541,50 @@ pub fn soft_dive(
     requires marks { AreMarksOf problem.now.book.now marks.now }
     requires duals { AreDuals problem.now.table.now problem.now.book.now duals.old.values }
     requires columns { AreColumns problem.now columns.old }
-    ensures duals { AreDuals problem.now.table.now problem.now.book.now duals.new.values }
+    ensures columns { AreColumns problem.now columns.new }
+{
+    let mut dive = begin(alloc, problem, marks, course)?;
+    dive.run(alloc, problem, columns, climber, duals)?;
+    Ok(dive.plan)
+}
+
+// The same with one of its own.
+fn dive_from(
+    alloc: Global,
+    problem: &Problem,
+    marks: &Marks,
+    columns: &mut Columns,
+    duals: &mut Duals,
+    course: Course,
+) -> Result<SoftPlan, Memory>
+    requires problem { IsProblem problem.now }
+    requires marks { AreMarksOf problem.now.book.now marks.now }
+    requires duals { AreDuals problem.now.table.now problem.now.book.now duals.old.values }
+    requires columns { AreColumns problem.now columns.old }
+    ensures columns { AreColumns problem.now columns.new }
+{
+    let mut climber = Climber::new(alloc, problem.table)?;
+    dive_with(alloc, problem, marks, columns, &mut climber, duals, course)
+}
+
+/// Dives from duals, which stay as they are. The pool suggests routes to begin with.
+pub fn soft_dive(
+    alloc: Global,
+    problem: &Problem,
+    marks: &Marks,
+    columns: &mut Columns,
+    pool: &Pool,
+    duals: &Duals,
+    course: Course,
+) -> Result<SoftPlan, Memory>
+    requires problem { IsProblem problem.now }
+    requires marks { AreMarksOf problem.now.book.now marks.now }
+    requires duals { AreDuals problem.now.table.now problem.now.book.now duals.now.values }
+    requires columns { AreColumns problem.now columns.old }
     ensures columns { AreColumns problem.now columns.new }
 {
     let reach = course.temperature.saturating_mul(REACH);
     columns.begin(alloc, problem, marks, duals, pool, reach)?;
-    let mut climber = Climber::new(alloc, problem.table)?;
-    let mut dive = begin(alloc, problem, marks, course)?;
-    dive.run(alloc, problem, columns, &mut climber, duals)?;
-    Ok(dive.plan)
+    let mut duals = copy_of(duals)?;
+    dive_from(alloc, problem, marks, columns, &mut duals, course)
 }

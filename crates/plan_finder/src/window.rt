@@ -7,13 +7,11 @@ ghost use Rattle.plan_finder.specs.Columns.{AreColumns};
 ghost use Rattle.plan_finder.specs.Problem.{IsProblem};
 
 use crate::columns::Columns;
-use crate::fixing::{marks_beside, marks_outside};
 use crate::ground::Ground;
 use crate::neighbourhood::{Neighbourhood, improve};
 use crate::problem::Problem;
-use crate::weights::copy_of;
 use branch_marks::Marks;
-use pool_plans::Found;
+use pool_plans::{Found, marks_beside, marks_outside};
 use std::alloc::Global;
 use tail_book::{Duals, Memory, Route};
 
@@ -41,7 +39,7 @@ fn replan(
         kept,
         target: plan.cost,
     };
-    improve(alloc, problem, columns, &near, copy_of(duals)?)
+    improve(alloc, problem, columns, &near, duals)
 }
 
 /// Plans a window of activities again. What lies before it stays with its aircraft, and what lies behind it stays together.
@@ -61,7 +59,7 @@ pub fn replan_window(
     ensures columns { AreColumns problem.now columns.new }
 {
     let (duals, own) = (ground.duals, ground.marks);
-    let marks = marks_outside(problem, own, &plan.plan.0, from, to)?;
+    let marks = marks_outside(problem.book, own, &plan.plan.0, from, to)?;
     replan(alloc, problem, columns, duals, &marks, plan, &[])
 }
 
@@ -81,6 +79,6 @@ pub fn replan_aircraft(
     ensures columns { AreColumns problem.now columns.new }
 {
     let (duals, own) = (ground.duals, ground.marks);
-    let marks = marks_beside(problem, own, &plan.plan.0, kept)?;
+    let marks = marks_beside(problem.book, own, &plan.plan.0, kept)?;
     replan(alloc, problem, columns, duals, &marks, plan, kept)
 }

@@ -7,7 +7,7 @@ use std::alloc::Global;
 use tail_book::Memory;
 
 /// Rows of bits, all of one width.
-#[derive(Debug, Drop)]
+#[derive(Drop)]
 pub struct Bits {
     width: usize,
     words: Vec<u64>,

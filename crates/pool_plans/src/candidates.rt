@@ -4,6 +4,7 @@
 //! a route takes part only where that alone stays within the room between the sum and the cost to undercut. Of more
 //! than 3,000 such routes the lightest take part, so a search that finds nothing says nothing.
 
+use crate::weights::Weights;
 use restricted_master::Pool;
 use std::alloc::Global;
 use tail_book::{COST_UNIT, Memory};
@@ -13,7 +14,7 @@ const MOST: usize = 3000;
 
 /// A route of the pool: its number, its aircraft, and what it weighs above the least weight of that aircraft, in
 /// thousandths of a cost unit.
-#[derive(Clone, Copy, Debug)]
+#[derive(Clone, Copy)]
 pub struct Candidate {
     pub number: usize,
     pub owner: u32,
@@ -22,35 +23,10 @@ pub struct Candidate {
 
 /// The routes that take part, the lightest first, and how much all routes of a plan may weigh above the least ones, in
 /// thousandths of a cost unit.
-#[derive(Debug, Drop)]
+#[derive(Drop)]
 pub struct Candidates {
     pub routes: Vec<Candidate>,
     pub room: i64,
-}
-
-// The weight of each route.
-fn weights_of(alloc: Global, pool: &Pool, duals: &[i64]) -> Result<Vec<i64>, Memory> {
-    let mut weights = Vec::with_capacity(alloc, pool.count())?;
-    for i in 0..pool.count() {
-        weights.push(pool.weight(i, duals))?;
-    }
-    Ok(weights)
-}
-
-// The least weight of each of so many aircraft.
-fn least_of(
-    alloc: Global,
-    pool: &Pool,
-    weights: &[i64],
-    aircraft: usize,
-) -> Result<Vec<i64>, Memory> {
-    let mut least = vec![in alloc; i64::MAX; aircraft]?;
-    for i in 0..weights.len().min(pool.count()) {
-        if let Some(low) = least.get_mut(pool.aircraft(i) as usize) {
-            *low = weights[i].min(*low);
-        }
-    }
-    Ok(least)
 }
 
 // How much lighter than the cost to undercut the sum of duals and least weights is, for plans a unit cheaper.
@@ -66,6 +42,41 @@ fn room_below(duals: &[i64], least: &[i64], target: u64) -> i64 {
     room.clamp(-1, 1 << 60) as i64
 }
 
+// The routes that weigh no more than so much above the least ones, in the pool's order.
+fn within(
+    alloc: Global,
+    pool: &Pool,
+    weights: &Weights,
+    room: i64,
+) -> Result<Vec<Candidate>, Memory> {
+    let mut routes = Vec::new(alloc);
+    for i in 0..pool.count() {
+        let owner = pool.aircraft(i);
+        let excess = weights.excess(i, owner as usize);
+        if excess <= room {
+            routes.push(Candidate {
+                number: i,
+                owner,
+                excess,
+            })?;
+        }
+    }
+    Ok(routes)
+}
+
+// The same, the lightest first, and not too many.
+fn lightest(
+    alloc: Global,
+    pool: &Pool,
+    weights: &Weights,
+    room: i64,
+) -> Result<Vec<Candidate>, Memory> {
+    let mut routes = within(alloc, pool, weights, room)?;
+    routes.sort_by_key(|route| route.excess)?;
+    routes.truncate(MOST);
+    Ok(routes)
+}
+
 impl Candidates {
     /// Those of a pool under duals, for plans that undercut a cost in cost units.
     pub fn of(
@@ -75,24 +86,9 @@ impl Candidates {
         aircraft: usize,
         target: u64,
     ) -> Result<Candidates, Memory> {
-        let weights = weights_of(alloc, pool, duals)?;
-        let least = least_of(alloc, pool, &weights, aircraft)?;
-        let room = room_below(duals, &least, target);
-        let mut routes = Vec::new(alloc);
-        for i in 0..weights.len().min(pool.count()) {
-            let owner = pool.aircraft(i);
-            let low = least.get(owner as usize).copied().unwrap_or(i64::MAX);
-            let excess = weights[i].saturating_sub(low);
-            if excess <= room {
-                routes.push(Candidate {
-                    number: i,
-                    owner,
-                    excess,
-                })?;
-            }
-        }
-        routes.sort_by_key(|route| route.excess)?;
-        routes.truncate(MOST);
+        let weights = Weights::of(alloc, pool, duals, aircraft)?;
+        let room = room_below(duals, &weights.least, target);
+        let routes = lightest(alloc, pool, &weights, room)?;
         Ok(Candidates { routes, room })
     }
 }

@@ -16,10 +16,21 @@ use std::alloc::Global;
 use tail_book::{Book, CostTable, Duals, Memory, Plan, Route};
 
 /// A legal plan and its cost, in cost units.
-#[derive(Debug, Drop)]
+#[derive(Drop)]
 pub struct Found {
     pub plan: Plan,
     pub cost: u64,
+}
+
+// What an aircraft flies by the first of these routes that is its own; nothing where none is.
+fn flown_by(alloc: Global, pool: &Pool, numbers: &[usize], k: usize) -> Result<Route, Memory> {
+    for q in 0..numbers.len() {
+        let i = numbers[q];
+        if i < pool.count() && pool.aircraft(i) as usize == k {
+            return Ok(Route(Vec::from_slice(alloc, pool.route(i))?));
+        }
+    }
+    Ok(Route(Vec::new(alloc)))
 }
 
 // The routes of aircraft among these; one without a route flies nothing.
@@ -31,15 +42,38 @@ fn routes_of(
 ) -> Result<Vec<Route>, Memory> {
     let mut routes = Vec::with_capacity(alloc, aircraft)?;
     for k in 0..aircraft {
-        let mut activities = Vec::new(alloc);
-        for i in numbers {
-            if *i < pool.count() && pool.aircraft(*i) as usize == k {
-                activities = Vec::from_slice(alloc, pool.route(*i))?;
-            }
-        }
-        routes.push(Route(activities))?;
+        routes.push(flown_by(alloc, pool, numbers, k)?)?;
     }
     Ok(routes)
+}
+
+// What is searched among the routes of a pool, where activities may be left out.
+fn partition_of(
+    alloc: Global,
+    pool: &Pool,
+    duals: &[i64],
+    aircraft: usize,
+    left_out: &[bool],
+    target: u64,
+) -> Result<Partition, Memory> {
+    let candidates = Candidates::of(alloc, pool, duals, aircraft, target)?;
+    let mut partition = Partition::new(alloc, pool, candidates, duals.len(), aircraft)?;
+    partition.leave_out(left_out);
+    Ok(partition)
+}
+
+// The routes that a search finds.
+fn cover_in(
+    alloc: Global,
+    pool: &Pool,
+    partition: &mut Partition,
+    aircraft: usize,
+    turns: u64,
+) -> Result<Option<Vec<Route>>, Memory> {
+    let Some(numbers) = partition.search(alloc, turns)? else {
+        return Ok(None);
+    };
+    Ok(Some(routes_of(alloc, pool, &numbers, aircraft)?))
 }
 
 /// Looks among the routes of a pool for one of each of so many aircraft, so that each activity stands in one of them
@@ -54,13 +88,8 @@ pub fn find_cover(
     target: u64,
     turns: u64,
 ) -> Result<Option<Vec<Route>>, Memory> {
-    let candidates = Candidates::of(alloc, pool, duals, aircraft, target)?;
-    let mut partition = Partition::new(alloc, pool, candidates, duals.len(), aircraft)?;
-    partition.leave_out(left_out);
-    let Some(numbers) = partition.search(alloc, turns)? else {
-        return Ok(None);
-    };
-    Ok(Some(routes_of(alloc, pool, &numbers, aircraft)?))
+    let mut partition = partition_of(alloc, pool, duals, aircraft, left_out, target)?;
+    cover_in(alloc, pool, &mut partition, aircraft, turns)
 }
 
 /// Looks among the routes of a pool for a plan that undercuts a cost, in cost units, for so many turns. The duals say

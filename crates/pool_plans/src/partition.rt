@@ -16,7 +16,7 @@ use std::alloc::Global;
 use tail_book::Memory;
 
 /// What is searched, and how far the search has come. Aircraft come behind the activities as things to be filled.
-#[derive(Debug, Drop)]
+#[derive(Drop)]
 pub struct Partition {
     activities: usize,
     things: usize,
@@ -34,7 +34,7 @@ pub struct Partition {
 
 // A level of the search: what is to be filled, the first route that was not tried, the one that is taken, and what those
 // above weigh above the least ones.
-#[derive(Clone, Copy, Debug)]
+#[derive(Clone, Copy)]
 struct Level {
     thing: usize,
     next: usize,

@@ -1,5 +1,5 @@
 use Rattle.branch_marks.specs.inside.MarkTables.{AreMarksOf}
-use Rattle.plan_finder.proofs.fixing.fix.Given as goal
+use Rattle.pool_plans.proofs.fixing.fix_outside.Given as goal
 
 -- the marks are of the book
 abbrev pub invariant-loop-a : goal.invariant-loop-a

@@ -15,7 +15,7 @@ use tail_book::Memory;
 pub const WHOLE: u64 = 1 << 20;
 
 /// The lightest route that flies a lead, by its number in the pool, and the lead's share of `WHOLE`.
-#[derive(Clone, Copy, Debug)]
+#[derive(Clone, Copy)]
 pub struct Lead {
     pub route: usize,
     pub share: u64,
@@ -23,7 +23,7 @@ pub struct Lead {
 
 // Routes of an aircraft that fly the same in a slice: what tells that, their masses together, and the lightest of them, with what
 // it weighs above the aircraft's lightest.
-#[derive(Clone, Copy, Debug)]
+#[derive(Clone, Copy)]
 struct Bundle {
     hash: u64,
     aircraft: usize,
@@ -78,6 +78,19 @@ fn bundles_of(
     Ok(bundles)
 }
 
+// The same, those next to each other that fly the same.
+fn sorted_bundles(
+    alloc: Global,
+    pool: &Pool,
+    weights: &Weights,
+    temperature: i64,
+    slice: Slice,
+) -> Result<Vec<Bundle>, Memory> {
+    let mut bundles = bundles_of(alloc, pool, weights, temperature, slice)?;
+    bundles.sort_by_key(|bundle| bundle.hash)?;
+    Ok(bundles)
+}
+
 // Two bundles that fly the same as one.
 fn joined(one: Bundle, other: Bundle) -> Bundle {
     let mass = one.mass.saturating_add(other.mass);
@@ -129,6 +142,69 @@ fn shared(lead: Lead, all: u64) -> Lead {
     }
 }
 
+// What an aircraft's bundles come to: its lead, whose share is a mass here, and all masses together.
+#[derive(Clone, Copy)]
+struct Tally {
+    lead: Option<Lead>,
+    mass: u64,
+}
+
+const NO_BUNDLE: Tally = Tally {
+    lead: None,
+    mass: 0,
+};
+
+// Notes bundles, each at its aircraft.
+fn note_all(tallies: &mut [Tally], bundles: &[Bundle]) {
+    for i in 0..bundles.len() {
+        let bundle = bundles[i];
+        if let Some(tally) = tallies.get_mut(bundle.aircraft) {
+            *tally = Tally {
+                lead: Some(led(tally.lead, bundle)),
+                mass: bundle.mass.saturating_add(tally.mass),
+            };
+        }
+    }
+}
+
+// Notes the routes of a pool, put together where they fly the same.
+fn note_pool(
+    alloc: Global,
+    pool: &Pool,
+    weights: &Weights,
+    temperature: i64,
+    slice: Slice,
+    tallies: &mut [Tally],
+) -> Result<(), Memory> {
+    let bundles = sorted_bundles(alloc, pool, weights, temperature, slice)?;
+    note_all(tallies, &join_all(alloc, &bundles)?);
+    Ok(())
+}
+
+// What each of so many aircraft comes to.
+fn tallies_of(
+    alloc: Global,
+    pool: &Pool,
+    weights: &Weights,
+    aircraft: usize,
+    temperature: i64,
+    slice: Slice,
+) -> Result<Vec<Tally>, Memory> {
+    let mut tallies = vec![in alloc; NO_BUNDLE; aircraft]?;
+    note_pool(alloc, pool, weights, temperature, slice, &mut tallies)?;
+    Ok(tallies)
+}
+
+// The leads with their shares of all masses.
+fn shares_of(alloc: Global, tallies: &[Tally]) -> Result<Vec<Option<Lead>>, Memory> {
+    let mut leads = Vec::with_capacity(alloc, tallies.len())?;
+    for k in 0..tallies.len() {
+        let Tally { lead, mass } = tallies[k];
+        leads.push(lead.map(|lead| shared(lead, mass)))?;
+    }
+    Ok(leads)
+}
+
 /// The lead in a slice of each of so many aircraft that has a route in the pool.
 pub fn leads_of(
     alloc: Global,
@@ -139,23 +215,6 @@ pub fn leads_of(
     slice: Slice,
 ) -> Result<Vec<Option<Lead>>, Memory> {
     let weights = Weights::of(alloc, pool, duals, aircraft)?;
-    let mut bundles = bundles_of(alloc, pool, &weights, temperature, slice)?;
-    bundles.sort_by_key(|bundle| bundle.hash)?;
-    let mut leads = vec![in alloc; None; aircraft]?;
-    let mut masses = vec![in alloc; 0u64; aircraft]?;
-    let all = join_all(alloc, &bundles)?;
-    for bundle in all.iter() {
-        let k = bundle.aircraft;
-        if let Some(lead) = leads.get_mut(k) {
-            *lead = Some(led(*lead, *bundle));
-        }
-        if let Some(mass) = masses.get_mut(k) {
-            *mass = bundle.mass.saturating_add(*mass);
-        }
-    }
-    for k in 0..leads.len().min(masses.len()) {
-        let all = masses[k];
-        leads[k] = leads[k].map(|lead| shared(lead, all));
-    }
-    Ok(leads)
+    let tallies = tallies_of(alloc, pool, &weights, aircraft, temperature, slice)?;
+    shares_of(alloc, &tallies)
 }

@@ -5,7 +5,7 @@ use std::alloc::Global;
 use tail_book::{Book, Memory, Route};
 
 /// A route for each aircraft, and which activities none of them has.
-#[derive(Debug, Drop)]
+#[derive(Drop)]
 pub struct SoftPlan {
     pub routes: Vec<Route>,
     pub left_out: Vec<bool>,
@@ -23,8 +23,8 @@ fn empty_routes(alloc: Global, aircraft: usize) -> Result<Vec<Route>, Memory> {
 impl SoftPlan {
     /// The plan in which nobody flies.
     pub fn none(alloc: Global, book: &Book) -> Result<SoftPlan, Memory> {
-        let routes = empty_routes(alloc, book.tails.len())?;
         let left_out = vec![in alloc; true; book.activities.len()]?;
+        let routes = empty_routes(alloc, book.tails.len())?;
         Ok(SoftPlan { routes, left_out })
     }
 
@@ -56,6 +56,13 @@ impl SoftPlan {
             *own = route;
         }
         self.note(k);
+    }
+
+    /// Takes another plan instead, if that leaves less out.
+    pub fn take_fuller(&mut self, other: SoftPlan) {
+        if other.count_left() < self.count_left() {
+            *self = other;
+        }
     }
 
     /// Whether an activity is left out.

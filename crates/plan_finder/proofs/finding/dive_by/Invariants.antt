@@ -1,5 +1,5 @@
 use Rattle.plan_finder.specs.Columns.{AreColumns}
-use Rattle.plan_finder.proofs.finding.fullest_by.Given as goal
+use Rattle.plan_finder.proofs.finding.dive_by.Given as goal
 
 -- the columns are of the book
 abbrev pub invariant-loop-i : goal.invariant-loop-i

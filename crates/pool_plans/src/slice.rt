@@ -5,7 +5,7 @@ use std::alloc::Global;
 use tail_book::{Memory, Route};
 
 /// The activities from one on, up to another.
-#[derive(Clone, Copy, Debug)]
+#[derive(Clone, Copy)]
 pub struct Slice {
     pub from: u32,
     pub to: u32,

@@ -1,5 +1,5 @@
 use Rattle.plan_finder.specs.Columns.{AreColumns}
-use Rattle.plan_finder.proofs.columns.Columns.begin.Given as goal
+use Rattle.plan_finder.proofs.columns.Columns.add_light.Given as goal
 
 -- the columns are of the book
 abbrev pub invariant-loop-i : goal.invariant-loop-i

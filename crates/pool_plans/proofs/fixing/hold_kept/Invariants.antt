@@ -1,6 +1,6 @@
 use Rattle.branch_marks.specs.inside.MarkTables.{AreMarksOf}
-use Rattle.plan_finder.proofs.fixing.marks_beside.Given as goal
+use Rattle.pool_plans.proofs.fixing.hold_kept.Given as goal
 
 -- the marks are of the book
 abbrev pub invariant-loop-k : goal.invariant-loop-k
-invariant-loop-k l = AreMarksOf l.problem.book.now l.held
+invariant-loop-k l = AreMarksOf l.book l.marks

@@ -5,7 +5,6 @@
 ghost use Rattle.std.specs.Prelude.{IfOk};
 ghost use Rattle.branch_marks.specs.inside.MarkTables.{AreMarksOf};
 
-use crate::problem::Problem;
 use crate::slice::{ALL, Slice};
 use branch_marks::{Fact, Marks};
 use tail_book::{Book, Memory, Route};
@@ -86,41 +85,65 @@ pub fn fix_outside(
     Ok(())
 }
 
+// Holds the routes of a plan outside a stretch of activities.
+fn hold_outside(
+    book: &Book,
+    marks: &mut Marks,
+    routes: &[Route],
+    from: u32,
+    to: u32,
+) -> Result<(), Memory>
+    requires { AreMarksOf book.now marks.old }
+    ensures { AreMarksOf book.now marks.new }
+{
+    for k in 0..routes.len() {
+        let (number, route) = ((k % (1 << 32)) as u32, &routes[k]);
+        fix_outside(book, marks, number, &route.0, from, to)?;
+    }
+    Ok(())
+}
+
 /// The marks that hold a plan outside a stretch of activities.
 pub fn marks_outside(
-    problem: &Problem,
+    book: &Book,
     marks: &Marks,
     routes: &[Route],
     from: u32,
     to: u32,
 ) -> Result<Marks, Memory>
-    requires { AreMarksOf problem.now.book.now marks.now }
-    ensures { IfOk result (AreMarksOf problem.now.book.now) }
+    requires { AreMarksOf book.now marks.now }
+    ensures { IfOk result (AreMarksOf book.now) }
 {
     let mut held = marks.copy()?;
-    for k in 0..routes.len() {
-        let (number, route) = ((k % (1 << 32)) as u32, &routes[k]);
-        fix_outside(problem.book, &mut held, number, &route.0, from, to)?;
-    }
+    hold_outside(book, &mut held, routes, from, to)?;
     Ok(held)
+}
+
+// Holds the routes of the aircraft that keep theirs.
+fn hold_kept(book: &Book, marks: &mut Marks, routes: &[Route], kept: &[bool]) -> Result<(), Memory>
+    requires { AreMarksOf book.now marks.old }
+    ensures { AreMarksOf book.now marks.new }
+{
+    for k in 0..routes.len().min(kept.len()) {
+        if kept[k] {
+            let (number, route) = ((k % (1 << 32)) as u32, &routes[k]);
+            fix(book, marks, number, &route.0, ALL)?;
+        }
+    }
+    Ok(())
 }
 
 /// The marks that hold the routes of the aircraft that keep theirs.
 pub fn marks_beside(
-    problem: &Problem,
+    book: &Book,
     marks: &Marks,
     routes: &[Route],
     kept: &[bool],
 ) -> Result<Marks, Memory>
-    requires { AreMarksOf problem.now.book.now marks.now }
-    ensures { IfOk result (AreMarksOf problem.now.book.now) }
+    requires { AreMarksOf book.now marks.now }
+    ensures { IfOk result (AreMarksOf book.now) }
 {
     let mut held = marks.copy()?;
-    for k in 0..routes.len().min(kept.len()) {
-        if kept[k] {
-            let (number, route) = ((k % (1 << 32)) as u32, &routes[k]);
-            fix(problem.book, &mut held, number, &route.0, ALL)?;
-        }
-    }
+    hold_kept(book, &mut held, routes, kept)?;
     Ok(held)
 }

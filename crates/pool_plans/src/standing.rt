@@ -7,7 +7,7 @@ use std::alloc::Global;
 use tail_book::Memory;
 
 // An aircraft, and how much heavier its heaviest route in a pool is than its lightest, in thousandths of a cost unit.
-#[derive(Clone, Copy, Debug)]
+#[derive(Clone, Copy)]
 struct Standing {
     aircraft: usize,
     excess: i64,
@@ -25,6 +25,38 @@ fn at_rest(alloc: Global, aircraft: usize) -> Result<Vec<Standing>, Memory> {
     Ok(all)
 }
 
+// Notes how far the routes of a pool stand above the lightest ones.
+fn note_pool(pool: &Pool, weights: &Weights, standings: &mut [Standing]) {
+    for i in 0..pool.count() {
+        let k = pool.aircraft(i) as usize;
+        if let Some(standing) = standings.get_mut(k) {
+            standing.excess = weights.excess(i, k).max(standing.excess);
+        }
+    }
+}
+
+// So many aircraft by how far they stand above their lightest routes, the furthest first.
+fn sorted_standings(
+    alloc: Global,
+    pool: &Pool,
+    weights: &Weights,
+    aircraft: usize,
+) -> Result<Vec<Standing>, Memory> {
+    let mut all = at_rest(alloc, aircraft)?;
+    note_pool(pool, weights, &mut all);
+    all.sort_by_key(|standing| 0i64.saturating_sub(standing.excess))?;
+    Ok(all)
+}
+
+// The aircraft alone.
+fn order_of(alloc: Global, standings: &[Standing]) -> Result<Vec<usize>, Memory> {
+    let mut order = Vec::with_capacity(alloc, standings.len())?;
+    for i in 0..standings.len() {
+        order.push(standings[i].aircraft)?;
+    }
+    Ok(order)
+}
+
 /// So many aircraft, those first whose heaviest route in a pool stands furthest above their lightest one.
 pub fn furthest_first(
     alloc: Global,
@@ -33,19 +65,8 @@ pub fn furthest_first(
     aircraft: usize,
 ) -> Result<Vec<usize>, Memory> {
     let weights = Weights::of(alloc, pool, duals, aircraft)?;
-    let mut all = at_rest(alloc, aircraft)?;
-    for i in 0..pool.count() {
-        let k = pool.aircraft(i) as usize;
-        if let Some(standing) = all.get_mut(k) {
-            standing.excess = weights.excess(i, k).max(standing.excess);
-        }
-    }
-    all.sort_by_key(|standing| 0i64.saturating_sub(standing.excess))?;
-    let mut order = Vec::with_capacity(alloc, aircraft)?;
-    for standing in all.iter() {
-        order.push(standing.aircraft)?;
-    }
-    Ok(order)
+    let standings = sorted_standings(alloc, pool, &weights, aircraft)?;
+    order_of(alloc, &standings)
 }
 
 // Frees so many aircraft of an order, from a place in it on.

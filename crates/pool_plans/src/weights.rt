@@ -1,19 +1,42 @@
 //! What the routes of a pool weigh, for suggestions alone: numbers that are too large stay at the end of their range,
-//! and nothing that is told of a plan rests on them. One pass over the pool keeps a number for each route and each
+//! and nothing that is told of a plan rests on it. One pass over the pool keeps a number for each route and each
 //! aircraft.
-
-ghost use Rattle.std.specs.Prelude.{◌≡◌, IfOk};
 
 use restricted_master::Pool;
 use std::alloc::Global;
-use tail_book::{Duals, Memory};
+use tail_book::Memory;
 
 /// What the routes of a pool weigh under duals, in thousandths of a cost unit, and the least weight of each aircraft: the
 /// greatest number where it has no route.
-#[derive(Debug, Drop)]
+#[derive(Drop)]
 pub struct Weights {
     routes: Vec<i64>,
-    least: Vec<i64>,
+    pub(crate) least: Vec<i64>,
+}
+
+// The weight of each route.
+fn weights_of(alloc: Global, pool: &Pool, duals: &[i64]) -> Result<Vec<i64>, Memory> {
+    let mut weights = Vec::with_capacity(alloc, pool.count())?;
+    for i in 0..pool.count() {
+        weights.push(pool.weight(i, duals))?;
+    }
+    Ok(weights)
+}
+
+// The least weight of each of so many aircraft.
+fn least_of(
+    alloc: Global,
+    pool: &Pool,
+    weights: &[i64],
+    aircraft: usize,
+) -> Result<Vec<i64>, Memory> {
+    let mut least = vec![in alloc; i64::MAX; aircraft]?;
+    for i in 0..weights.len().min(pool.count()) {
+        if let Some(low) = least.get_mut(pool.aircraft(i) as usize) {
+            *low = weights[i].min(*low);
+        }
+    }
+    Ok(least)
 }
 
 impl Weights {
@@ -24,15 +47,8 @@ impl Weights {
         duals: &[i64],
         aircraft: usize,
     ) -> Result<Weights, Memory> {
-        let mut routes = Vec::with_capacity(alloc, pool.count())?;
-        let mut least = vec![in alloc; i64::MAX; aircraft]?;
-        for i in 0..pool.count() {
-            let weight = pool.weight(i, duals);
-            if let Some(low) = least.get_mut(pool.aircraft(i) as usize) {
-                *low = weight.min(*low);
-            }
-            routes.push(weight)?;
-        }
+        let routes = weights_of(alloc, pool, duals)?;
+        let least = least_of(alloc, pool, &routes, aircraft)?;
         Ok(Weights { routes, least })
     }
 
@@ -46,13 +62,4 @@ impl Weights {
         let weight = self.routes.get(i).copied().unwrap_or(i64::MAX);
         weight.saturating_sub(self.least(k))
     }
-}
-
-/// The same duals.
-pub fn copy_of(duals: &Duals) -> Result<Duals, Memory>
-    ensures { IfOk result (λ copied. copied.values ≡ duals.now.values) }
-{
-    Ok(Duals {
-        values: duals.values.clone()?,
-    })
 }

@@ -1,5 +1,5 @@
 use Rattle.plan_finder.specs.Columns.{AreColumns}
-use Rattle.plan_finder.proofs.columns.Columns.weigh.Given as goal
+use Rattle.plan_finder.proofs.columns.Columns.sum_up.Given as goal
 
 -- the columns are of the book
 abbrev pub invariant-loop-k : goal.invariant-loop-k

@@ -15,7 +15,7 @@ pub struct Part<'a> {
 }
 
 /// The parts that were tried, by their hashes.
-#[derive(Debug, Drop)]
+#[derive(Drop)]
 pub struct Tried {
     hashes: Vec<u64>,
 }
