@@ -129,6 +129,15 @@ impl Columns {
         self.work = self.work.saturating_sub(work);
     }
 
+    /// What all columns cost together, in cost units.
+    pub fn cost(&self) -> u64 {
+        let mut sum = 0u64;
+        for i in 0..self.pool.count() {
+            sum = sum.saturating_add(self.pool.cost(i));
+        }
+        sum
+    }
+
     // How many labels the last search kept.
     fn labels(&self, problem: &Problem) -> u64
         requires { IsSearchOf problem.now.book.now self.now.search }

@@ -16,7 +16,7 @@ use crate::ground::Ground;
 use crate::judging::judge;
 use crate::ladder::Ladder;
 use crate::problem::Problem;
-use crate::repairing::repair;
+use crate::repairing::{Price, repair};
 use crate::restarting::restart;
 use crate::soft_dive::{Course, MANY, soft_dive};
 use branch_marks::Marks;
@@ -155,7 +155,7 @@ fn repaired(
     let mut plan = SoftPlan::none(alloc, problem.book)?;
     dive_all(alloc, problem, sought, columns, pool, &mut plan)?;
     let ground = Ground { marks, pool, duals };
-    repair(alloc, problem, columns, &ground, &mut plan)?;
+    repair(alloc, problem, columns, &ground, &mut plan, Price::Any)?;
     Ok(plan)
 }
 
@@ -230,8 +230,8 @@ fn found_by(
     cheapened(alloc, problem, columns, &ground, plan.routes)
 }
 
-// Adds the routes of a plan to a pool.
-fn add_all(
+/// Adds the routes of a plan to a pool.
+pub fn add_all(
     alloc: Global,
     problem: &Problem,
     marks: &Marks,

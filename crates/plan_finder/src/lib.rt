@@ -12,6 +12,7 @@ mod finding;
 mod ground;
 mod judging;
 mod ladder;
+mod mending;
 mod neighbourhood;
 mod problem;
 mod repairing;
@@ -20,4 +21,5 @@ mod soft_dive;
 mod window;
 
 pub use finding::{Sought, exchange, find_by_dives};
+pub use mending::{Given, mend};
 pub use problem::Problem;
