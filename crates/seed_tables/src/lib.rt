@@ -7,4 +7,4 @@ pub mod laws;
 mod rows;
 mod trial;
 
-pub use trial::{SEED_LIMIT, Trial, seed_tables};
+pub use trial::{SEED_LIMIT, Trial, trial_tables};

@@ -114,7 +114,7 @@ fn rules_text(alloc: Global) -> Result<Vec<u8>, Memory>
 }
 
 /// The three tables of a seed.
-pub fn seed_tables(alloc: Global, seed: u64) -> Result<Trial, Memory>
+pub fn trial_tables(alloc: Global, seed: u64) -> Result<Trial, Memory>
     requires { seed ≤ SEED_LIMIT }
     ensures texts { IfOk result (λ trial. trial ≡ trial_of seed) }
     ensures book { IfOk result (λ trial. HasBook seed trial) }

@@ -18,7 +18,7 @@ use cert_checker::{Verdict, judge};
 use certified_search::{Certified, certified_search};
 use plan_report::{ReportFail, first_line, write_lines};
 use run_frame::{Answer, Finding, Status, print};
-use seed_tables::{SEED_LIMIT, seed_tables};
+use seed_tables::{SEED_LIMIT, trial_tables};
 use std::alloc::Global;
 use tail_book::{Book, CostTable, Memory, Outcome};
 use tail_outside::{MemSink, Sink};
@@ -132,7 +132,7 @@ fn trial_answer<J: Judge>(alloc: Global, seed: u64, judge: &mut J) -> Answer<Tri
     requires { seed ≤ SEED_LIMIT }
     ensures { IsTrialAnswer seed result }
 {
-    let trial = match seed_tables(alloc, seed) {
+    let trial = match trial_tables(alloc, seed) {
         Ok(trial) => trial,
         Err(_) => return Answer::Memory,
     };

@@ -2,7 +2,7 @@
 
 use book_maker::read_book;
 use plan_audit::{Audit, audit};
-use seed_tables::{SEED_LIMIT, Trial, seed_tables};
+use seed_tables::{SEED_LIMIT, Trial, trial_tables};
 use std::alloc::Global;
 use std::test::Fail;
 use table_records::names;
@@ -89,7 +89,7 @@ fn trial_of(alloc: Global, seed: u64) -> Result<Trial, Fail> {
     if seed > SEED_LIMIT {
         return Err(Fail::new("no such seed"));
     }
-    Ok(seed_tables(alloc, seed)?)
+    Ok(trial_tables(alloc, seed)?)
 }
 
 // What the plan of the making costs in a book, where it is legal.

@@ -1,4 +1,4 @@
-use Rattle.std.proofs.Common.{◌≡◌, ◌∙◌, [], ◌∷◌, ◌++◌, List, subst}
+use Rattle.std.proofs.Common.{◌≡◌, ◌∙◌, [], ◌∷◌, ◌++◌, List, rules, subst}
 use Rattle.branch_marks.specs.declared.fact.Fact.{Fact}
 use Rattle.node_leaves.specs.Node.{branches}
 use Rattle.node_leaves.specs.Place.{Open}
@@ -9,6 +9,13 @@ use Rattle.branch_tree.proofs.visiting.visit.Goals as goal
 -- nothing was told
 pub returns-in-Err-clause-stopped : goal.returns-in-Err-clause-stopped
 returns-in-Err-clause-stopped g c = stops_first c.args.table.now c.args.book.now (g.L.TreeLog.shows c.args.log.now) (c.args.here ∷ [])
+
+-- the diver was one of the book, and has forgotten its marks
+pub node_step_with-requires-clause-tools : goal.node_step_with-requires-clause-tools
+node_step_with-requires-clause-tools g c = record {
+  prices = search rules;
+  diver = c.forget.ensures c.args.book.now c.args.table.now c.requires.state.diver c.in-Ok.marks.facts;
+}
 
 -- at the node
 pub returns-in-Err-node_step_with-clause-stopped : goal.returns-in-Err-node_step_with-clause-stopped

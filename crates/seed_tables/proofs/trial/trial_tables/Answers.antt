@@ -1,7 +1,7 @@
 use Rattle.std.proofs.Common.{◌≡◌, rules, subst, sym}
 use Rattle.seed_tables.specs.Making.{HasBook}
 use Rattle.seed_tables.specs.Trial.{TrialSeen, trial_of}
-use Rattle.seed_tables.proofs.trial.seed_tables.Goals as goal
+use Rattle.seed_tables.proofs.trial.trial_tables.Goals as goal
 
 -- what is said of the definition's texts holds of these
 pub returns-clause-book : goal.returns-clause-book
