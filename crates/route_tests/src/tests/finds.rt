@@ -11,7 +11,7 @@ use super::are_routes;
 use super::asks::{Ask, Case, first_wrong};
 use super::books::ByHand;
 use branch_marks::{Fact, Marks};
-use plan_finder::{Problem, Sought, exchange, find_by_dives};
+use plan_finder::{Given, Problem, Sought, exchange, find_by_dives, mend};
 use pool_plans::Found;
 use restricted_master::Pool;
 use std::alloc::Global;
@@ -111,6 +111,56 @@ impl Ask for FindsNear {
         let plan = plan_of(alloc, &self.0)?;
         match exchange(alloc, problem, &sought, &plan) {
             Ok(answer) => Ok(is_wanted(&answer, self.1)),
+            Err(error) => Err(error),
+        }
+    }
+}
+
+// From the routes of two aircraft, at a price for each activity that they leave out, and below a target this is found. The pool then has
+// so many routes.
+#[derive(Clone, Copy)]
+struct FindsFrom([&'static [u32]; 2], u64, u64, Want, usize);
+
+// What comes of given routes, and how many routes a pool that was empty then has.
+fn mended(
+    alloc: Global,
+    problem: &Problem,
+    sought: &Sought,
+    given: &Given,
+) -> Result<(Option<Found>, usize), Memory>
+    requires problem { IsProblem problem.now }
+    requires marks { AreMarksOf problem.now.book.now sought.now.marks.now }
+    requires duals { AreDuals problem.now.table.now problem.now.book.now sought.now.duals.now.values }
+{
+    let mut pool = Pool::new(alloc)?;
+    let found = mend(alloc, problem, sought, given, &mut pool)?;
+    Ok((found, pool.count()))
+}
+
+impl Ask for FindsFrom {
+    type Answer = bool;
+
+    fn answer(
+        &self,
+        alloc: Global,
+        problem: &Problem,
+        marks: &Marks,
+        duals: &Duals,
+    ) -> Result<bool, Memory> {
+        let sought = Sought {
+            marks,
+            duals,
+            work: AMPLE,
+        };
+        let FindsFrom(routes, price, target, want, count) = *self;
+        let plan = plan_of(alloc, &routes)?;
+        let given = Given {
+            routes: &plan.0,
+            price,
+            target,
+        };
+        match mended(alloc, problem, &sought, &given) {
+            Ok((answer, left)) => Ok(is_wanted(&answer, want) && left == count),
             Err(error) => Err(error),
         }
     }
@@ -337,6 +387,61 @@ const NEAR: &[Case<FindsNear>] = &[
 #[test]
 fn what_lies_near_a_plan(rt: HostRuntime) -> Result<(), Fail> {
     let wrong = first_wrong(rt.alloc(), NEAR)?;
+    assert!(rt; wrong.is_none(), "case {wrong:?}");
+    Ok(())
+}
+
+// The second aircraft flies two hours for 240. So they are put in beside what the first flies where they may add as much, and the plan
+// undercuts a target above 300; its routes enter the pool. A route that does not fit, or in which an aircraft is in two places at once,
+// counts as empty, and what it has is put in as well. Routes that leave nothing out are the plan.
+const GIVEN: &[Case<FindsFrom>] = &[
+    (
+        ByHand::AtOnce,
+        &[Fact::Must(0, 0)],
+        &[0, 0],
+        FindsFrom([&[0], &[]], 240, 301, DEAR, 2),
+    ),
+    (
+        ByHand::AtOnce,
+        &[Fact::Must(0, 0)],
+        &[0, 0],
+        FindsFrom([&[0], &[]], 239, 301, Want::Nothing, 0),
+    ),
+    (
+        ByHand::AtOnce,
+        &[Fact::Must(0, 0)],
+        &[0, 0],
+        FindsFrom([&[0], &[]], 240, 300, Want::Nothing, 0),
+    ),
+    (
+        ByHand::AtOnce,
+        &[Fact::Must(0, 1)],
+        &[0, 0],
+        FindsFrom([&[0], &[]], 240, 301, EXCHANGED, 2),
+    ),
+    (
+        ByHand::AtOnce,
+        &[],
+        &[0, 0],
+        FindsFrom([&[1], &[]], 120, 301, EXCHANGED, 2),
+    ),
+    (
+        ByHand::AtOnce,
+        &[Fact::Must(0, 0)],
+        &[0, 0],
+        FindsFrom([&[0, 1], &[]], 240, 301, DEAR, 2),
+    ),
+    (
+        ByHand::AtOnce,
+        &[],
+        &[0, 0],
+        FindsFrom([&[0], &[1]], 0, 301, DEAR, 2),
+    ),
+];
+
+#[test]
+fn what_given_routes_leave_out(rt: HostRuntime) -> Result<(), Fail> {
+    let wrong = first_wrong(rt.alloc(), GIVEN)?;
     assert!(rt; wrong.is_none(), "case {wrong:?}");
     Ok(())
 }
