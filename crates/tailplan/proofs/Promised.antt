@@ -135,7 +135,7 @@ module _ (words : List (List ℕ)) (files later : FilesShown) (before after : Si
     pub promise : IsPrintableBy (λ solved. HasPlanFor solved.book solved.outcome) answer → Promise words files later before after status
     promise fit = ending.promise (run_of words) (task_held files) AreRefused (AreSolved later) usage_line (λ solved. report_lines solved.book solved.outcome) (λ solved. outcome_status solved.outcome)
         before after status answer truth printed (Promise words files later before after) (λ solved. HasPlanFor solved.book solved.outcome) fit
-        (λ h. h) (λ h. h) (λ h. h) (λ h. (inl h.0, h.1)) (λ h. h) (λ solved fits k took. found solved.book solved.outcome k took)
+        (λ h. h) (λ h. h) (λ h. h) (λ h. inl (record { piece = h.0; front = h.1 })) (λ h. h) (λ solved fits k took. found solved.book solved.outcome k took)
 
     pub piece_failed : status ≡ 6 → PieceHasFailed before after
     piece_failed = ending.piece_failed (run_of words) (task_held files) AreRefused (AreSolved later) usage_line (λ solved. report_lines solved.book solved.outcome) (λ solved. outcome_status solved.outcome)

@@ -1,12 +1,9 @@
 -- From what a run answered and printed, or did not, to what it promises. Where there is an answer it is the promise of
--- that answer. Where the certificate could not be written, nothing was printed, which is a front of every text, and the
--- cause is the write that failed.
-use Rattle.std.proofs.Common.{◌≡◌, ◌≤◌, inl, inr, ℕ, List, [], Option, Some, None, Result, Ok, Err, arith, refl, sym, ap, subst}
-use Rattle.std.proofs.lemmas.List.{append-nil}
+-- that answer. Where the certificate could not be written, nothing was printed, and the cause is the write that failed.
+use Rattle.std.proofs.Common.{◌≡◌, ◌≤◌, inl, inr, ℕ, List, None, Result, Ok, Err, arith, refl, sym, subst}
 use Rattle.std.specs.Prelude.{IfOk, IsErr}
-use Rattle.tail_outside.proofs.OutsideLemmas.{TakesFront-whole}
 use Rattle.tail_book.specs.Faults.{HasRisen}
-use Rattle.tail_outside.specs.Outside.{Adds, OnlyRead, Takes, TakesFront}
+use Rattle.tail_outside.specs.Outside.{OnlyRead}
 use Rattle.tail_outside.specs.Shown.{FilesShown, SinkShown}
 use Rattle.plan_report.specs.inside.Report.{HasPlanFor}
 use Rattle.run_frame.specs.Answer.{IsUnlessStopped}
@@ -22,17 +19,6 @@ use Rattle.tailplan.specs.declared.answered.Unwritten.{Unwritten}
 use Rattle.tailplan.specs.inside.Ending.{IsReported, KeepsFiles}
 use Rattle.tailplan.specs.inside.Outcomes.{outcome_status}
 use Rattle.tailplan.proofs.Promised.{promise}
-
--- nothing was printed
-took_nothing : (before : SinkShown) → Takes before before []
-took_nothing before = λ ceased. of_told before.told
-  where
-    of_told : (told : Option (List ℕ)) → Adds told told []
-    of_told None = tt
-    of_told (Some bytes) = ap (λ (b : List ℕ). Some b) (sym (append-nil bytes))
-
-front_of_nothing : (before after : SinkShown) → after ≡ before → TakesFront before after (answer_text Memory)
-front_of_nothing before after same = TakesFront-whole before after [] (subst (λ (shown : SinkShown). Takes before shown []) (sym same) (took_nothing before))
 
 -- no outcome ends as what is found before the search
 outcome_late : (outcome : Outcome) (status : ℕ) → status ≡ outcome_status outcome → EndsBeforeSearch status → ⊥
@@ -66,7 +52,7 @@ module _ (words : List (List ℕ)) (files later : FilesShown) (before after : Si
       → IsReported answer before after status → Promise words files later before after status
   promise_of (Ok answer) truth fit cause printed = promise words files later before after status answer truth printed fit
   promise_of (Err fail) truth fit cause reported = subst (λ (s : ℕ). Promise words files later before after s) (sym reported.0)
-      (inr (cause refl), record { answer = Memory; truth = tt; printed = front_of_nothing before after reported.1 })
+      (inr (record { named = (cause refl).0; write = (cause refl).1; silent = reported.1 }))
 
   by_status : (answer : Answer) → IsPrinted (answer_text answer) (status_of (λ solved. outcome_status solved.outcome) answer) before after status
       → IsUnlessStopped (status_of (λ solved. outcome_status solved.outcome) answer) status

@@ -5,14 +5,15 @@ use Rattle.tail_book.specs.Seen.{BookSeen}
 use Rattle.tail_book.specs.Truth.{HasNoPlan, IsTrueOutcome}
 use Rattle.tail_book.specs.declared.outcome.Outcome.{Outcome}
 use Rattle.tail_book.specs.declared.outcome.Outcome.TheVariants.{Optimal, Infeasible, Between, Above}
-use Rattle.tail_outside.specs.Outside.{Takes}
+use Rattle.tail_book.specs.Faults.{HasRisen}
+use Rattle.tail_outside.specs.Outside.{PieceHasFailed, Takes}
 use Rattle.tail_outside.specs.Shown.{FilesShown, SinkShown}
 use Rattle.branch_tree.specs.declared.limit.Limit.{Limit}
 use Rattle.branch_tree.specs.declared.limit.Limit.TheVariants.{Free, Nodes}
 use Rattle.plan_report.specs.Report.{report}
 use Rattle.run_frame.specs.Promise.{ElsePromise, Judges, PrintsFront, Refuses}
-use Rattle.tailplan.specs.Answers.{AreRefused, HasTree, IsBookOf, IsCertified, IsTrueAnswer, OfTask, answer_text}
-use Rattle.tailplan.specs.Kept.{WriteHasFailed}
+use Rattle.run_frame.specs.TableFiles.{AreGiven}
+use Rattle.tailplan.specs.Answers.{AreRefused, HasTree, IsBookOf, IsCertified, IsTrueAnswer, OfTask, answer_text, cert_of}
 use Rattle.tailplan.specs.Tasks.{TaskSeen, task_held}
 use Rattle.tailplan.specs.Usage.{usage_line}
 use Rattle.tailplan.specs.Words.{run_of}
@@ -56,15 +57,26 @@ pub record PrintsBound (later : FilesShown) (before after : SinkShown) (task : T
   pub certified : IsCertified later task book outcome
   pub printed : Takes before after (report book outcome)
 
+-- the output failed: a piece of what was printed did, and a front of the text of a true answer was printed
+pub record OutputHasFailed (words : List (List ℕ)) (files later : FilesShown) (before after : SinkShown) : Type 0 where
+  pub piece : PieceHasFailed before after
+  pub front : PrintsFront (IsTrueAnswer words files later) answer_text before after
+
+-- the certificate's file failed: the words name one, a write to the files did, and nothing was printed
+pub record CertificateHasFailed (words : List (List ℕ)) (files later : FilesShown) (before after : SinkShown) : Type 0 where
+  pub named : AreGiven (cert_of words)
+  pub write : HasRisen files.write_faults later.write_faults
+  pub silent : after ≡ before
+
 -- what a run over these words and files promises by its status, where the files and the output were first so and then so: 0 a plan
--- of least cost, 1 that no plan is legal, 4 a bound at the limit, 6 a front of the text of a true answer, after a write that failed,
--- and else what every run promises
+-- of least cost, 1 that no plan is legal, 4 a bound at the limit, 6 that the output failed, or the certificate's file before anything
+-- was printed, and else what every run promises
 abbrev pub Promise : List (List ℕ) → FilesShown → FilesShown → SinkShown → SinkShown → ℕ → Type 0
 Promise words files later before after status =
     cond (status == 0) (OfTask words files (PrintsLeastPlan later before after)) (
     cond (status == 1) (OfTask words files (PrintsInfeasible later before after)) (
     cond (status == 4) (OfTask words files (PrintsBound later before after)) (
-    cond (status == 6) (WriteHasFailed words files later before after × PrintsFront (IsTrueAnswer words files later) answer_text before after) (
+    cond (status == 6) (OutputHasFailed words files later before after ⊎ CertificateHasFailed words files later before after) (
     ElsePromise (run_of words) (task_held files) AreRefused usage_line (IsTrueAnswer words files later) answer_text before after status))))
 
 -- some plan is legal
