@@ -3,7 +3,6 @@
 
 mod answers;
 mod memory;
-mod splits;
 mod steps;
 
 use super::{Failing, label};

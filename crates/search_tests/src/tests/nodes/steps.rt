@@ -1,11 +1,10 @@
 //! Steps on nodes of the book of two flights, worked by hand: what they answer, the target they leave, and what is told.
 
-use super::answers::{Asked, End, ask, ask_of};
+use super::answers::{Asked, End, ask};
 use super::{first_passed, told};
-use branch_marks::{Event, Fact, MemTree, NoLog};
+use branch_marks::{Event, Fact, NoLog};
 use std::alloc::Global;
 use std::test::Fail;
-use small_books::there_and_back;
 
 // Whether a step on a node of these facts ends with a bound that leaves no plan below so many cost units, and leaves these
 // as the target.
@@ -45,21 +44,5 @@ fn hole_is_told_after_its_steps(rt: HostRuntime) -> Result<(), Fail> {
 fn failing_steps_have_a_front(rt: HostRuntime) -> Result<(), Fail> {
     let passed = first_passed(rt.alloc(), &NOBODY_OUT, 0, Asked::Step, &HOLE)?;
     assert!(rt; passed.is_none(), "at event {passed:?}");
-    Ok(())
-}
-
-// The way back leaves a minute before the turn ends, so nobody can fly it, and the only aircraft is given the way out.
-#[test]
-fn late_flight_is_a_hole(rt: HostRuntime) -> Result<(), Fail> {
-    let book = there_and_back(rt.alloc(), &[0], 31)?;
-    let mut log = MemTree::new(rt.alloc())?;
-    let answer = ask_of(rt.alloc(), &book, &[], 0, Asked::Step, &mut log)?;
-    let due = [
-        Event::Fact(Fact::Bar(0, 1)),
-        Event::Fact(Fact::Must(0, 0)),
-        Event::Hole(1),
-    ];
-    assert!(rt; matches!(answer.first, End::Hole(1)));
-    assert!(rt; log.events() == due.as_slice());
     Ok(())
 }
