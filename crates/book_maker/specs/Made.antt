@@ -44,7 +44,8 @@ made_of activities tails rules =
 
 -- what follows from the records of the three tables, or the first refusal: of the timetable, of the fleet and of the rules,
 -- each by itself
-abbrev pub look_at_tables : List ℕ → List ℕ → List ℕ → (List RawActivitySeen → List RawTailSeen → RawRulesSeen → Result BookSeen Refusal) → Result BookSeen Refusal
+abbrev pub look_at_tables : List ℕ → List ℕ → List ℕ
+    → (List RawActivitySeen → List RawTailSeen → RawRulesSeen → Result BookSeen Refusal) → Result BookSeen Refusal
 look_at_tables timetable fleet rules follows =
     look (timetable_of timetable) (λ activities.
     look (fleet_of fleet) (λ tails.

@@ -45,14 +45,26 @@ counter_in airports c =
       stop = c.stop;
     }))
 
+-- the curfews with numbers: they stand behind types and airports, and have no names of their own
+abbrev pub curfews_in : RawRulesSeen → Result (List CurfewSeen) Refusal
+curfews_in rules =
+    looked_up_in Rules (1 + length rules.kinds + length rules.airports) (λ _. None)
+    (curfew_in (airport_names rules) (kind_names rules)) rules.curfews
+
+-- the counters with numbers, which stand behind these
+abbrev pub counters_in : RawRulesSeen → Result (List CounterSeen) Refusal
+counters_in rules =
+    looked_up_in Rules (1 + length rules.kinds + length rules.airports + length rules.curfews) (λ c. Some c.name)
+    (counter_in (airport_names rules)) rules.counters
+
 -- the rules with numbers, or their first refusal: their entries are numbered from 1, types before airports, curfews and
--- counters; a type and an airport use no other name, and a curfew has no name of its own
+-- counters; a type and an airport use no other name
 abbrev pub rules_in : RawRulesSeen → Result RulesSeen Refusal
 rules_in rules =
     look (looked_up_in Rules 1 (λ t. Some t.name) (λ t. Ok t) rules.kinds) (λ kinds.
     look (looked_up_in Rules (1 + length rules.kinds) (λ p. Some p.name) (λ p. Ok p) rules.airports) (λ airports.
-    look (looked_up_in Rules (1 + length rules.kinds + length rules.airports) (λ _. None) (curfew_in (airport_names rules) (kind_names rules)) rules.curfews) (λ curfews.
-    look (looked_up_in Rules (1 + length rules.kinds + length rules.airports + length rules.curfews) (λ c. Some c.name) (counter_in (airport_names rules)) rules.counters) (λ counters.
+    look (curfews_in rules) (λ curfews.
+    look (counters_in rules) (λ counters.
     Ok (record {
       kinds = kinds;
       airports = airports;

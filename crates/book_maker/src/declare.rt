@@ -7,14 +7,12 @@
 ghost use Rattle.std.specs.Prelude.{◌≡◌, ◌≤◌, ◌<◌, length, map, All, None, Ok, Some, OnOk};
 ghost use Rattle.tail_book.specs.declared.limits.TheConstants.{ACTIVITY_LIMIT, AIRPORT_LIMIT, COUNTER_LIMIT, CURFEW_LIMIT, TAIL_LIMIT, TYPE_LIMIT};
 ghost use Rattle.tail_text.specs.inside.Reading.{Answers};
-ghost use Rattle.tail_text.specs.declared.refusal.Table.TheVariants.{Fleet, Rules as RulesTable, Timetable};
+ghost use Rattle.tail_text.specs.declared.refusal.Table.TheVariants.{Rules as RulesTable};
 ghost use Rattle.timetable_reader.specs.inside.Activity.{IsRawActivity};
 ghost use Rattle.fleet_rules.specs.inside.Tail.{IsRawTail};
-ghost use Rattle.book_maker.specs.inside.Known.{with_airports, with_counters, with_kinds, with_tails};
+ghost use Rattle.book_maker.specs.inside.Known.{activities_by, tails_by, with_airports, with_counters, with_kinds, with_tails};
 ghost use Rattle.book_maker.specs.LookedUp.{looked_up_in};
 ghost use Rattle.book_maker.specs.RulesFound.{counter_in, curfew_in};
-ghost use Rattle.book_maker.specs.TailFound.{tail_in};
-ghost use Rattle.book_maker.specs.ActivityFound.{activity_in};
 
 use crate::known::Known;
 use crate::looked_up::look_up;
@@ -99,7 +97,7 @@ pub fn declare_tails(
     known: &mut Known,
 ) -> Result<Vec<Tail>, Stopped>
     requires few { length tails.now ≤ TAIL_LIMIT }
-    ensures found { Answers (λ v. v.items) (looked_up_in Fleet 2 (λ t. Some t.name) (tail_in known.old.kinds known.old.airports known.old.counters known.old.tags) tails.now) result }
+    ensures found { Answers (λ v. v.items) (tails_by known.old tails.now) result }
     ensures known { OnOk result (known.new ≡ with_tails known.old (map (λ t. t.name) tails.now)) }
     ensures sound { OnOk result (All IsRawTail tails.now) }
 {
@@ -115,7 +113,7 @@ pub fn find_activities(
     known: &Known,
 ) -> Result<Vec<Activity>, Stopped>
     requires few { length activities.now ≤ ACTIVITY_LIMIT }
-    ensures found { Answers (λ v. v.items) (looked_up_in Timetable 2 (λ a. Some a.id) (activity_in known.now.kinds known.now.airports known.now.counters known.now.tails known.now.tags) activities.now) result }
+    ensures found { Answers (λ v. v.items) (activities_by known.now activities.now) result }
     ensures sound { OnOk result (All IsRawActivity activities.now) }
 {
     let found = look_up(alloc, Table::Timetable, 2, known, activities)?;

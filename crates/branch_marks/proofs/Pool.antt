@@ -1,5 +1,5 @@
 -- The least weight in a pool is the least of its routes' weights, and there is one where there was one under other duals.
-use Rattle.std.proofs.Common.{◌≡◌, ◌≢◌, ◌⊎◌, ℕ, suc, ℤ, ◌≤ℤ◌, inl, inr, Bool, true, false, cond, arith, List, [], ◌∷◌, refl, sym, subst, Option, Some, None, if◌then◌else◌}
+use Rattle.std.proofs.Common.{◌≡◌, ◌≢◌, ℕ, suc, ℤ, ◌≤ℤ◌, inl, inr, Bool, true, false, arith, List, [], ◌∷◌, refl, sym, subst, Option, Some, None, if◌then◌else◌}
 use Rattle.std.proofs.lemmas.Int.{ints, clamps}
 use Rattle.std.proofs.lemmas.Bool.{eqb-true, eq-eqb, both_ways}
 use Rattle.std.proofs.lemmas.List.Elements.{All-nil, All-cons, All-weaker}
@@ -7,6 +7,7 @@ use Rattle.std.specs.Prelude.{Any, nat_eq, int_lt}
 use Rattle.std.specs.Int.{int_min}
 use Rattle.tail_book.specs.Seen.{BookSeen}
 use Rattle.tail_book.specs.TableSeen.{CostTableSeen}
+use Rattle.tail_book.proofs.Picked.{picked}
 use Rattle.branch_marks.specs.Weights.{weight}
 use Rattle.branch_marks.specs.Pool.{Pooled, least_with, least_in, IsLeastIn}
 
@@ -15,10 +16,6 @@ any_first P x xs h = (0, x, omega arith, refl, h)
 
 any_later : {X : Type 0} (P : X → Type 0) (x : X) (xs : List X) → Any P xs → Any P (x ∷ xs)
 any_later P x xs a = let (i, y, lt, at, h) = a in (suc i, y, omega (arith, lt), at, h)
-
-picked : (b : Bool) (x y : ℤ) → (cond b y x ≡ x) ⊎ (cond b y x ≡ y)
-picked true x y = inr refl
-picked false x y = inl refl
 
 min_below_first : (x y : ℤ) → int_min x y ≤ℤ x
 min_below_first x y = omega (arith, ints, clamps)

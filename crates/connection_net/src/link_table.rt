@@ -21,7 +21,7 @@ ghost use Rattle.connection_net.specs.Net.{is_linked};
 use crate::aircraft_set::AircraftSet;
 use std::alloc::Global;
 use tail_book::laws::every_book_is_sound;
-use tail_book::{Book, Memory};
+use tail_book::{Book, Memory, type_turn};
 use turn_rules::{PermissionTable, permits};
 
 /// What is read of an activity: whether it is a flight, its airports, its minutes since 1970-01-01T00:00 UTC, the turn
@@ -104,15 +104,6 @@ fn all_legs(alloc: Global, book: &Book, permissions: &PermissionTable) -> Result
         legs.push(leg_of(book, permissions, a))?;
     }
     Ok(legs)
-}
-
-// The turn of an aircraft's type.
-fn type_turn(book: &Book, k: u32) -> i64
-    requires { k < aircraft book.now }
-    ensures value { result ≡ type_turn book.now (kind_of book.now k) }
-    ensures range { IsWithin (pos 0) (pos 1440) result }
-{
-    book.rules.kinds[book.tails[k as usize].kind as usize].turn
 }
 
 // Whether an aircraft's type turns in so many minutes.

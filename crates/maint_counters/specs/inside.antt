@@ -1,3 +1,4 @@
 -- What only proofs, and calls further in, cite.
 pub mod Counts
+pub mod LegalRoute
 pub mod StepTable

@@ -4,13 +4,14 @@
 //! for its link, the dearest part, and takes one step of the counters. Nothing is allocated: the counters stand in a row
 //! of the caller's.
 
-ghost use Rattle.std.specs.Prelude.{◌≡◌, ◌<◌, ◌&&◌, ◌↔◌, length, nat_lt, IsTrue};
-ghost use Rattle.tail_book.specs.Lookup.{activities, aircraft};
+ghost use Rattle.std.specs.Prelude.{◌≡◌, ◌<◌, ◌↔◌, length, IsTrue};
+ghost use Rattle.tail_book.specs.Lookup.{aircraft};
 ghost use Rattle.tail_book.specs.Counters.{step};
 ghost use Rattle.tail_book.specs.Route.{IsLegalRoute};
-ghost use Rattle.tail_book.specs.LegalTests.{is_link, within_limits, is_legal_route};
+ghost use Rattle.tail_book.specs.LegalTests.{is_legal_route};
 ghost use Rattle.tail_book.specs.Place.{IsPlaceOf};
 ghost use Rattle.maint_counters.specs.inside.Counts.{AreCounts};
+ghost use Rattle.maint_counters.specs.inside.LegalRoute.{is_legal_next};
 ghost use Rattle.maint_counters.specs.inside.StepTable.{IsStepTableOf};
 
 use crate::carry::start;
@@ -33,7 +34,7 @@ fn is_legal_next(
     requires place { IsPlaceOf book.now from }
     requires width { length values.old ≡ length book.now.rules.counters }
     requires range { AreCounts values.old }
-    ensures legal { result ≡ (nat_lt b (activities book.now) && (is_link book.now k from b && within_limits book.now.rules.counters (step book.now k from b values.old))) }
+    ensures legal { result ≡ is_legal_next book.now k from b values.old }
     ensures steps { IsTrue result → values.new ≡ step book.now k from b values.old }
     ensures width { length values.new ≡ length book.now.rules.counters }
     ensures range { IsTrue result → AreCounts values.new }

@@ -18,12 +18,12 @@ ghost use Rattle.tail_book.specs.Place.{IsPlaceOf};
 ghost use Rattle.turn_rules.specs.inside.FreeBefore.{IsFreeBefore};
 ghost use Rattle.turn_rules.specs.inside.NumberSet.{has};
 ghost use Rattle.maint_counters.specs.inside.Counts.{AreCounts, AreCountable, GrowByAStep};
-ghost use Rattle.maint_counters.specs.inside.StepTable.{IsActivityRow, IsCounterRow, IsInRange, IsStepTableOf, added_in, clears_in, counter_of, no_activity_row, no_counter, no_counter_row, stepped_in};
+ghost use Rattle.maint_counters.specs.inside.StepTable.{AreActivityRows, AreCounterRows, IsActivityRow, IsCounterRow, IsInRange, IsStepTableOf, added_in, clears_in, counter_of, no_counter, stepped_in};
 
-use crate::counting::{end_of, flown, landed, start_of};
+use crate::counting::{flown, landed};
 use std::alloc::Global;
 use tail_book::laws::{every_book_is_sound, limits_decide};
-use tail_book::{Book, Counter, CounterKind, Memory, Place};
+use tail_book::{Book, Counter, CounterKind, Memory, Place, end_of, start_of};
 use turn_rules::{NumberSet, free_from};
 
 /// What a step reads of an activity.
@@ -147,7 +147,7 @@ impl StepTable {
 // The rows of all activities.
 fn activity_rows(alloc: Global, book: &Book) -> Result<Vec<ActivityRow>, Memory>
     ensures count { IfOk result (λ rows. length rows.items ≡ activities book.now) }
-    ensures each { IfOk result (λ rows. (a : ℕ) → a < activities book.now → IsActivityRow book.now a (slice_index_or rows.items a no_activity_row)) }
+    ensures each { IfOk result (λ rows. AreActivityRows book.now rows.items) }
 {
     let mut rows = Vec::with_capacity(alloc, book.activities.len())?;
     for a in 0..book.activities.len() as u32 {
@@ -167,7 +167,7 @@ fn row_of_counter(book: &Book, c: usize) -> CounterRow
 // The rows of all counters.
 fn counter_rows(alloc: Global, book: &Book) -> Result<Vec<CounterRow>, Memory>
     ensures count { IfOk result (λ rows. length rows.items ≡ length book.now.rules.counters) }
-    ensures each { IfOk result (λ rows. (c : ℕ) → c < length book.now.rules.counters → IsCounterRow (counter_of book.now c) (slice_index_or rows.items c no_counter_row)) }
+    ensures each { IfOk result (λ rows. AreCounterRows book.now rows.items) }
 {
     let mut rows = Vec::with_capacity(alloc, book.rules.counters.len())?;
     for c in 0..book.rules.counters.len() {

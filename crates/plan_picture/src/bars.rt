@@ -13,10 +13,10 @@ ghost use Rattle.plan_picture.specs.inside.Drawable.{IsNear};
 ghost use Rattle.plan_picture.specs.Bars.{at_port, bar_class, bar_front, bar_line, bar_lines, details, if_same, rule_at, rule_line, rules_at};
 
 use crate::calendar::add_moment;
-use crate::layout::{add_span, end_of, start_of, x_of, y_of};
+use crate::layout::{add_span, x_of, y_of};
 use plan_audit::Broken;
 use std::alloc::Global;
-use tail_book::{Book, Memory};
+use tail_book::{Book, Memory, end_of, start_of};
 use tail_text::Line;
 
 /// The id of an activity.

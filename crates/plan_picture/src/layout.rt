@@ -4,13 +4,13 @@
 //! whole is shown smaller: three units are two pixels.
 
 ghost use Rattle.std.specs.Prelude.{◌≡◌, ◌<◌, ◌++◌, OnOk};
-ghost use Rattle.tail_book.specs.Lookup.{activities, end_of, start_of};
+ghost use Rattle.tail_book.specs.Lookup.{start_of};
 ghost use Rattle.tail_book.specs.inside.Sound.{IsMoment};
 ghost use Rattle.plan_picture.specs.inside.Drawable.{IsNear};
 ghost use Rattle.plan_picture.specs.Layout.{days_shown, first_moment, last_end, minutes_to, span, x_of, y_of};
 
 use tail_book::limits::DAY;
-use tail_book::{Book, Memory};
+use tail_book::{Book, Memory, end_of, start_of};
 use tail_text::Line;
 
 /// The units left of the first minute, for names.
@@ -24,24 +24,6 @@ pub const ROW_HEIGHT: u64 = 100;
 
 /// The width of a day, in units: its minutes.
 pub const DAY_WIDTH: u64 = 1_440;
-
-/// The moment at which an activity starts: minutes since 1970-01-01T00:00 UTC.
-pub fn start_of(book: &Book, a: u32) -> i64
-    requires { a < activities book.now }
-    ensures value { result ≡ start_of book.now a }
-    ensures range { IsMoment result }
-{
-    book.activities[a as usize].start
-}
-
-/// The moment at which an activity ends, in the same minutes.
-pub fn end_of(book: &Book, a: u32) -> i64
-    requires { a < activities book.now }
-    ensures value { result ≡ end_of book.now a }
-    ensures range { IsMoment result }
-{
-    book.activities[a as usize].end
-}
 
 /// The first moment that is shown: that of the day on which the first activity starts.
 pub fn first_moment(book: &Book) -> i64

@@ -9,10 +9,10 @@ ghost use Rattle.tail_book.specs.Place.{IsPlaceOf};
 ghost use Rattle.plan_picture.specs.inside.Drawable.{IsNear};
 ghost use Rattle.plan_picture.specs.Stops.{cleared_names, stop_line, stop_lines, stops, turn_line};
 
-use crate::layout::{add_span, start_of, y_of};
+use crate::layout::{add_span, y_of};
 use maint_counters::cleared;
 use std::alloc::Global;
-use tail_book::{Book, Memory, Place};
+use tail_book::{Book, Memory, Place, start_of};
 use tail_text::Line;
 use turn_rules::{earliest_start, free_from, turn};
 

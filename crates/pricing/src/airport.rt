@@ -13,7 +13,7 @@ ghost use Rattle.pricing.specs.inside.Airports.{AreGrounds, IsGround};
 
 use crate::waiting::Waiting;
 use crate::window::Window;
-use tail_book::{Band, Book, Counter};
+use tail_book::{Band, Book, Counter, end_of};
 
 /// An airport: the flights that end there, in order of their ends, the ground time there, the windows of its stays, how many
 /// flights have entered the line of each, and what waits there.
@@ -198,14 +198,6 @@ fn has_arrivals(book: &Book, port: u32, flights: &[u32]) -> bool
         }
     }
     true
-}
-
-// The moment at which an activity ends.
-fn end_of(book: &Book, x: u32) -> i64
-    requires { x < activities book.now }
-    ensures { result ≡ end_of book.now x }
-{
-    book.activities[x as usize].end
 }
 
 fn ends_rise(book: &Book, flights: &[u32]) -> bool

@@ -7,7 +7,6 @@
 ghost use Rattle.std.specs.Prelude.{ℕ, ◌≡◌, ◌<◌, ◌+◌, ◌≤ℤ◌, ◌⊎◌, pos, length, IfOk, IsTrue, Contains, true, false, slice_index_or};
 ghost use Rattle.std.specs.Int.{int_max};
 ghost use Rattle.tail_book.specs.Lookup.{activities, aircraft, from_port, is_flight, kind_of, port_turn, start_of, type_turn};
-ghost use Rattle.tail_book.specs.inside.Sound.{IsMoment};
 ghost use Rattle.branch_marks.specs.declared.fact.Fact.TheVariants.{Cut as FactCut, Tie as FactTie};
 ghost use Rattle.branch_marks.specs.Marks.{IsAlive};
 ghost use Rattle.branch_marks.specs.inside.MarkTables.{AreMarksOf};
@@ -29,24 +28,7 @@ use label_store::Store;
 use label_store::laws::every_store_is_sound;
 use maint_counters::StepTable;
 use tail_book::laws::every_book_is_sound;
-use tail_book::{Book, CostTable, Duals, Memory};
-
-// The turn of an aircraft's type.
-fn type_turn(book: &Book, k: u32) -> i64
-    requires { k < aircraft book.now }
-    ensures value { result ≡ type_turn book.now (kind_of book.now k) }
-    ensures least { pos 0 ≤ℤ result }
-{
-    book.rules.kinds[book.tails[k as usize].kind as usize].turn
-}
-
-// The turn of an airport.
-fn port_turn(book: &Book, port: u32) -> i64
-    requires { port < length book.now.rules.airports }
-    ensures value { result ≡ port_turn book.now port }
-{
-    book.rules.airports[port as usize].turn
-}
+use tail_book::{Book, CostTable, Duals, Memory, port_turn, start_of, type_turn};
 
 // The turn of an aircraft between two flights at an airport.
 fn turn_at(book: &Book, k: u32, port: u32) -> i64
@@ -65,15 +47,6 @@ fn port_of(book: &Book, b: u32) -> u32
     ensures range { result < length book.now.rules.airports }
 {
     book.activities[b as usize].from
-}
-
-// The moment at which an activity starts.
-fn start_of(book: &Book, b: u32) -> i64
-    requires { b < activities book.now }
-    ensures value { result ≡ start_of book.now b }
-    ensures range { IsMoment result }
-{
-    book.activities[b as usize].start
 }
 
 // Whether no Tie leads to an activity.

@@ -27,7 +27,7 @@ use label_store::laws::{
 };
 use label_store::{Offered, Store};
 use tail_book::laws::every_book_is_sound;
-use tail_book::{Book, Counter, Memory};
+use tail_book::{Book, Counter, Memory, end_of};
 
 /// Labels in lines: the keys of each, with its window as the node, and beside them the label's row and its activity.
 #[derive(Debug, Drop)]
@@ -82,15 +82,6 @@ fn weight_of(row: &[i64]) -> i64
     ensures { result ≡ slice_index_or row.now 0 (pos 0) }
 {
     row[0]
-}
-
-// The moment at which an activity ends.
-fn end_of(book: &Book, x: u32) -> i64
-    requires { x < activities book.now }
-    ensures value { result ≡ end_of book.now x }
-    ensures range { IsMoment result }
-{
-    book.activities[x as usize].end
 }
 
 // Writes what a line compares of a row.

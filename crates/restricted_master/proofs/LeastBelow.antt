@@ -1,18 +1,15 @@
 -- The least so far, with one number more: one that does not pass, or is no lighter, leaves it, and a lighter one that
 -- passes takes its place. And the least over places of a list is the least over what stands there, since each number
 -- that passes has a place, and each place a number.
-use Rattle.std.proofs.Common.{◌≡◌, ◌⊎◌, ◌<◌, ◌+◌, ◌≤ℤ◌, ◌-ℤ◌, ℕ, ℤ, pos, arith, refl, sym, ◌∙◌, ap, subst, inl, inr, Bool, true, false, cond, List, length, get_or, Option, Some, None}
+use Rattle.std.proofs.Common.{◌≡◌, ◌<◌, ◌+◌, ◌≤ℤ◌, ◌-ℤ◌, ℕ, ℤ, pos, arith, refl, sym, ◌∙◌, ap, subst, inl, inr, Bool, true, false, cond, List, length, get_or, Option, Some, None}
 use Rattle.std.proofs.lemmas.Int.{ints, clamps}
 use Rattle.std.proofs.lemmas.Bool.{cases_eq, both_ways, and_from, and_parts}
 use Rattle.std.specs.Prelude.{int_lt, ◌&&◌}
 use Rattle.tail_book.specs.Ranges.{IsWithin}
+use Rattle.tail_book.proofs.Picked.{picked}
 use Rattle.restricted_master.specs.inside.Choices.{IsSmallWeight}
 use Rattle.restricted_master.specs.inside.Least.{IsLeastBelow, lighter, is_lighter}
 use Rattle.restricted_master.proofs.Members.{true_or_false}
-
-picked : (b : Bool) (x y : ℤ) → (cond b y x ≡ x) ⊎ (cond b y x ≡ y)
-picked true x y = inr refl
-picked false x y = inl refl
 
 module _ (n : ℕ) (test : ℕ → Bool) (f : ℕ → ℤ) where
   -- one more that does not pass

@@ -1,11 +1,11 @@
 -- What a change of one dual does to the weights: those of the routes with the activity fall by what it rises, and all
 -- others stay. By induction on a route, whose activities rise: so behind the activity it does not come again, and its
 -- dual is counted once. The least weight of an aircraft is then the lesser of its two choices at the new dual.
-use Rattle.std.proofs.Common.{◌≡◌, ◌≢◌, ◌⊎◌, ◌<◌, ◌≤◌, ◌+◌, ◌*◌, ◌+ℤ◌, ◌-ℤ◌, ℕ, ℤ, pos, arith, refl, sym, ◌∙◌, ap, ap₂, subst, inl, inr, Bool, true, false, List, [], ◌∷◌, length, get_or, set, take, Option, Some, None}
+use Rattle.std.proofs.Common.{◌≡◌, ◌≢◌, ◌<◌, ◌≤◌, ◌+◌, ◌*◌, ◌+ℤ◌, ◌-ℤ◌, ℕ, ℤ, pos, arith, refl, sym, ◌∙◌, ap, ap₂, subst, inl, inr, Bool, true, false, List, [], ◌∷◌, length, get_or, set, take, Option, Some, None}
 use Rattle.std.proofs.lemmas.Int.{ints, clamps}
 use Rattle.std.proofs.lemmas.Bool.{cases_eq, both_ways, eq-eqb, and_from, and_parts}
 use Rattle.std.proofs.lemmas.List.{length-set, get_or-set_same, get_or-set_other}
-use Rattle.std.specs.Prelude.{nat_eq, not, ◌&&◌, ◌||◌, if◌then◌else◌, int_lt, cond}
+use Rattle.std.specs.Prelude.{nat_eq, not, ◌&&◌, ◌||◌, if◌then◌else◌, int_lt}
 use Rattle.tail_book.specs.Seen.{BookSeen}
 use Rattle.tail_book.specs.TableSeen.{CostTableSeen}
 use Rattle.tail_book.specs.declared.place.Place.{Place}
@@ -13,6 +13,7 @@ use Rattle.tail_book.specs.declared.place.Place.TheVariants.{Carry, After}
 use Rattle.tail_book.specs.Numbers.{contains}
 use Rattle.tail_book.specs.CostTable.{cost_unit, route_cost_in}
 use Rattle.tail_book.specs.inside.Rising.{IsRisingFrom}
+use Rattle.tail_book.proofs.Picked.{picked}
 use Rattle.branch_marks.specs.Pool.{Pooled}
 use Rattle.branch_marks.specs.Settled.{with_dual}
 use Rattle.branch_marks.specs.Weights.{dual, duals_on}
@@ -97,10 +98,6 @@ pub weight_without : (table : CostTableSeen) (book : BookSeen) (n : ℕ) (duals 
     → contains entry.route a ≡ false → entry_weight table book (with_dual duals a v) entry ≡ entry_weight table book duals entry
 weight_without table book n duals a v entry rises lacks =
     ap (λ (z : ℤ). pos (cost_unit * route_cost_in table book entry.aircraft entry.route) -ℤ z) (duals_without n Carry entry.route duals a v rises lacks)
-
-picked : (b : Bool) (x y : ℤ) → (cond b y x ≡ x) ⊎ (cond b y x ≡ y)
-picked true x y = inr refl
-picked false x y = inl refl
 
 un_not : (b : Bool) → not b ≡ true → b ≡ false
 un_not true e = absurd (both_ways false refl e)

@@ -1,6 +1,6 @@
 -- Completions: of the rests that begin with an activity the least is what the link adds and the least behind that activity, and
 -- with one activity more to begin with the least is the lesser of the two.
-use Rattle.std.proofs.Common.{◌≡◌, ℕ, ℤ, ◌+ℤ◌, ◌≤ℤ◌, ◌+◌, ◌<◌, arith, refl, inl, inr, ◌⊎◌, Bool, true, false, cond, List, [], ◌∷◌, Option, None, Some, sym, ◌∙◌, ap, subst}
+use Rattle.std.proofs.Common.{◌≡◌, ℕ, ℤ, ◌+ℤ◌, ◌≤ℤ◌, ◌+◌, ◌<◌, arith, inl, inr, ◌⊎◌, List, [], ◌∷◌, Option, None, Some, sym, ◌∙◌, ap, subst}
 use Rattle.std.specs.Prelude.{slice_index_or, int_lt}
 use Rattle.std.specs.Int.{int_min}
 use Rattle.std.proofs.lemmas.Bool.{cases_lt}
@@ -11,6 +11,7 @@ use Rattle.tail_book.specs.declared.place.Place.{Place}
 use Rattle.tail_book.specs.declared.place.Place.TheVariants.{After}
 use Rattle.tail_book.specs.CostTable.{IsCostTable, IsTableFor}
 use Rattle.tail_book.specs.inside.Sound.{IsBook}
+use Rattle.tail_book.proofs.Picked.{picked}
 use Rattle.branch_marks.specs.declared.fact.Fact.{Fact}
 use Rattle.branch_marks.specs.Marks.{IsUsable, FitsFrom}
 use Rattle.branch_marks.specs.Settled.{AreDuals}
@@ -21,10 +22,6 @@ use Rattle.route_search.specs.inside.Laws.{FittingRestsAreSmall}
 
 more_on_left : (arc low rest : ℤ) → low ≤ℤ rest → (arc +ℤ low) ≤ℤ (arc +ℤ rest)
 more_on_left arc low rest le = omega (arith, ints, le)
-
-picked : (b : Bool) (x y : ℤ) → (cond b y x ≡ x) ⊎ (cond b y x ≡ y)
-picked true x y = inr refl
-picked false x y = inl refl
 
 least_low : (w one other : ℤ) → one ≤ℤ w → int_min one other ≤ℤ w
 least_low w one other le = omega (arith, ints, clamps, le)

@@ -7,7 +7,7 @@ ghost use Rattle.std.specs.Prelude.{◌≡◌, ◌∷◌, [], IfOk};
 ghost use Rattle.std.specs.Bool.{MatchBool};
 ghost use Rattle.csv.specs.Records.{fields_of};
 ghost use Rattle.table_records.specs.Records.{records_of};
-ghost use Rattle.table_records.specs.inside.RecordsParts.{left_of, IsReading};
+ghost use Rattle.table_records.specs.inside.RecordsParts.{left_of, HasTaken, IsReading};
 
 use crate::Fields;
 use csv::{ByteRecord, Reader, ReaderBuilder};
@@ -65,7 +65,7 @@ impl<'a> Records<'a> {
 // One read of a reader that reads on. Every error of the reader counts as want of memory.
 fn read_next(reader: &mut Reader<&[u8]>, record: &mut ByteRecord) -> Result<bool, Memory>
     requires { IsReading reader.old }
-    ensures { IfOk result (λ found. MatchBool found ((left_of reader.old ≡ fields_of «record».new ∷ left_of reader.new) × IsReading reader.new) (left_of reader.old ≡ [])) }
+    ensures { IfOk result (λ found. MatchBool found (HasTaken reader.old (fields_of «record».new) reader.new) (left_of reader.old ≡ [])) }
 {
     let Ok(found) = reader.read_byte_record(record) else {
         return Err(Memory);

@@ -1,6 +1,7 @@
 pub mod NameLemmas
 pub mod Rows
 pub mod Listed
+pub mod Picked
 pub mod Timed
 pub mod Rise
 pub mod FlownOnce

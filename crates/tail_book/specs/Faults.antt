@@ -1,4 +1,4 @@
--- Counts of faults.
+-- When a count of faults has risen.
 use Rattle.std.specs.Prelude.{ℕ, ◌≡◌, ◌⊎◌, ◌^◌, ◌-◌, ◌<◌}
 
 -- a count rose; one that stands at the greatest number of its type counts as risen

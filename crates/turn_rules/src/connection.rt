@@ -5,7 +5,7 @@
 
 ghost use Rattle.std.specs.Prelude.{◌≡◌, ◌<◌, ◌↔◌, ◌+ℤ◌, ◌-ℤ◌, ◌≤ℤ◌, IsTrue, nat_eq, pos, length};
 ghost use Rattle.tail_book.specs.declared.limits.TheConstants.{DAY, LAST_MOMENT};
-ghost use Rattle.tail_book.specs.Lookup.{activities, aircraft, kind_of, from_port, to_port, start_of, type_turn, port_turn};
+ghost use Rattle.tail_book.specs.Lookup.{activities, aircraft, from_port, start_of};
 ghost use Rattle.tail_book.specs.Numbers.{int_le};
 ghost use Rattle.tail_book.specs.Link.{IsLink, port, free_from, gap, turn_time, is_connected};
 ghost use Rattle.tail_book.specs.Ranges.{IsWithin};
@@ -16,7 +16,7 @@ ghost use Rattle.turn_rules.specs.inside.FreeBefore.{IsFreeBefore};
 
 use crate::permission::allowed;
 use tail_book::laws::link_decides;
-use tail_book::{Book, Place};
+use tail_book::{Book, Place, port_turn, start_of, type_turn};
 
 /// The airport where an aircraft is.
 pub fn port(book: &Book, k: u32, from: Place) -> u32
@@ -44,15 +44,6 @@ pub fn free_from(book: &Book, k: u32, from: Place) -> i64
     }
 }
 
-/// The minute at which an activity starts.
-fn start_of(book: &Book, b: u32) -> i64
-    requires { b < activities book.now }
-    ensures value { result ≡ start_of book.now b }
-    ensures range { IsMoment result }
-{
-    book.activities[b as usize].start
-}
-
 /// Minutes on the ground before an activity starts; less than 0 where it starts too early.
 pub fn gap(book: &Book, k: u32, from: Place, b: u32) -> i64
     requires aircraft { k < aircraft book.now }
@@ -64,24 +55,6 @@ pub fn gap(book: &Book, k: u32, from: Place, b: u32) -> i64
     start_of(book, b) - free_from(book, k, from)
 }
 
-/// The turn of an aircraft's type.
-fn type_turn(book: &Book, k: u32) -> i64
-    requires { k < aircraft book.now }
-    ensures value { result ≡ type_turn book.now (kind_of book.now k) }
-    ensures range { IsWithin (pos 0) DAY result }
-{
-    book.rules.kinds[book.tails[k as usize].kind as usize].turn
-}
-
-/// The turn of the airport where an activity ends.
-fn port_turn(book: &Book, x: u32) -> i64
-    requires { x < activities book.now }
-    ensures value { result ≡ port_turn book.now (to_port book.now x) }
-    ensures range { IsWithin (pos 0) DAY result }
-{
-    book.rules.airports[book.activities[x as usize].to as usize].turn
-}
-
 /// The least minutes on the ground between two activities.
 fn turn_between(book: &Book, k: u32, x: u32, b: u32) -> i64
     requires aircraft { k < aircraft book.now }
@@ -91,7 +64,7 @@ fn turn_between(book: &Book, k: u32, x: u32, b: u32) -> i64
     ensures range { IsWithin (pos 0) DAY result }
 {
     if book.activities[x as usize].flight && book.activities[b as usize].flight {
-        type_turn(book, k).max(port_turn(book, x))
+        type_turn(book, k).max(port_turn(book, book.activities[x as usize].to))
     } else {
         0
     }

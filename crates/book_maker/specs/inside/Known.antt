@@ -1,7 +1,14 @@
 -- The names that the tables declare, each kind by itself. The number of a name is its place in the list of its kind.
-use Rattle.std.specs.Prelude.{ℕ, ◌≡◌, ◌<◌, ◌^◌, List, length}
-use Rattle.tail_book.specs.Seen.{RulesSeen}
+use Rattle.std.specs.Prelude.{ℕ, ◌≡◌, ◌<◌, ◌^◌, List, length, Some, Result}
+use Rattle.tail_book.specs.Seen.{ActivitySeen, RulesSeen, TailSeen}
+use Rattle.tail_text.specs.declared.refusal.Refusal.{Refusal}
+use Rattle.tail_text.specs.declared.refusal.Table.TheVariants.{Fleet, Timetable}
+use Rattle.timetable_reader.specs.Activity.{RawActivitySeen}
 use Rattle.fleet_rules.specs.RawRules.{RawRulesSeen}
+use Rattle.fleet_rules.specs.Tail.{RawTailSeen}
+use Rattle.book_maker.specs.LookedUp.{looked_up_in}
+use Rattle.book_maker.specs.TailFound.{tail_in}
+use Rattle.book_maker.specs.ActivityFound.{activity_in}
 use Rattle.book_maker.specs.RulesFound.{airport_names, counter_names, kind_names}
 
 -- the names of each kind, in order of their numbers
@@ -41,4 +48,21 @@ with_tails known names = record { kinds = known.kinds; airports = known.airports
 
 -- the known names with those that the rules declare
 abbrev pub with_rules : KnownNames → RawRulesSeen → KnownNames
-with_rules known rules = record { kinds = kind_names rules; airports = airport_names rules; counters = counter_names rules; tails = known.tails; tags = known.tags }
+with_rules known rules = record {
+  kinds = kind_names rules;
+  airports = airport_names rules;
+  counters = counter_names rules;
+  tails = known.tails;
+  tags = known.tags;
+}
+
+-- the aircraft with the numbers of known names; the header is record 1 of its table, so the first one stands in record 2
+abbrev pub tails_by : KnownNames → List RawTailSeen → Result (List TailSeen) Refusal
+tails_by known tails =
+    looked_up_in Fleet 2 (λ t. Some t.name) (tail_in known.kinds known.airports known.counters known.tags) tails
+
+-- the activities with the numbers of known names, in the order of their table
+abbrev pub activities_by : KnownNames → List RawActivitySeen → Result (List ActivitySeen) Refusal
+activities_by known activities =
+    looked_up_in Timetable 2 (λ a. Some a.id)
+    (activity_in known.kinds known.airports known.counters known.tails known.tags) activities

@@ -1,5 +1,5 @@
 -- What a step reads, as rows: of each activity, of each counter and of each aircraft.
-use Rattle.std.specs.Prelude.{ℕ, ℤ, pos, ◌+ℤ◌, ◌-ℤ◌, ◌≤ℤ◌, ◌≡◌, ◌<◌, [], Bool, ◌&&◌, if◌then◌else◌, length, slice_index_or}
+use Rattle.std.specs.Prelude.{ℕ, ℤ, pos, ◌+ℤ◌, ◌-ℤ◌, ◌≤ℤ◌, ◌≡◌, ◌<◌, List, [], Bool, ◌&&◌, if◌then◌else◌, length, slice_index_or}
 use Rattle.tail_book.specs.declared.limits.TheConstants.{SPAN_LIMIT}
 use Rattle.tail_book.specs.Seen.{BookSeen, CounterSeen}
 use Rattle.tail_book.specs.Numbers.{contains, int_le}
@@ -52,13 +52,21 @@ pub record IsCounterRow (counter : CounterSeen) (row : CounterRow) : Type 0 wher
   pub limit : row.limit ≡ counter.limit
   pub stop : row.stop ≡ counter.stop
 
+-- each of these is the row of the book's activity, or of its counter, of the same number
+abbrev pub AreActivityRows : BookSeen → List ActivityRow → Type 0
+AreActivityRows book rows = (a : ℕ) → a < activities book → IsActivityRow book a (slice_index_or rows a no_activity_row)
+
+abbrev pub AreCounterRows : BookSeen → List CounterRow → Type 0
+AreCounterRows book rows =
+    (c : ℕ) → c < length book.rules.counters → IsCounterRow (counter_of book c) (slice_index_or rows c no_counter_row)
+
 -- the table has a row for each activity and each counter of the book, and the minute from which each aircraft is ready
 pub record IsStepTableOf (book : BookSeen) (table : StepTable) : Type 0 where
   pub activity_rows : length table.activities.items ≡ activities book
   pub counter_rows : length table.counters.items ≡ length book.rules.counters
   pub ready_minutes : length table.ready.items ≡ aircraft book
-  pub each_activity : (a : ℕ) → a < activities book → IsActivityRow book a (slice_index_or table.activities.items a no_activity_row)
-  pub each_counter : (c : ℕ) → c < length book.rules.counters → IsCounterRow (counter_of book c) (slice_index_or table.counters.items c no_counter_row)
+  pub each_activity : AreActivityRows book table.activities.items
+  pub each_counter : AreCounterRows book table.counters.items
   pub each_aircraft : (k : ℕ) → k < aircraft book → slice_index_or table.ready.items k (pos 0) ≡ (tail_of book k).ready
 
 -- a stop that ends when the activity of the row starts clears counter c, where the aircraft is free from a minute on

@@ -1,5 +1,5 @@
 -- The records that a reader of bytes has left.
-use Rattle.std.specs.Prelude.{ℕ, List, [], length, ◌+◌, ◌≡◌, true, false, Some, Bool, if◌then◌else◌}
+use Rattle.std.specs.Prelude.{ℕ, List, [], length, ◌∷◌, ◌+◌, ◌≡◌, true, false, Some, Bool, if◌then◌else◌}
 use Rattle.std.specs.Borrow.{Bor}
 use Rattle.std.specs.Option.{option_map_or}
 use Rattle.csv.specs.Machine.{ends_at_end}
@@ -24,6 +24,10 @@ pub record IsReading (r : Reader (Bor (List ℕ))) : Type 0 where
   pub bends : is_flexible r ≡ true
   pub between : ends_at_end (reader_state r) ≡ false
   pub source : (y : List ℕ) × (source_of (λ s. Some s.now) r ≡ Some y)
+
+-- the first record that was left is taken, with these fields, and the reader reads on behind it
+abbrev pub HasTaken : Reader (Bor (List ℕ)) → List (List ℕ) → Reader (Bor (List ℕ)) → Type 0
+HasTaken before fields after = (left_of before ≡ fields ∷ left_of after) × IsReading after
 
 -- what is left: nothing once the reader has come to the end or has failed
 abbrev pub left_unless : Bool → Reader (Bor (List ℕ)) → List (List (List ℕ))

@@ -32,7 +32,8 @@ RoutesKeepOrder = (book : BookSeen) (k : ℕ) (x : Place) (values others : List 
 
 -- what is at most values within their limits is within them
 abbrev pub LowerStaysWithin : Type 0
-LowerStaysWithin = (counters : List CounterSeen) (values others : List ℤ) → EachAtMost values others → WithinLimits counters others → WithinLimits counters values
+LowerStaysWithin = (counters : List CounterSeen) (values others : List ℤ) → EachAtMost values others
+    → WithinLimits counters others → WithinLimits counters values
 
 -- a rest of a route that is legal with some values is legal with lower ones
 abbrev pub LowerStaysLegal : Type 0

@@ -117,7 +117,9 @@ are_airports airports = nat_le (length airports) AIRPORT_LIMIT && (list_all is_a
 
 -- at most 6 counters, whose names differ
 abbrev pub are_counters : RulesSeen → Bool
-are_counters rules = nat_le (length rules.counters) COUNTER_LIMIT && (list_all (is_counter rules) rules.counters && each_pair (λ a b. not (bytes_eq a.name b.name)) rules.counters)
+are_counters rules =
+    nat_le (length rules.counters) COUNTER_LIMIT
+    && (list_all (is_counter rules) rules.counters && each_pair (λ a b. not (bytes_eq a.name b.name)) rules.counters)
 
 -- at most 400 curfews
 abbrev pub are_curfews : RulesSeen → Bool

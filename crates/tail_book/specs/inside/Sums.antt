@@ -1,4 +1,4 @@
--- Sums of whole numbers over a list, and below a number.
+-- The laws of sums over a list and below a number, for src/laws/sums.rt.
 use Rattle.std.specs.Prelude.{ℕ, ℤ, pos, ◌+ℤ◌, ◌<◌, ◌≡◌, List, ◌++◌, All, length, map, count_by, nat_eq, slice_index_or}
 use Rattle.tail_book.specs.Sums.{total, sum_below}
 

@@ -1,4 +1,4 @@
--- That each of these tests is true exactly where its fact holds.
+-- That each test of LegalTests is true exactly where its fact holds, for src/laws.rt.
 use Rattle.std.specs.Prelude.{ℕ, ℤ, List}
 use Rattle.std.specs.Bool.{Decides}
 use Rattle.tail_book.specs.Seen.{CounterSeen, BookSeen}
