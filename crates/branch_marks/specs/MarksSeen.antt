@@ -3,6 +3,7 @@ use Rattle.std.specs.Prelude.{ℕ, List}
 use Rattle.branch_marks.specs.declared.fact.Fact.{Fact}
 use Rattle.branch_marks.specs.declared.named.Named.{Named}
 use Rattle.branch_marks.specs.inside.BitRows.{BitRowsSeen}
+use Rattle.branch_marks.specs.declared.marks.Marks.TheInside.{Inside}
 
 -- how many aircraft and activities the book has, the facts in the order in which they came, and the tables beside them:
 -- who is alive at each activity; the Bars and the Musts of each aircraft; the Cuts of each activity; what Ties name behind
@@ -18,3 +19,18 @@ pub record MarksSeen : Type 0 where
   pub next : List Named
   pub previous : List Named
   pub carriers : List Named
+
+-- what these fields show
+abbrev pub marks_seen : Inside → MarksSeen
+marks_seen t = record {
+  aircraft = t.aircraft;
+  activities = t.activities;
+  facts = t.facts.items;
+  alive = t.alive;
+  bars = t.bars;
+  musts = t.musts;
+  cuts = t.cuts;
+  next = t.next.items;
+  previous = t.previous.items;
+  carriers = t.carriers.items;
+}

@@ -12,8 +12,8 @@ ghost use Rattle.branch_marks.specs.FactTests.{has_fact};
 ghost use Rattle.branch_marks.specs.inside.MarkTables.{AreMarksOf, IsFactWithin, is_tie};
 ghost use Rattle.branch_marks.specs.MarkCalls.{AddsOnce};
 
-mod fitting;
 mod questions;
+mod route_fit;
 mod walks;
 
 use crate::Fact;
@@ -30,7 +30,7 @@ use tail_book::laws::every_book_is_sound;
 use tail_book::{Book, Memory};
 
 /// Branching facts of a book, and the tables that answer for them.
-#[derive(Debug, Drop)]
+#[derive(Drop)]
 pub struct Marks {
     aircraft: usize,
     activities: usize,
@@ -45,19 +45,19 @@ pub struct Marks {
 }
 
 impl Model for Marks {
-    ghost use Rattle.branch_marks.specs.MarksSeen.{MarksSeen};
+    ghost use Rattle.branch_marks.specs.MarksSeen.{MarksSeen, marks_seen};
 
     ghost Value = { MarksSeen };
 
     ghost use Rattle.branch_marks.specs.inside.MarkTables.{IsMarks};
 
-    ghost view = { λ t. record { aircraft = t.aircraft; activities = t.activities; facts = t.facts.items; alive = t.alive; bars = t.bars; musts = t.musts; cuts = t.cuts; next = t.next.items; previous = t.previous.items; carriers = t.carriers.items } };
+    ghost view = { marks_seen };
 
-    ghost invariant = { λ t. IsMarks (record { aircraft = t.aircraft; activities = t.activities; facts = t.facts.items; alive = t.alive; bars = t.bars; musts = t.musts; cuts = t.cuts; next = t.next.items; previous = t.previous.items; carriers = t.carriers.items }) };
+    ghost invariant = { λ t. IsMarks (marks_seen t) };
 }
 
 /// Whether a fact was new, or known before.
-#[derive(Clone, Copy, PartialEq, Eq, Debug)]
+#[derive(Clone, Copy, PartialEq, Eq)]
 pub enum Added {
     New,
     Known,

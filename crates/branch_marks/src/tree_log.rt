@@ -56,7 +56,7 @@ pub trait TreeLog {
 }
 
 /// A log that keeps nothing, and so tells no list.
-#[derive(Debug, Drop)]
+#[derive(Drop)]
 pub struct NoLog;
 
 impl TreeLog for NoLog {
@@ -88,7 +88,7 @@ impl TreeLog for NoLog {
 }
 
 /// A log that keeps the events, and tells exactly those.
-#[derive(Debug, Drop)]
+#[derive(Drop)]
 pub struct MemTree {
     events: Vec<Event>,
 }

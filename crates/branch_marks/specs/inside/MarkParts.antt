@@ -1,10 +1,12 @@
 -- What the facts of each kind leave open, apart: each test here asks one kind alone, and all others pass it.
-use Rattle.std.specs.Prelude.{ℕ, ◌+◌, Bool, true, ◌&&◌, ◌||◌, not, nat_eq, nat_lt, nat_le}
+use Rattle.std.specs.Prelude.{ℕ, ◌+◌, List, Bool, true, ◌&&◌, ◌||◌, not, nat_eq, nat_lt, nat_le}
+use Rattle.std.specs.List.{list_all}
+use Rattle.tail_book.specs.Seen.{BookSeen}
 use Rattle.tail_book.specs.declared.place.Place.{Place}
 use Rattle.tail_book.specs.declared.place.Place.TheVariants.{Carry, After}
 use Rattle.branch_marks.specs.declared.fact.Fact.{Fact}
 use Rattle.branch_marks.specs.declared.fact.Fact.TheVariants.{Bar, Must, Cut, Tie}
-use Rattle.branch_marks.specs.MarkTests.{is_at}
+use Rattle.branch_marks.specs.MarkTests.{is_alive, is_alive_at, is_at, lets_go}
 
 -- the least number of an activity behind the place
 abbrev pub first_after : Place → ℕ
@@ -38,3 +40,7 @@ ties_nothing x (Bar j c) = true
 ties_nothing x (Must j c) = true
 ties_nothing x (Cut c d) = true
 ties_nothing x (Tie c d) = not (is_at x c)
+
+-- the link from x to b is open to the aircraft: both ends are alive for it, and each fact lets it go
+abbrev pub is_open : BookSeen → List Fact → ℕ → Place → ℕ → Bool
+is_open book marks k x b = (is_alive book marks k b && is_alive_at book marks k x) && list_all (lets_go k x b) marks

@@ -25,5 +25,6 @@ parts count values = record { count = count; values = values }
 pub parts_of-values_of : (a : Inside) → IsPadded a → parts_of (values_of a) ≡ a
 parts_of-values_of a h =
     let n : length (take a.count a.values) ≡ a.count = length-take-le a.count a.values (omega (arith, h.short, h.whole)) in
-    let whole : take a.count a.values ++ replicate (COUNTER_LIMIT - length (take a.count a.values)) (pos 0) ≡ a.values = rw (n, ← h.zeros) (take-append-drop a.count a.values) in
+    let whole : take a.count a.values ++ replicate (COUNTER_LIMIT - length (take a.count a.values)) (pos 0) ≡ a.values =
+    rw (n, ← h.zeros) (take-append-drop a.count a.values) in
     ap₂ parts n whole

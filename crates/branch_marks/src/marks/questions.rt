@@ -8,7 +8,7 @@ ghost use Rattle.branch_marks.specs.Marks.{IsAlive, IsUsable, MayEnd};
 ghost use Rattle.branch_marks.specs.MarkTests.{is_alive, is_alive_at, is_usable, lets_go, may_end};
 ghost use Rattle.branch_marks.specs.inside.Named.{named_by};
 ghost use Rattle.branch_marks.specs.inside.MarkTables.{AreMarksOf, given_to, is_must, tied_after, tied_before};
-ghost use Rattle.branch_marks.specs.inside.MarkParts.{first_after, is_no_must_in, leaves_link, ties_nothing, ties_only};
+ghost use Rattle.branch_marks.specs.inside.MarkParts.{first_after, is_no_must_in, is_open, leaves_link, ties_nothing, ties_only};
 
 use super::Marks;
 use crate::laws::{alive_decides, may_end_decides, usable_decides};
@@ -161,7 +161,7 @@ impl Marks {
         requires aircraft { k < aircraft book.now }
         requires place { IsPlaceOf book.now from }
         requires activity { b < activities book.now }
-        ensures { result ≡ ((is_alive book.now self.now.facts k b && is_alive_at book.now self.now.facts k from) && list_all (lets_go k from b) self.now.facts) }
+        ensures { result ≡ is_open book.now self.now.facts k from b }
     {
         self.both_alive(book, k, from, b) && self.lets_go(k, from, b)
     }

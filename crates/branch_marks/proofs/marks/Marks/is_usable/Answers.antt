@@ -1,7 +1,6 @@
-use Rattle.std.specs.List.{list_all}
-use Rattle.std.specs.Prelude.{◌&&◌}
 use Rattle.tail_book.specs.Link.{is_connected}
-use Rattle.branch_marks.specs.MarkTests.{is_alive, is_alive_at, is_usable, lets_go}
+use Rattle.branch_marks.specs.MarkTests.{is_usable}
+use Rattle.branch_marks.specs.inside.MarkParts.{is_open}
 use Rattle.branch_marks.proofs.Parts.{usable_parts, first_fails, second_decides}
 use Rattle.branch_marks.proofs.marks.Marks.is_usable.Goals as goal
 
@@ -11,7 +10,7 @@ returns-then-is_open c =
     let book = c.args.book.now in
     let facts = c.args.self.now.facts in
     second_decides (is_usable book facts c.args.k c.args.from c.args.b)
-    ((is_alive book facts c.args.k c.args.b && is_alive_at book facts c.args.k c.args.from) && list_all (lets_go c.args.k c.args.from c.args.b) facts)
+    (is_open book facts c.args.k c.args.from c.args.b)
     (is_connected book c.args.k c.args.from c.args.b) c.is_open.result c.connected.result (usable_parts book facts c.args.k c.args.from c.args.b) c.is_open.ensures c.if-is_open.true c.connected.ensures.value
 
 pub returns-else-is_open : goal.returns-else-is_open
@@ -19,5 +18,5 @@ returns-else-is_open c =
     let book = c.args.book.now in
     let facts = c.args.self.now.facts in
     first_fails (is_usable book facts c.args.k c.args.from c.args.b)
-    ((is_alive book facts c.args.k c.args.b && is_alive_at book facts c.args.k c.args.from) && list_all (lets_go c.args.k c.args.from c.args.b) facts)
+    (is_open book facts c.args.k c.args.from c.args.b)
     (is_connected book c.args.k c.args.from c.args.b) c.is_open.result (usable_parts book facts c.args.k c.args.from c.args.b) c.is_open.ensures c.if-is_open.false

@@ -1,5 +1,0 @@
-use Rattle.branch_marks.proofs.Fitting.{fits_marked}
-use Rattle.branch_marks.proofs.laws.fitting.marked_routes_fit.Goals as goal
-
-pub returns : goal.returns
-returns c book sound marks plan legal hold k hk = fits_marked c.legal_routes_rise.ensures c.each_is_flown_once.ensures book sound plan legal k hk marks hold

@@ -1,5 +1,0 @@
-use Rattle.branch_marks.proofs.UsableAlong.{usable_one_more}
-use Rattle.branch_marks.proofs.laws.fitting.usable_with_one_more.Goals as goal
-
-pub returns : goal.returns
-returns c = usable_one_more

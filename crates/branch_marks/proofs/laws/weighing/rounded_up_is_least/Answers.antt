@@ -1,5 +1,0 @@
-use Rattle.branch_marks.proofs.Duality.{rounded_up_forth, rounded_up_back}
-use Rattle.branch_marks.proofs.laws.weighing.rounded_up_is_least.Goals as goal
-
-pub returns : goal.returns
-returns c z units = (rounded_up_forth z units, rounded_up_back z units)

@@ -1,5 +1,0 @@
-use Rattle.branch_marks.proofs.Weights.{weights_along}
-use Rattle.branch_marks.proofs.laws.weighing.weights_along.Goals as goal
-
-pub returns : goal.returns
-returns c = weights_along
