@@ -1,18 +1,21 @@
 #!/usr/bin/env python3
 """Tells what a run of the gate costs: processor seconds of each crate's proofs, its tests and its must-fail edits.
 
-usage: gate_seconds.py
+usage: gate_seconds.py [FOLDER]
 
-Start it beside `rt ci`. Twice a second it looks at the processes of the prover, and once none was there for a minute it prints
-the table of docs/ARCHITECTURE.md. What a process took in its last half second is not seen: less than a hundredth of all.
+Start it beside the `rt ci` that runs at the top of the repository FOLDER, the working folder where none is named. Twice a
+second it looks at the processes of the prover that this run has started, and once the run has ended, it prints the table of
+docs/ARCHITECTURE.md and how long it watched. What a process took in its last half second is not seen: less than a hundredth
+of all.
 """
 import collections
 import os
+import sys
 import time
 
 TICKS = os.sysconf("SC_CLK_TCK")
 PAUSE = 0.5
-QUIET = 60.0
+QUIET = 20.0
 
 
 def words_of(pid):
@@ -22,63 +25,83 @@ def words_of(pid):
 
 
 def seconds_of(pid):
-    """The processor seconds of a process with those of its ended children, and when it started."""
+    """The parent of a process, its processor seconds with those of its ended children, and when it started."""
     with open(f"/proc/{pid}/stat") as file:
         fields = file.read().rpartition(")")[2].split()
-    return sum(map(int, fields[11:15])) / TICKS, fields[19]
+    return fields[1], sum(map(int, fields[11:15])) / TICKS, fields[19]
 
 
-def kind_of(words):
-    """What a call of the prover is for: proofs, tests or an edit; a seed of edits counts with them."""
-    if "--incremental" in words:
+def is_run(pid, top):
+    """Whether the process is `rt ci` at the top of this repository."""
+    words = [os.path.basename(word) for word in words_of(pid)]
+    return "rt" in words and "ci" in words and os.path.realpath(f"/proc/{pid}/cwd") == top
+
+
+def stands_under(pid, top):
+    """Whether the run of this repository has started the process, itself or by one that it started."""
+    while pid not in ("0", "1"):
+        if is_run(pid, top):
+            return True
+        pid = seconds_of(pid)[0]
+    return False
+
+
+def kind_of(pid, words):
+    """What a call of the prover is for: proofs, tests or edits. With the edits counts the check that all of a crate begin with."""
+    if "--incremental" in words or "/rt-edit-" in os.path.realpath(f"/proc/{pid}/cwd"):
         return "edits"
     return "tests" if "--test" in words else "proofs"
 
 
-def is_edit(words):
-    """Whether the call tries one edit, and is not the check with which all edits of a crate begin."""
-    return "--incremental" in words and not words[words.index("--incremental") + 1].endswith("/seed")
-
-
-def look(seen):
+def look(seen, top):
     """Notes what each call of the prover has taken so far, and answers whether there was one."""
     some = False
     for pid in filter(str.isdigit, os.listdir("/proc")):
         try:
             words = words_of(pid)
-            if os.path.basename(words[0]) != "rattle" or "--crate-name" not in words:
+            if os.path.basename(words[0]) != "rattle" or "--crate-name" not in words or not stands_under(pid, top):
                 continue
-            taken, start = seconds_of(pid)
+            _, taken, start = seconds_of(pid)
+            kind = kind_of(pid, words)
         except (OSError, IndexError, ValueError):
             continue
         some = True
-        seen[pid, start] = (words, taken)
+        seen[pid, start] = (words[words.index("--crate-name") + 1], kind, taken)
     return some
 
 
-def table(seen):
+def edits_of(top, crate):
+    """How many must-fail edits a crate has."""
+    folder = f"{top}/crates/{crate}/must-fail"
+    return len([name for name in os.listdir(folder) if name.endswith(".edit")]) if os.path.isdir(folder) else 0
+
+
+def table(seen, top):
     """The lines of the table: a crate each, in the order in which they were met, and their sums."""
     rows = collections.defaultdict(collections.Counter)
-    for words, taken in seen.values():
-        crate = words[words.index("--crate-name") + 1]
-        rows[crate][kind_of(words)] += taken
-        rows[crate]["tried"] += is_edit(words)
+    for crate, kind, taken in seen.values():
+        rows[crate][kind] += taken
+    for crate, row in rows.items():
+        row["tried"] = edits_of(top, crate)
     rows["all"] = sum(rows.values(), collections.Counter())
     yield "| crate | proofs | tests | edits | how many edits |"
     yield "|---|---|---|---|---|"
     for crate, row in rows.items():
         name = crate if crate == "all" else f"`{crate}`"
         yield f"| {name} | {row['proofs']:.0f} | {row['tests']:.0f} | {row['edits']:.0f} | {row['tried']} |"
+    yield f"in all {sum(taken for _, _, taken in seen.values()):.0f} processor seconds"
 
 
 def main():
+    top = os.path.realpath(sys.argv[1] if len(sys.argv) > 1 else ".")
     seen = {}
-    last = time.monotonic()
-    while time.monotonic() - last < QUIET:
-        if look(seen):
+    began = last = time.monotonic()
+    while not seen or time.monotonic() - last < QUIET:
+        if look(seen, top):
             last = time.monotonic()
         time.sleep(PAUSE)
-    print("\n".join(table(seen)))
+    print("\n".join(table(seen, top)))
+    print(f"watched for {(last - began) / 60:.1f} minutes")
 
 
 if __name__ == "__main__":

@@ -1,9 +1,9 @@
 # Builds a proved program and keeps it in bin/out. proved.sh sources this.
 # `rt ci` proves, in a copy of the crates that the program is made of: as many side by side as there are processors and
 # free memory for, those with the longest chain above them first, and one that is alone at work with several processors.
-# rt keeps beside the kit what `rt ci` has proved on this machine, here or elsewhere, so none of it is proved twice, and a
-# build that was interrupted goes on. It also begins to prove the crates' tests, on what the crates leave free; once the
-# program is there, that is ended.
+# Where rt keeps what `rt ci` has proved on this machine, as some versions of the kit do, none of it is proved twice, and a
+# build that was interrupted goes on; else it begins anew. rt also begins to prove the crates' tests, on what the crates
+# leave free; once the program is there, that is ended.
 # shellcheck shell=bash
 
 # How long the build may be silent, in seconds.
@@ -147,7 +147,7 @@ give_up() {
     trap - "$1"
     end_rt
     clear_room
-    say "the build was interrupted. The next call goes on from what rt has kept."
+    say "the build was interrupted. The next call goes on from what rt has kept, or begins anew."
     kill -s "$1" $$
 }
 
