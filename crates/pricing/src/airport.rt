@@ -8,7 +8,7 @@ ghost use Rattle.std.specs.Prelude.{ℕ, ◌≡◌, ◌<◌, ◌≤◌, ◌+◌,
 ghost use Rattle.tail_book.specs.Lookup.{activities, end_of};
 ghost use Rattle.tail_book.specs.Numbers.{contains};
 ghost use Rattle.pricing.specs.inside.Lines.{EndsOutside, StopsOutside, clears};
-ghost use Rattle.pricing.specs.inside.Waiting.{AreCleared, AreFlights, AreWindows, IsArrival, IsWindowOf, window_at};
+ghost use Rattle.pricing.specs.inside.Waiting.{AreCleared, AreFlights, AreWindows, EndsRise, IsArrival, IsWindowOf, window_at};
 ghost use Rattle.pricing.specs.inside.Airports.{AreGrounds, IsGround};
 
 use crate::waiting::Waiting;
@@ -202,7 +202,7 @@ fn has_arrivals(book: &Book, port: u32, flights: &[u32]) -> bool
 
 fn ends_rise(book: &Book, flights: &[u32]) -> bool
     requires { (q : ℕ) → q < length flights.now → slice_index_or flights.now q 0 < activities book.now }
-    ensures { IsTrue result → (q : ℕ) → q + 1 < length flights.now → end_of book.now (slice_index_or flights.now q 0) ≤ℤ end_of book.now (slice_index_or flights.now (q + 1) 0) }
+    ensures { IsTrue result → EndsRise book.now flights.now }
 {
     for q in 1..flights.len() {
         if end_of(book, flights[q - 1]) > end_of(book, flights[q]) {

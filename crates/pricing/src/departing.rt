@@ -9,34 +9,27 @@ ghost use Rattle.tail_book.specs.declared.place.Place.TheVariants.{After};
 ghost use Rattle.tail_book.specs.Lookup.{activities};
 ghost use Rattle.tail_book.specs.Link.{gap};
 ghost use Rattle.label_store.specs.Store.{bucket_of};
-ghost use Rattle.pricing.specs.inside.Asked.{IsAsked, IsUnderWay};
 ghost use Rattle.label_store.specs.inside.Growth.{IsAsWide};
 ghost use Rattle.pricing.specs.inside.Growth.{Grows};
-ghost use Rattle.pricing.specs.inside.Waiting.{AreTriedIn, IsOpen, IsTriedBelow, IsWaiting, MayWait, label_at, place_at, window_at};
+ghost use Rattle.pricing.specs.inside.Waiting.{label_at, place_at};
+ghost use Rattle.pricing.specs.inside.Asked.{IsAsked, IsUnderWay};
+ghost use Rattle.pricing.specs.inside.ForLines.{AreTriedInFor, IsOpenFor, IsTriedBelowFor, IsWaitingFor, MayWaitFor};
 
+use crate::asked::Asked;
 use crate::fill::try_row;
-use crate::stand::Stand;
+use crate::lines::Lines;
 use crate::step::arc_weight;
 use crate::waiting::Waiting;
-use crate::window::Window;
-use branch_marks::Marks;
 use label_store::Store;
 use label_store::laws::every_store_is_sound;
-use maint_counters::StepTable;
 use tail_book::laws::every_book_is_sound;
-use tail_book::{Book, CostTable, Duals, Memory, Place};
+use tail_book::{Memory, Place};
 use turn_rules::gap;
 
 // Tries a label that waits, unless its flight has outlived the window.
 fn try_waiting(
-    book: &Book,
-    table: &CostTable,
-    marks: &Marks,
-    duals: &Duals,
-    steps: &StepTable,
-    k: u32,
-    stand: Stand,
-    windows: &[Window],
+    asked: &Asked,
+    lines: &Lines,
     i: usize,
     x: u32,
     j: usize,
@@ -44,42 +37,30 @@ fn try_waiting(
     row: &mut [i64],
     store: &mut Store,
 ) -> Result<(), Memory>
-    requires asked { IsAsked table.now book.now steps.now marks.now k duals.now.values }
-    requires state { IsUnderWay table.now book.now marks.now.facts k duals.now.values store.old (length row.old) }
-    requires activity { b < activities book.now }
-    requires leaves { IsOpen book.now marks.now.facts k stand b }
-    requires may { MayWait book.now marks.now.facts stand x }
-    requires waited { stand.turn ≤ℤ gap book.now k (After x) b }
+    requires asked { IsAsked asked.now }
+    requires state { IsUnderWay asked.now store.old (length row.old) }
+    requires activity { b < activities asked.now.book.now }
+    requires leaves { IsOpenFor asked.now lines.now b }
+    requires may { MayWaitFor asked.now lines.now x }
+    requires waited { lines.now.stand.turn ≤ℤ gap asked.now.book.now asked.now.k (After x) b }
     requires label { Contains (bucket_of store.old x) j }
-    requires window { i < length windows.now }
-    ensures state { IfOk result (λ _. IsUnderWay table.now book.now marks.now.facts k duals.now.values store.new (length row.new)) }
+    requires window { i < length lines.now.windows.now }
+    ensures state { IfOk result (λ _. IsUnderWay asked.now store.new (length row.new)) }
     ensures grows { IfOk result (λ _. Grows b store.old store.new) }
-    ensures tried { IfOk result (λ _. IsTriedBelow table.now book.now k duals.now.values store.old store.new (window_at windows.now i).hi b x j) }
+    ensures tried { IfOk result (λ _. IsTriedBelowFor asked.now lines.now store.old store.new i b x j) }
     ensures wide { IsAsWide store.old store.new }
     ensures length { length row.new ≡ length row.old }
 {
-    every_book_is_sound(book);
+    every_book_is_sound(asked.book);
     every_store_is_sound(store);
     let from = Place::After(x);
-    if gap(book, k, from, b) >= windows[i].hi {
+    let windows = lines.windows;
+    if gap(asked.book, asked.k, from, b) >= windows[i].hi {
         return Ok(());
     }
-    let arc = arc_weight(book, table, duals, k, from, b);
+    let arc = arc_weight(asked, from, b);
     row.copy_from_slice(store.row(j));
-    try_row(
-        book,
-        table,
-        marks,
-        duals,
-        steps,
-        k,
-        from,
-        arc,
-        b,
-        Some(j),
-        row,
-        store,
-    )?;
+    try_row(asked, from, arc, b, Some(j), row, store)?;
     Ok(())
 }
 
@@ -101,42 +82,34 @@ fn label_at(waiting: &Waiting, e: usize) -> usize
 
 /// Tries the entries of the line of a window that have not outlived it.
 pub fn depart(
-    book: &Book,
-    table: &CostTable,
-    marks: &Marks,
-    duals: &Duals,
-    steps: &StepTable,
-    k: u32,
-    stand: Stand,
-    windows: &[Window],
+    asked: &Asked,
+    lines: &Lines,
     i: usize,
     b: u32,
     waiting: &Waiting,
     row: &mut [i64],
     store: &mut Store,
 ) -> Result<(), Memory>
-    requires asked { IsAsked table.now book.now steps.now marks.now k duals.now.values }
-    requires state { IsUnderWay table.now book.now marks.now.facts k duals.now.values store.old (length row.old) }
-    requires activity { b < activities book.now }
-    requires leaves { IsOpen book.now marks.now.facts k stand b }
-    requires window { i < length windows.now }
-    requires waiting { IsWaiting book.now marks.now.facts stand windows.now store.old waiting.now }
-    ensures state { IfOk result (λ _. IsUnderWay table.now book.now marks.now.facts k duals.now.values store.new (length row.new)) }
+    requires asked { IsAsked asked.now }
+    requires state { IsUnderWay asked.now store.old (length row.old) }
+    requires activity { b < activities asked.now.book.now }
+    requires leaves { IsOpenFor asked.now lines.now b }
+    requires window { i < length lines.now.windows.now }
+    requires waiting { IsWaitingFor asked.now lines.now store.old waiting.now }
+    ensures state { IfOk result (λ _. IsUnderWay asked.now store.new (length row.new)) }
     ensures grows { IfOk result (λ _. Grows b store.old store.new) }
-    ensures tried { IfOk result (λ _. AreTriedIn table.now book.now k duals.now.values store.old store.new windows.now b waiting.now i) }
+    ensures tried { IfOk result (λ _. AreTriedInFor asked.now lines.now store.old store.new b waiting.now i) }
     ensures wide { IsAsWide store.old store.new }
     ensures length { length row.new ≡ length row.old }
 {
-    every_book_is_sound(book);
+    every_book_is_sound(asked.book);
     every_store_is_sound(store);
     every_store_is_sound(&waiting.keys);
     for q in 0..waiting.keys.count(i) {
         every_store_is_sound(store);
         let e = waiting.keys.at(i, q);
         let (x, j) = (place_at(waiting, e), label_at(waiting, e));
-        try_waiting(
-            book, table, marks, duals, steps, k, stand, windows, i, x, j, b, row, store,
-        )?;
+        try_waiting(asked, lines, i, x, j, b, row, store)?;
     }
     Ok(())
 }

@@ -16,9 +16,11 @@ ghost use Rattle.branch_marks.specs.inside.MarkTables.{AreMarksOf};
 ghost use Rattle.branch_marks.specs.Settled.{AreDuals};
 ghost use Rattle.pricing.specs.Price.{IsPriceOf};
 ghost use Rattle.pricing.specs.Rows.{labels_of, AreSpelled};
-ghost use Rattle.pricing.specs.inside.Truth.{AreTrue};
 ghost use Rattle.label_store.specs.inside.Growth.{IsAsWide};
+ghost use Rattle.pricing.specs.inside.Asked.{IsAsked};
+ghost use Rattle.pricing.specs.inside.ForAsked.{AreTrueFor, IsClosedFor, IsPriceFor};
 
+use crate::asked::Asked;
 use crate::end::{least_end, spelled};
 use crate::{Priced, Pricer, laws};
 use branch_marks::Marks;
@@ -57,27 +59,18 @@ pub fn price(
 }
 
 /// The answer, from buckets that are a closed family.
-pub fn priced(
-    alloc: Global,
-    book: &Book,
-    table: &CostTable,
-    marks: &Marks,
-    duals: &Duals,
-    k: u32,
-    store: &Store,
-) -> Result<Priced, Memory>
-    requires marks { AreMarksOf book.now marks.now }
-    requires aircraft { k < aircraft book.now }
-    requires nodes { length store.now.buckets ≡ activities book.now }
-    requires truths { AreTrue table.now book.now marks.now.facts k duals.now.values store.now }
-    requires closed { IsClosedFamily table.now book.now marks.now.facts k duals.now.values (labels_of store.now) }
-    ensures { IfOk result (IsPriceOf table.now book.now marks.now.facts k duals.now.values) }
+pub fn priced(alloc: Global, asked: &Asked, store: &Store) -> Result<Priced, Memory>
+    requires asked { IsAsked asked.now }
+    requires nodes { length store.now.buckets ≡ activities asked.now.book.now }
+    requires truths { AreTrueFor asked.now store.now }
+    requires closed { IsClosedFor asked.now store.now }
+    ensures { IfOk result (IsPriceFor asked.now) }
 {
-    every_book_is_sound(book);
+    every_book_is_sound(asked.book);
     every_store_is_sound(store);
     laws::least_ends_are_least();
     laws::endless_stores_stick();
-    let Some(end) = least_end(book, marks, k, store) else {
+    let Some(end) = least_end(asked.book, asked.marks, asked.k, store) else {
         return Ok(Priced::Stuck);
     };
     let route = spelled(alloc, store, end.row)?;

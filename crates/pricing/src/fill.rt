@@ -4,27 +4,23 @@
 //! change none of them. Each link is asked for once, and its weight taken once, however many rows wait there. A row is
 //! copied once for each try, and nothing is allocated but what the store grows by.
 
-ghost use Rattle.std.specs.Prelude.{◌≡◌, ◌<◌, ◌+◌, ◌^◌, ◌-ℤ◌, ℕ, pos, length, Option, Some, IfOk};
-ghost use Rattle.tail_book.specs.declared.place.Place.TheVariants.{Carry, After};
+ghost use Rattle.std.specs.Prelude.{ℕ, ◌≡◌, ◌<◌, ◌+◌, ◌^◌, ◌-ℤ◌, pos, length, IfOk};
+ghost use Rattle.tail_book.specs.declared.place.Place.TheVariants.{After};
 ghost use Rattle.tail_book.specs.Lookup.{activities, aircraft, carry_of};
 ghost use Rattle.tail_book.specs.Place.{IsPlaceOf};
 ghost use Rattle.tail_book.specs.Ranges.{IsWithin};
 ghost use Rattle.turn_rules.specs.inside.FreeBefore.{IsFreeBefore};
 ghost use Rattle.maint_counters.specs.inside.Counts.{AreCounts};
-ghost use Rattle.connection_net.specs.Net.{net_of};
-ghost use Rattle.branch_marks.specs.Marks.{IsUsable};
-ghost use Rattle.branch_marks.specs.Weights.{arc_weight};
 ghost use Rattle.label_store.specs.inside.Laws.{IsCoveredAt};
-ghost use Rattle.pricing.specs.inside.Truth.{place_of, first_row, row_of, IsTrueAt, AreTrue, IsKept, IsNext};
-ghost use Rattle.pricing.specs.inside.Asked.{IsAsked, IsUnderWay};
+ghost use Rattle.pricing.specs.inside.Truth.{place_of, first_row, IsKept};
 ghost use Rattle.label_store.specs.inside.Growth.{IsAsWide};
-ghost use Rattle.pricing.specs.inside.Growth.{Grows, Tried};
-ghost use Rattle.pricing.specs.inside.Filled.{IsReached, IsBegun, IsFilled, AreFilled};
+ghost use Rattle.pricing.specs.inside.Growth.{Grows};
+ghost use Rattle.pricing.specs.inside.Asked.{IsAsked, IsUnderWay};
+ghost use Rattle.pricing.specs.inside.ForAsked.{AreFilledFor, AreTrueFor, IsBegunFor, IsFilledFor, IsNextFor, IsReachedFor, IsTrueFor, IsUsableFor, TriedFor, arc_weight_for, row_for};
 
+use crate::asked::Asked;
 use crate::laws;
 use crate::step::{arc_weight, links_leave_free, stepped};
-use branch_marks::Marks;
-use connection_net::Net;
 use connection_net::laws::{
     predecessors_are_links, rows_are_their_places, rows_for_each, rows_rise,
 };
@@ -33,19 +29,15 @@ use label_store::laws::{
     every_store_is_sound, offered_rows_are_covered, offers_keep_covered, offers_keep_rows,
     others_stay,
 };
-use maint_counters::{StepTable, start};
+use maint_counters::start;
 use tail_book::laws::{
     every_book_is_sound, every_cost_table_is_sound, links_rise, rising_routes_are_below,
 };
-use tail_book::{Book, CostTable, Duals, Memory, Place};
+use tail_book::{Book, Memory, Place};
 
 // Offers the row after an activity.
 fn put(
-    book: &Book,
-    table: &CostTable,
-    marks: &Marks,
-    duals: &Duals,
-    k: u32,
+    asked: &Asked,
     b: u32,
     parent: Option<usize>,
     row: &[i64],
@@ -53,11 +45,11 @@ fn put(
 ) -> Result<(), Memory>
     requires node { b < length store.old.buckets }
     requires width { length row.now ≡ store.old.width }
-    requires truths { AreTrue table.now book.now marks.now.facts k duals.now.values store.old }
+    requires truths { AreTrueFor asked.now store.old }
     requires kept { IsKept store.old parent }
-    requires truth { IsTrueAt table.now book.now marks.now.facts k duals.now.values store.old parent }
-    requires next { IsNext table.now book.now marks.now.facts k duals.now.values (place_of store.old parent) (row_of book.now k store.old parent) b row.now }
-    ensures truths { IfOk result (λ _. AreTrue table.now book.now marks.now.facts k duals.now.values store.new) }
+    requires truth { IsTrueFor asked.now store.old parent }
+    requires next { IsNextFor asked.now (place_of store.old parent) (row_for asked.now store.old parent) b row.now }
+    ensures truths { IfOk result (λ _. AreTrueFor asked.now store.new) }
     ensures grows { IfOk result (λ _. Grows b store.old store.new) }
     ensures covered { IfOk result (λ _. IsCoveredAt store.new b row.now) }
     ensures wide { IsAsWide store.old store.new }
@@ -75,12 +67,7 @@ fn put(
 
 /// Tries a row on the way to an activity: what is within the limits is offered.
 pub fn try_row(
-    book: &Book,
-    table: &CostTable,
-    marks: &Marks,
-    duals: &Duals,
-    steps: &StepTable,
-    k: u32,
+    asked: &Asked,
     from: Place,
     arc: i64,
     b: u32,
@@ -88,59 +75,54 @@ pub fn try_row(
     row: &mut [i64],
     store: &mut Store,
 ) -> Result<(), Memory>
-    requires asked { IsAsked table.now book.now steps.now marks.now k duals.now.values }
-    requires state { IsUnderWay table.now book.now marks.now.facts k duals.now.values store.old (length row.old) }
-    requires place { IsPlaceOf book.now from }
-    requires activity { b < activities book.now }
-    requires arc { arc ≡ arc_weight table.now book.now k duals.now.values from b }
+    requires asked { IsAsked asked.now }
+    requires state { IsUnderWay asked.now store.old (length row.old) }
+    requires place { IsPlaceOf asked.now.book.now from }
+    requires activity { b < activities asked.now.book.now }
+    requires arc { arc ≡ arc_weight_for asked.now from b }
     requires arc_range { IsWithin (pos 0 -ℤ pos (2 ^ 62)) (pos (2 ^ 62)) arc }
     requires kept { IsKept store.old parent }
-    requires truth { IsTrueAt table.now book.now marks.now.facts k duals.now.values store.old parent }
+    requires truth { IsTrueFor asked.now store.old parent }
     requires from { from ≡ place_of store.old parent }
-    requires row { row.old ≡ row_of book.now k store.old parent }
-    requires usable { IsUsable book.now marks.now.facts k from b }
-    requires free { IsFreeBefore book.now k from b }
-    ensures state { IfOk result (λ _. IsUnderWay table.now book.now marks.now.facts k duals.now.values store.new (length row.new)) }
+    requires row { row.old ≡ row_for asked.now store.old parent }
+    requires usable { IsUsableFor asked.now from b }
+    requires free { IsFreeBefore asked.now.book.now asked.now.k from b }
+    ensures state { IfOk result (λ _. IsUnderWay asked.now store.new (length row.new)) }
     ensures grows { IfOk result (λ _. Grows b store.old store.new) }
-    ensures tried { IfOk result (λ _. Tried book.now k store.new arc from b row.old) }
+    ensures tried { IfOk result (λ _. TriedFor asked.now store.new arc from b row.old) }
     ensures wide { IsAsWide store.old store.new }
     ensures length { length row.new ≡ length row.old }
 {
-    every_book_is_sound(book);
-    every_cost_table_is_sound(table);
+    every_book_is_sound(asked.book);
+    every_cost_table_is_sound(asked.table);
     laws::true_rows_are_small();
-    if !stepped(book, steps, k, arc, from, b, row) {
+    if !stepped(asked.book, asked.steps, asked.k, arc, from, b, row) {
         return Ok(());
     }
-    put(book, table, marks, duals, k, b, parent, row, store)
+    put(asked, b, parent, row, store)
 }
 
 // Tries each row of the bucket of an activity on the way to a later one.
 fn try_bucket(
-    book: &Book,
-    table: &CostTable,
-    marks: &Marks,
-    duals: &Duals,
-    steps: &StepTable,
-    k: u32,
+    asked: &Asked,
     x: u32,
     arc: i64,
     b: u32,
     row: &mut [i64],
     store: &mut Store,
 ) -> Result<(), Memory>
-    requires asked { IsAsked table.now book.now steps.now marks.now k duals.now.values }
-    requires state { IsUnderWay table.now book.now marks.now.facts k duals.now.values store.old (length row.old) }
-    requires place { x < activities book.now }
-    requires activity { b < activities book.now }
+    requires asked { IsAsked asked.now }
+    requires state { IsUnderWay asked.now store.old (length row.old) }
+    requires place { x < activities asked.now.book.now }
+    requires activity { b < activities asked.now.book.now }
     requires later { x < b }
-    requires arc { arc ≡ arc_weight table.now book.now k duals.now.values (After x) b }
+    requires arc { arc ≡ arc_weight_for asked.now (After x) b }
     requires arc_range { IsWithin (pos 0 -ℤ pos (2 ^ 62)) (pos (2 ^ 62)) arc }
-    requires usable { IsUsable book.now marks.now.facts k (After x) b }
-    requires free { IsFreeBefore book.now k (After x) b }
-    ensures state { IfOk result (λ _. IsUnderWay table.now book.now marks.now.facts k duals.now.values store.new (length row.new)) }
+    requires usable { IsUsableFor asked.now (After x) b }
+    requires free { IsFreeBefore asked.now.book.now asked.now.k (After x) b }
+    ensures state { IfOk result (λ _. IsUnderWay asked.now store.new (length row.new)) }
     ensures grows { IfOk result (λ _. Grows b store.old store.new) }
-    ensures reached { IfOk result (λ _. IsReached table.now book.now marks.now.facts k duals.now.values store.old x b store.new) }
+    ensures reached { IfOk result (λ _. IsReachedFor asked.now store.old x b store.new) }
     ensures wide { IsAsWide store.old store.new }
     ensures length { length row.new ≡ length row.old }
 {
@@ -150,45 +132,27 @@ fn try_bucket(
         every_store_is_sound(store);
         let j = store.at(x as usize, i);
         row.copy_from_slice(store.row(j));
-        try_row(
-            book,
-            table,
-            marks,
-            duals,
-            steps,
-            k,
-            from,
-            arc,
-            b,
-            Some(j),
-            row,
-            store,
-        )?;
+        try_row(asked, from, arc, b, Some(j), row, store)?;
     }
     Ok(())
 }
 
 /// Tries the rows of an activity on the way to a later one, where the link is usable.
 pub fn try_link(
-    book: &Book,
-    table: &CostTable,
-    marks: &Marks,
-    duals: &Duals,
-    steps: &StepTable,
-    k: u32,
+    asked: &Asked,
     x: u32,
     b: u32,
     row: &mut [i64],
     store: &mut Store,
 ) -> Result<(), Memory>
-    requires asked { IsAsked table.now book.now steps.now marks.now k duals.now.values }
-    requires state { IsUnderWay table.now book.now marks.now.facts k duals.now.values store.old (length row.old) }
-    requires place { x < activities book.now }
-    requires activity { b < activities book.now }
+    requires asked { IsAsked asked.now }
+    requires state { IsUnderWay asked.now store.old (length row.old) }
+    requires place { x < activities asked.now.book.now }
+    requires activity { b < activities asked.now.book.now }
     requires later { x < b }
-    ensures state { IfOk result (λ _. IsUnderWay table.now book.now marks.now.facts k duals.now.values store.new (length row.new)) }
+    ensures state { IfOk result (λ _. IsUnderWay asked.now store.new (length row.new)) }
     ensures grows { IfOk result (λ _. Grows b store.old store.new) }
-    ensures reached { IfOk result (λ _. IsReached table.now book.now marks.now.facts k duals.now.values store.old x b store.new) }
+    ensures reached { IfOk result (λ _. IsReachedFor asked.now store.old x b store.new) }
     ensures wide { IsAsWide store.old store.new }
     ensures length { length row.new ≡ length row.old }
 {
@@ -196,34 +160,22 @@ pub fn try_link(
         return Ok(());
     }
     let from = Place::After(x);
-    if !marks.usable(book, k, from, b) {
+    if !asked.marks.usable(asked.book, asked.k, from, b) {
         return Ok(());
     }
-    links_leave_free(book, k, from, b);
-    let arc = arc_weight(book, table, duals, k, from, b);
-    try_bucket(book, table, marks, duals, steps, k, x, arc, b, row, store)
+    links_leave_free(asked, from, b);
+    let arc = arc_weight(asked, from, b);
+    try_bucket(asked, x, arc, b, row, store)
 }
 
 // Tries the rows of each activity before an activity.
-fn try_links(
-    book: &Book,
-    table: &CostTable,
-    net: &Net,
-    marks: &Marks,
-    duals: &Duals,
-    steps: &StepTable,
-    k: u32,
-    b: u32,
-    row: &mut [i64],
-    store: &mut Store,
-) -> Result<(), Memory>
-    requires asked { IsAsked table.now book.now steps.now marks.now k duals.now.values }
-    requires state { IsUnderWay table.now book.now marks.now.facts k duals.now.values store.old (length row.old) }
-    requires net { net.now ≡ net_of book.now }
-    requires activity { b < activities book.now }
-    ensures state { IfOk result (λ _. IsUnderWay table.now book.now marks.now.facts k duals.now.values store.new (length row.new)) }
+fn try_links(asked: &Asked, b: u32, row: &mut [i64], store: &mut Store) -> Result<(), Memory>
+    requires asked { IsAsked asked.now }
+    requires state { IsUnderWay asked.now store.old (length row.old) }
+    requires activity { b < activities asked.now.book.now }
+    ensures state { IfOk result (λ _. IsUnderWay asked.now store.new (length row.new)) }
     ensures grows { IfOk result (λ _. Grows b store.old store.new) }
-    ensures reached { IfOk result (λ _. (x : ℕ) → x < b → IsReached table.now book.now marks.now.facts k duals.now.values store.old x b store.new) }
+    ensures reached { IfOk result (λ _. (x : ℕ) → x < b → IsReachedFor asked.now store.old x b store.new) }
     ensures wide { IsAsWide store.old store.new }
     ensures length { length row.new ≡ length row.old }
 {
@@ -233,51 +185,37 @@ fn try_links(
     rows_are_their_places();
     links_rise();
     rising_routes_are_below();
-    every_book_is_sound(book);
+    every_book_is_sound(asked.book);
     every_store_is_sound(store);
-    if !marks.alive(book, k, b) {
+    if !asked.marks.alive(asked.book, asked.k, b) {
         return Ok(());
     }
-    let before = net.predecessors(b);
+    let before = asked.net.predecessors(b);
     for i in 0..before.len() {
-        try_link(
-            book, table, marks, duals, steps, k, before[i], b, row, store,
-        )?;
+        try_link(asked, before[i], b, row, store)?;
     }
     Ok(())
 }
 
 /// Tries the carry-in on the way to an activity, where the link is usable.
-pub fn try_first(
-    book: &Book,
-    table: &CostTable,
-    marks: &Marks,
-    duals: &Duals,
-    steps: &StepTable,
-    k: u32,
-    b: u32,
-    row: &mut [i64],
-    store: &mut Store,
-) -> Result<(), Memory>
-    requires asked { IsAsked table.now book.now steps.now marks.now k duals.now.values }
-    requires state { IsUnderWay table.now book.now marks.now.facts k duals.now.values store.old (length row.old) }
-    requires activity { b < activities book.now }
-    ensures state { IfOk result (λ _. IsUnderWay table.now book.now marks.now.facts k duals.now.values store.new (length row.new)) }
+pub fn try_first(asked: &Asked, b: u32, row: &mut [i64], store: &mut Store) -> Result<(), Memory>
+    requires asked { IsAsked asked.now }
+    requires state { IsUnderWay asked.now store.old (length row.old) }
+    requires activity { b < activities asked.now.book.now }
+    ensures state { IfOk result (λ _. IsUnderWay asked.now store.new (length row.new)) }
     ensures grows { IfOk result (λ _. Grows b store.old store.new) }
-    ensures begun { IfOk result (λ _. IsBegun table.now book.now marks.now.facts k duals.now.values b store.new) }
+    ensures begun { IfOk result (λ _. IsBegunFor asked.now b store.new) }
     ensures wide { IsAsWide store.old store.new }
     ensures length { length row.new ≡ length row.old }
 {
     let from = Place::Carry;
-    if !marks.usable(book, k, Place::Carry, b) {
+    if !asked.marks.usable(asked.book, asked.k, Place::Carry, b) {
         return Ok(());
     }
-    links_leave_free(book, k, from, b);
-    let arc = arc_weight(book, table, duals, k, from, b);
-    write_first(book, k, row);
-    try_row(
-        book, table, marks, duals, steps, k, from, arc, b, None, row, store,
-    )
+    links_leave_free(asked, from, b);
+    let arc = arc_weight(asked, from, b);
+    write_first(asked.book, asked.k, row);
+    try_row(asked, from, arc, b, None, row, store)
 }
 
 // Writes the row at the carry-in.
@@ -292,57 +230,35 @@ fn write_first(book: &Book, k: u32, row: &mut [i64])
 }
 
 /// Fills the bucket of an activity.
-pub fn fill(
-    book: &Book,
-    table: &CostTable,
-    net: &Net,
-    marks: &Marks,
-    duals: &Duals,
-    steps: &StepTable,
-    k: u32,
-    b: u32,
-    row: &mut [i64],
-    store: &mut Store,
-) -> Result<(), Memory>
-    requires asked { IsAsked table.now book.now steps.now marks.now k duals.now.values }
-    requires state { IsUnderWay table.now book.now marks.now.facts k duals.now.values store.old (length row.old) }
-    requires net { net.now ≡ net_of book.now }
-    requires activity { b < activities book.now }
-    ensures state { IfOk result (λ _. IsUnderWay table.now book.now marks.now.facts k duals.now.values store.new (length row.new)) }
+pub fn fill(asked: &Asked, b: u32, row: &mut [i64], store: &mut Store) -> Result<(), Memory>
+    requires asked { IsAsked asked.now }
+    requires state { IsUnderWay asked.now store.old (length row.old) }
+    requires activity { b < activities asked.now.book.now }
+    ensures state { IfOk result (λ _. IsUnderWay asked.now store.new (length row.new)) }
     ensures grows { IfOk result (λ _. Grows b store.old store.new) }
-    ensures filled { IfOk result (λ _. IsFilled table.now book.now marks.now.facts k duals.now.values store.new b) }
+    ensures filled { IfOk result (λ _. IsFilledFor asked.now store.new b) }
     ensures wide { IsAsWide store.old store.new }
     ensures length { length row.new ≡ length row.old }
 {
-    try_first(book, table, marks, duals, steps, k, b, row, store)?;
+    try_first(asked, b, row, store)?;
     every_store_is_sound(store);
-    try_links(book, table, net, marks, duals, steps, k, b, row, store)?;
+    try_links(asked, b, row, store)?;
     Ok(())
 }
 
 /// Fills all buckets, in order of activity.
-pub fn fill_all(
-    book: &Book,
-    table: &CostTable,
-    net: &Net,
-    marks: &Marks,
-    duals: &Duals,
-    steps: &StepTable,
-    k: u32,
-    row: &mut [i64],
-    store: &mut Store,
-) -> Result<(), Memory>
-    requires asked { IsAsked table.now book.now steps.now marks.now k duals.now.values }
-    requires state { IsUnderWay table.now book.now marks.now.facts k duals.now.values store.old (length row.old) }
-    requires net { net.now ≡ net_of book.now }
-    ensures state { IfOk result (λ _. IsUnderWay table.now book.now marks.now.facts k duals.now.values store.new (length row.new)) }
-    ensures filled { IfOk result (λ _. AreFilled table.now book.now marks.now.facts k duals.now.values store.new (activities book.now)) }
+pub fn fill_all(asked: &Asked, row: &mut [i64], store: &mut Store) -> Result<(), Memory>
+    requires asked { IsAsked asked.now }
+    requires state { IsUnderWay asked.now store.old (length row.old) }
+    ensures state { IfOk result (λ _. IsUnderWay asked.now store.new (length row.new)) }
+    ensures filled { IfOk result (λ _. AreFilledFor asked.now store.new (activities asked.now.book.now)) }
     ensures wide { IsAsWide store.old store.new }
 {
+    let book = asked.book;
     every_book_is_sound(book);
     for b in 0..book.activities.len() as u32 {
         every_store_is_sound(store);
-        fill(book, table, net, marks, duals, steps, k, b, row, store)?;
+        fill(asked, b, row, store)?;
     }
     Ok(())
 }

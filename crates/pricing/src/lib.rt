@@ -3,6 +3,7 @@
 
 mod airport;
 mod airports;
+mod asked;
 mod departing;
 mod end;
 mod exact_price;
@@ -10,6 +11,7 @@ mod fill;
 pub mod laws;
 mod line_fill;
 mod line_pass;
+mod lines;
 mod priced;
 mod pricer;
 mod stand;

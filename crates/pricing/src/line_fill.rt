@@ -6,168 +6,140 @@
 ghost use Rattle.std.specs.Prelude.{ℕ, ◌≡◌, ◌<◌, length, IfOk, Contains, slice_index_or};
 ghost use Rattle.tail_book.specs.Lookup.{activities};
 ghost use Rattle.tail_book.specs.inside.Sound.{IsMoment};
-ghost use Rattle.branch_marks.specs.inside.MarkTables.{AreMarksOf};
-ghost use Rattle.pricing.specs.inside.Asked.{IsAsked, IsUnderWay};
-ghost use Rattle.pricing.specs.inside.Filled.{IsFilled, IsReached};
 ghost use Rattle.label_store.specs.inside.Growth.{IsAsWide};
 ghost use Rattle.pricing.specs.inside.Growth.{Grows};
-ghost use Rattle.pricing.specs.inside.Waiting.{AreCleared, AreEntered, AreFlights, ArePending, AreTriedIn, AreWindows, IsOpen, IsReadable, IsWaiting, window_at};
+ghost use Rattle.pricing.specs.inside.Waiting.{AreFlights, AreWindows, IsReadable};
 ghost use Rattle.pricing.specs.inside.Airports.{AreGrounds};
+ghost use Rattle.pricing.specs.inside.Asked.{IsAsked, IsUnderWay};
+ghost use Rattle.pricing.specs.inside.ForAsked.{IsFilledFor, IsReachedFor};
+ghost use Rattle.pricing.specs.inside.ForLines.{AreEnteredAt, AreEnteredFor, AreFlightsFor, ArePendingFor, AreTriedInFor, IsClearedFor, IsOpenAt, IsOpenFor, IsWaitingAt, IsWaitingFor};
 
+use crate::asked::Asked;
 use crate::departing::depart;
 use crate::fill::{try_first, try_link};
+use crate::lines::Lines;
 use crate::stand::Stand;
 use crate::waiting::{Waiting, advance};
 use crate::window::Window;
-use branch_marks::Marks;
 use label_store::Store;
 use label_store::laws::every_store_is_sound;
-use maint_counters::StepTable;
+use tail_book::Memory;
 use tail_book::laws::{each_at_most_chains, every_book_is_sound, lower_stays_within};
-use tail_book::{Book, CostTable, Duals, Memory};
 
 // Lets the flights that have waited long enough enter the line of each window.
 fn advance_all(
-    book: &Book,
-    marks: &Marks,
-    stand: Stand,
-    windows: &[Window],
-    flights: &[u32],
+    asked: &Asked,
+    lines: &Lines,
     store: &Store,
     entered: &mut [usize],
     waiting: &mut Waiting,
     key: &mut Vec<i64>,
 ) -> Result<(), Memory>
-    requires marks { AreMarksOf book.now marks.now }
-    requires store { IsReadable book.now store.now }
-    requires flights { AreFlights book.now stand.port flights.now }
-    requires moment { IsMoment stand.moment }
-    requires cleared { (i : ℕ) → i < length windows.now → AreCleared book.now.rules.counters stand.port (window_at windows.now i) }
-    requires waiting { IsWaiting book.now marks.now.facts stand windows.now store.now waiting.old }
-    requires entered { AreEntered book.now marks.now.facts stand windows.now flights.now store.now waiting.old entered.old }
-    ensures waiting { IfOk result (λ _. IsWaiting book.now marks.now.facts stand windows.now store.now waiting.new) }
-    ensures entered { IfOk result (λ _. AreEntered book.now marks.now.facts stand windows.now flights.now store.now waiting.new entered.new) }
-    ensures pending { IfOk result (λ _. (i : ℕ) → i < length windows.now → ArePending book.now stand windows.now flights.now i (slice_index_or entered.new i 0)) }
+    requires asked { IsAsked asked.now }
+    requires store { IsReadable asked.now.book.now store.now }
+    requires flights { AreFlightsFor asked.now lines.now }
+    requires moment { IsMoment lines.now.stand.moment }
+    requires cleared { (i : ℕ) → i < length lines.now.windows.now → IsClearedFor asked.now lines.now i }
+    requires waiting { IsWaitingFor asked.now lines.now store.now waiting.old }
+    requires entered { AreEnteredFor asked.now lines.now store.now waiting.old entered.old }
+    ensures waiting { IfOk result (λ _. IsWaitingFor asked.now lines.now store.now waiting.new) }
+    ensures entered { IfOk result (λ _. AreEnteredFor asked.now lines.now store.now waiting.new entered.new) }
+    ensures pending { IfOk result (λ _. (i : ℕ) → i < length lines.now.windows.now → ArePendingFor asked.now lines.now i (slice_index_or entered.new i 0)) }
     ensures wide { IsAsWide waiting.old.keys waiting.new.keys }
     ensures length { length entered.new ≡ length entered.old }
 {
+    let windows = lines.windows;
     for i in 0..windows.len() {
         let upto = entered[i];
-        entered[i] = advance(
-            book, marks, stand, windows, flights, store, i, upto, waiting, key,
-        )?;
+        entered[i] = advance(asked, lines, store, i, upto, waiting, key)?;
     }
     Ok(())
 }
 
 // Tries the entries of the line of each window.
 fn depart_all(
-    book: &Book,
-    table: &CostTable,
-    marks: &Marks,
-    duals: &Duals,
-    steps: &StepTable,
-    k: u32,
-    stand: Stand,
-    windows: &[Window],
+    asked: &Asked,
+    lines: &Lines,
     b: u32,
     waiting: &Waiting,
     row: &mut [i64],
     store: &mut Store,
 ) -> Result<(), Memory>
-    requires asked { IsAsked table.now book.now steps.now marks.now k duals.now.values }
-    requires state { IsUnderWay table.now book.now marks.now.facts k duals.now.values store.old (length row.old) }
-    requires activity { b < activities book.now }
-    requires leaves { IsOpen book.now marks.now.facts k stand b }
-    requires waiting { IsWaiting book.now marks.now.facts stand windows.now store.old waiting.now }
-    ensures state { IfOk result (λ _. IsUnderWay table.now book.now marks.now.facts k duals.now.values store.new (length row.new)) }
+    requires asked { IsAsked asked.now }
+    requires state { IsUnderWay asked.now store.old (length row.old) }
+    requires activity { b < activities asked.now.book.now }
+    requires leaves { IsOpenFor asked.now lines.now b }
+    requires waiting { IsWaitingFor asked.now lines.now store.old waiting.now }
+    ensures state { IfOk result (λ _. IsUnderWay asked.now store.new (length row.new)) }
     ensures grows { IfOk result (λ _. Grows b store.old store.new) }
-    ensures tried { IfOk result (λ _. (i : ℕ) → i < length windows.now → AreTriedIn table.now book.now k duals.now.values store.old store.new windows.now b waiting.now i) }
+    ensures tried { IfOk result (λ _. (i : ℕ) → i < length lines.now.windows.now → AreTriedInFor asked.now lines.now store.old store.new b waiting.now i) }
     ensures wide { IsAsWide store.old store.new }
     ensures length { length row.new ≡ length row.old }
 {
-    every_book_is_sound(book);
+    every_book_is_sound(asked.book);
     every_store_is_sound(store);
     every_store_is_sound(&waiting.keys);
+    let windows = lines.windows;
     for i in 0..windows.len() {
         every_store_is_sound(store);
-        depart(
-            book, table, marks, duals, steps, k, stand, windows, i, b, waiting, row, store,
-        )?;
+        depart(asked, lines, i, b, waiting, row, store)?;
     }
     Ok(())
 }
 
 // Tries the rows of an activity on the way to another one, if that is a later one.
 fn try_earlier(
-    book: &Book,
-    table: &CostTable,
-    marks: &Marks,
-    duals: &Duals,
-    steps: &StepTable,
-    k: u32,
+    asked: &Asked,
     x: u32,
     b: u32,
     row: &mut [i64],
     store: &mut Store,
 ) -> Result<(), Memory>
-    requires asked { IsAsked table.now book.now steps.now marks.now k duals.now.values }
-    requires state { IsUnderWay table.now book.now marks.now.facts k duals.now.values store.old (length row.old) }
-    requires place { x < activities book.now }
-    requires activity { b < activities book.now }
-    ensures state { IfOk result (λ _. IsUnderWay table.now book.now marks.now.facts k duals.now.values store.new (length row.new)) }
+    requires asked { IsAsked asked.now }
+    requires state { IsUnderWay asked.now store.old (length row.old) }
+    requires place { x < activities asked.now.book.now }
+    requires activity { b < activities asked.now.book.now }
+    ensures state { IfOk result (λ _. IsUnderWay asked.now store.new (length row.new)) }
     ensures grows { IfOk result (λ _. Grows b store.old store.new) }
-    ensures reached { IfOk result (λ _. x < b → IsReached table.now book.now marks.now.facts k duals.now.values store.old x b store.new) }
+    ensures reached { IfOk result (λ _. x < b → IsReachedFor asked.now store.old x b store.new) }
     ensures wide { IsAsWide store.old store.new }
     ensures length { length row.new ≡ length row.old }
 {
     if x >= b {
         return Ok(());
     }
-    try_link(book, table, marks, duals, steps, k, x, b, row, store)?;
+    try_link(asked, x, b, row, store)?;
     Ok(())
 }
 
 // Tries the rows of each of some activities on the way to another one.
 fn try_grounds(
-    book: &Book,
-    table: &CostTable,
-    marks: &Marks,
-    duals: &Duals,
-    steps: &StepTable,
-    k: u32,
+    asked: &Asked,
     grounds: &[u32],
     b: u32,
     row: &mut [i64],
     store: &mut Store,
 ) -> Result<(), Memory>
-    requires asked { IsAsked table.now book.now steps.now marks.now k duals.now.values }
-    requires state { IsUnderWay table.now book.now marks.now.facts k duals.now.values store.old (length row.old) }
-    requires grounds { (q : ℕ) → q < length grounds.now → slice_index_or grounds.now q 0 < activities book.now }
-    requires activity { b < activities book.now }
-    ensures state { IfOk result (λ _. IsUnderWay table.now book.now marks.now.facts k duals.now.values store.new (length row.new)) }
+    requires asked { IsAsked asked.now }
+    requires state { IsUnderWay asked.now store.old (length row.old) }
+    requires grounds { (q : ℕ) → q < length grounds.now → slice_index_or grounds.now q 0 < activities asked.now.book.now }
+    requires activity { b < activities asked.now.book.now }
+    ensures state { IfOk result (λ _. IsUnderWay asked.now store.new (length row.new)) }
     ensures grows { IfOk result (λ _. Grows b store.old store.new) }
-    ensures reached { IfOk result (λ _. (x : ℕ) → Contains grounds.now x → x < b → IsReached table.now book.now marks.now.facts k duals.now.values store.old x b store.new) }
+    ensures reached { IfOk result (λ _. (x : ℕ) → Contains grounds.now x → x < b → IsReachedFor asked.now store.old x b store.new) }
     ensures wide { IsAsWide store.old store.new }
     ensures length { length row.new ≡ length row.old }
 {
     every_store_is_sound(store);
     for q in 0..grounds.len() {
-        try_earlier(
-            book, table, marks, duals, steps, k, grounds[q], b, row, store,
-        )?;
+        try_earlier(asked, grounds[q], b, row, store)?;
     }
     Ok(())
 }
 
 /// Fills the bucket of an open departure.
 pub fn fill_open(
-    book: &Book,
-    table: &CostTable,
-    marks: &Marks,
-    duals: &Duals,
-    steps: &StepTable,
-    k: u32,
+    asked: &Asked,
     stand: Stand,
     windows: &[Window],
     flights: &[u32],
@@ -179,20 +151,20 @@ pub fn fill_open(
     row: &mut [i64],
     store: &mut Store,
 ) -> Result<(), Memory>
-    requires asked { IsAsked table.now book.now steps.now marks.now k duals.now.values }
-    requires state { IsUnderWay table.now book.now marks.now.facts k duals.now.values store.old (length row.old) }
-    requires activity { b < activities book.now }
-    requires leaves { IsOpen book.now marks.now.facts k stand b }
-    requires windows { AreWindows table.now.bands book.now.rules.counters stand.port windows.now }
-    requires flights { AreFlights book.now stand.port flights.now }
-    requires grounds { AreGrounds book.now stand.port grounds.now }
-    requires waiting { IsWaiting book.now marks.now.facts stand windows.now store.old waiting.old }
-    requires entered { AreEntered book.now marks.now.facts stand windows.now flights.now store.old waiting.old entered.old }
-    ensures state { IfOk result (λ _. IsUnderWay table.now book.now marks.now.facts k duals.now.values store.new (length row.new)) }
+    requires asked { IsAsked asked.now }
+    requires state { IsUnderWay asked.now store.old (length row.old) }
+    requires activity { b < activities asked.now.book.now }
+    requires leaves { IsOpenAt asked.now stand b }
+    requires windows { AreWindows asked.now.table.now.bands asked.now.book.now.rules.counters stand.port windows.now }
+    requires flights { AreFlights asked.now.book.now stand.port flights.now }
+    requires grounds { AreGrounds asked.now.book.now stand.port grounds.now }
+    requires waiting { IsWaitingAt asked.now stand windows.now store.old waiting.old }
+    requires entered { AreEnteredAt asked.now stand windows.now flights.now store.old waiting.old entered.old }
+    ensures state { IfOk result (λ _. IsUnderWay asked.now store.new (length row.new)) }
     ensures grows { IfOk result (λ _. Grows b store.old store.new) }
-    ensures filled { IfOk result (λ _. IsFilled table.now book.now marks.now.facts k duals.now.values store.new b) }
-    ensures waiting { IfOk result (λ _. IsWaiting book.now marks.now.facts stand windows.now store.new waiting.new) }
-    ensures entered { IfOk result (λ _. AreEntered book.now marks.now.facts stand windows.now flights.now store.new waiting.new entered.new) }
+    ensures filled { IfOk result (λ _. IsFilledFor asked.now store.new b) }
+    ensures waiting { IfOk result (λ _. IsWaitingAt asked.now stand windows.now store.new waiting.new) }
+    ensures entered { IfOk result (λ _. AreEnteredAt asked.now stand windows.now flights.now store.new waiting.new entered.new) }
     ensures wide { IsAsWide store.old store.new }
     ensures roomy { IsAsWide waiting.old.keys waiting.new.keys }
     ensures length { length row.new ≡ length row.old }
@@ -200,18 +172,19 @@ pub fn fill_open(
 {
     each_at_most_chains();
     lower_stays_within();
-    every_book_is_sound(book);
+    every_book_is_sound(asked.book);
     every_store_is_sound(store);
-    try_first(book, table, marks, duals, steps, k, b, row, store)?;
+    let lines = Lines {
+        stand,
+        windows,
+        flights,
+    };
+    try_first(asked, b, row, store)?;
     every_store_is_sound(store);
-    advance_all(
-        book, marks, stand, windows, flights, store, entered, waiting, key,
-    )?;
-    try_grounds(book, table, marks, duals, steps, k, grounds, b, row, store)?;
+    advance_all(asked, &lines, store, entered, waiting, key)?;
+    try_grounds(asked, grounds, b, row, store)?;
     every_store_is_sound(store);
     every_store_is_sound(&waiting.keys);
-    depart_all(
-        book, table, marks, duals, steps, k, stand, windows, b, waiting, row, store,
-    )?;
+    depart_all(asked, &lines, b, waiting, row, store)?;
     Ok(())
 }

@@ -10,25 +10,23 @@ ghost use Rattle.tail_book.specs.Lookup.{activities, aircraft, from_port, is_fli
 ghost use Rattle.branch_marks.specs.declared.fact.Fact.TheVariants.{Cut as FactCut, Tie as FactTie};
 ghost use Rattle.branch_marks.specs.Marks.{IsAlive};
 ghost use Rattle.branch_marks.specs.inside.MarkTables.{AreMarksOf};
-ghost use Rattle.connection_net.specs.Net.{net_of};
-ghost use Rattle.pricing.specs.inside.Asked.{IsAsked, IsUnderWay};
-ghost use Rattle.pricing.specs.inside.Filled.{AreFilled, IsFilled};
 ghost use Rattle.label_store.specs.inside.Growth.{IsAsWide};
 ghost use Rattle.pricing.specs.inside.Growth.{Grows};
-ghost use Rattle.pricing.specs.inside.Airports.{AreAirports, AreAlike, AreBusy, AreFresh, AreNoted, IsFloor, IsFreshAirport, IsLikeAirport};
+ghost use Rattle.pricing.specs.inside.Airports.{AreAlike, AreFresh, AreNoted, IsFreshAirport, IsLikeAirport};
+ghost use Rattle.pricing.specs.inside.Asked.{IsAsked, IsUnderWay};
+ghost use Rattle.pricing.specs.inside.ForAsked.{AreAirportsFor, AreBusyFor, AreFilledFor, IsFilledFor, IsFloorFor};
 
 use crate::airport::Airport;
+use crate::asked::Asked;
 use crate::fill::fill;
 use crate::line_fill::fill_open;
 use crate::stand::Stand;
 use branch_marks::laws::has_fact_decides;
 use branch_marks::{Fact, Marks, Named};
-use connection_net::Net;
 use label_store::Store;
 use label_store::laws::every_store_is_sound;
-use maint_counters::StepTable;
 use tail_book::laws::every_book_is_sound;
-use tail_book::{Book, CostTable, Duals, Memory, port_turn, start_of, type_turn};
+use tail_book::{Book, Memory, port_turn, start_of, type_turn};
 
 // The turn of an aircraft between two flights at an airport.
 fn turn_at(book: &Book, k: u32, port: u32) -> i64
@@ -77,37 +75,31 @@ fn is_flight(book: &Book, b: u32) -> bool
 }
 
 // Whether an activity takes from lines: a flight that is alive, to which no Cut and no Tie leads.
-fn is_open(book: &Book, marks: &Marks, k: u32, cut: &[bool], b: u32) -> bool
-    requires marks { AreMarksOf book.now marks.now }
-    requires aircraft { k < aircraft book.now }
-    requires activity { b < activities book.now }
+fn is_open(asked: &Asked, cut: &[bool], b: u32) -> bool
+    requires asked { IsAsked asked.now }
+    requires activity { b < activities asked.now.book.now }
     requires range { b < length cut.now }
-    requires cut { AreNoted marks.now.facts cut.now }
-    ensures flight { IsTrue result → is_flight book.now b ≡ true }
-    ensures alive { IsTrue result → IsAlive book.now marks.now.facts k b }
-    ensures uncut { IsTrue result → (c : ℕ) → Contains marks.now.facts (FactCut c b) → ⊥ }
-    ensures untied { IsTrue result → (c : ℕ) → Contains marks.now.facts (FactTie c b) → ⊥ }
+    requires cut { AreNoted asked.now.marks.now.facts cut.now }
+    ensures flight { IsTrue result → is_flight asked.now.book.now b ≡ true }
+    ensures alive { IsTrue result → IsAlive asked.now.book.now asked.now.marks.now.facts asked.now.k b }
+    ensures uncut { IsTrue result → (c : ℕ) → Contains asked.now.marks.now.facts (FactCut c b) → ⊥ }
+    ensures untied { IsTrue result → (c : ℕ) → Contains asked.now.marks.now.facts (FactTie c b) → ⊥ }
 {
-    if !is_flight(book, b) {
+    if !is_flight(asked.book, b) {
         return false;
     }
-    if !marks.alive(book, k, b) {
+    if !asked.marks.alive(asked.book, asked.k, b) {
         return false;
     }
-    if !is_uncut(marks, cut, b) {
+    if !is_uncut(asked.marks, cut, b) {
         return false;
     }
-    is_untied(marks, b)
+    is_untied(asked.marks, b)
 }
 
 // Fills the bucket of an open departure from the lines of its airport.
 fn fill_in_lines(
-    book: &Book,
-    table: &CostTable,
-    marks: &Marks,
-    duals: &Duals,
-    steps: &StepTable,
-    k: u32,
+    asked: &Asked,
     floor: u32,
     before: i64,
     b: u32,
@@ -116,42 +108,37 @@ fn fill_in_lines(
     row: &mut [i64],
     store: &mut Store,
 ) -> Result<(), Memory>
-    requires asked { IsAsked table.now book.now steps.now marks.now k duals.now.values }
-    requires state { IsUnderWay table.now book.now marks.now.facts k duals.now.values store.old (length row.old) }
-    requires activity { b < activities book.now }
-    requires airports { AreAirports table.now.bands book.now airports.old }
-    requires busy { AreBusy book.now marks.now.facts k floor before store.old airports.old }
-    requires earlier { before ≤ℤ start_of book.now b }
-    requires floor { IsFloor marks.now.facts k b floor }
-    requires flight { is_flight book.now b ≡ true }
-    requires alive { IsAlive book.now marks.now.facts k b }
-    requires uncut { (c : ℕ) → Contains marks.now.facts (FactCut c b) → ⊥ }
-    requires untied { (c : ℕ) → Contains marks.now.facts (FactTie c b) → ⊥ }
-    ensures state { IfOk result (λ _. IsUnderWay table.now book.now marks.now.facts k duals.now.values store.new (length row.new)) }
+    requires asked { IsAsked asked.now }
+    requires state { IsUnderWay asked.now store.old (length row.old) }
+    requires activity { b < activities asked.now.book.now }
+    requires airports { AreAirportsFor asked.now airports.old }
+    requires busy { AreBusyFor asked.now floor before store.old airports.old }
+    requires earlier { before ≤ℤ start_of asked.now.book.now b }
+    requires floor { IsFloorFor asked.now b floor }
+    requires flight { is_flight asked.now.book.now b ≡ true }
+    requires alive { IsAlive asked.now.book.now asked.now.marks.now.facts asked.now.k b }
+    requires uncut { (c : ℕ) → Contains asked.now.marks.now.facts (FactCut c b) → ⊥ }
+    requires untied { (c : ℕ) → Contains asked.now.marks.now.facts (FactTie c b) → ⊥ }
+    ensures state { IfOk result (λ _. IsUnderWay asked.now store.new (length row.new)) }
     ensures grows { IfOk result (λ _. Grows b store.old store.new) }
-    ensures filled { IfOk result (λ _. IsFilled table.now book.now marks.now.facts k duals.now.values store.new b) }
-    ensures busy { IfOk result (λ _. AreBusy book.now marks.now.facts k floor (start_of book.now b) store.new airports.new) }
-    ensures airports { AreAirports table.now.bands book.now airports.new }
+    ensures filled { IfOk result (λ _. IsFilledFor asked.now store.new b) }
+    ensures busy { IfOk result (λ _. AreBusyFor asked.now floor (start_of asked.now.book.now b) store.new airports.new) }
+    ensures airports { AreAirportsFor asked.now airports.new }
     ensures wide { IsAsWide store.old store.new }
     ensures length { length row.new ≡ length row.old }
 {
-    every_book_is_sound(book);
+    every_book_is_sound(asked.book);
     every_store_is_sound(store);
-    let port = port_of(book, b);
+    let port = port_of(asked.book, b);
     let stand = Stand {
         port,
         floor,
-        turn: turn_at(book, k, port),
-        moment: start_of(book, b),
+        turn: turn_at(asked.book, asked.k, port),
+        moment: start_of(asked.book, b),
     };
     let airport = &mut airports[port as usize];
     fill_open(
-        book,
-        table,
-        marks,
-        duals,
-        steps,
-        k,
+        asked,
         stand,
         &airport.windows,
         &airport.flights,
@@ -175,13 +162,7 @@ fn pays(airport: &Airport, values: usize, due: usize) -> bool {
 
 // Fills the bucket of an activity, from lines where it is an open departure and they pay.
 fn fill_at(
-    book: &Book,
-    table: &CostTable,
-    net: &Net,
-    marks: &Marks,
-    duals: &Duals,
-    steps: &StepTable,
-    k: u32,
+    asked: &Asked,
     cut: &[bool],
     floor: u32,
     before: i64,
@@ -192,33 +173,30 @@ fn fill_at(
     row: &mut [i64],
     store: &mut Store,
 ) -> Result<(), Memory>
-    requires asked { IsAsked table.now book.now steps.now marks.now k duals.now.values }
-    requires net { net.now ≡ net_of book.now }
-    requires state { IsUnderWay table.now book.now marks.now.facts k duals.now.values store.old (length row.old) }
-    requires activity { b < activities book.now }
-    requires range { length cut.now ≡ activities book.now }
-    requires cut { AreNoted marks.now.facts cut.now }
-    requires airports { AreAirports table.now.bands book.now airports.old }
-    requires busy { AreBusy book.now marks.now.facts k floor before store.old airports.old }
-    requires earlier { before ≤ℤ start_of book.now b }
-    requires floor { IsFloor marks.now.facts k b floor }
-    ensures state { IfOk result (λ _. IsUnderWay table.now book.now marks.now.facts k duals.now.values store.new (length row.new)) }
+    requires asked { IsAsked asked.now }
+    requires state { IsUnderWay asked.now store.old (length row.old) }
+    requires activity { b < activities asked.now.book.now }
+    requires range { length cut.now ≡ activities asked.now.book.now }
+    requires cut { AreNoted asked.now.marks.now.facts cut.now }
+    requires airports { AreAirportsFor asked.now airports.old }
+    requires busy { AreBusyFor asked.now floor before store.old airports.old }
+    requires earlier { before ≤ℤ start_of asked.now.book.now b }
+    requires floor { IsFloorFor asked.now b floor }
+    ensures state { IfOk result (λ _. IsUnderWay asked.now store.new (length row.new)) }
     ensures grows { IfOk result (λ _. Grows b store.old store.new) }
-    ensures filled { IfOk result (λ _. IsFilled table.now book.now marks.now.facts k duals.now.values store.new b) }
-    ensures busy { IfOk result (λ _. AreBusy book.now marks.now.facts k floor (start_of book.now b) store.new airports.new) }
-    ensures airports { AreAirports table.now.bands book.now airports.new }
+    ensures filled { IfOk result (λ _. IsFilledFor asked.now store.new b) }
+    ensures busy { IfOk result (λ _. AreBusyFor asked.now floor (start_of asked.now.book.now b) store.new airports.new) }
+    ensures airports { AreAirportsFor asked.now airports.new }
     ensures wide { IsAsWide store.old store.new }
     ensures length { length row.new ≡ length row.old }
 {
-    every_book_is_sound(book);
+    every_book_is_sound(asked.book);
     every_store_is_sound(store);
-    let port = port_of(book, b);
-    if is_open(book, marks, k, cut, b) && pays(&airports[port as usize], row.len(), due) {
-        return fill_in_lines(
-            book, table, marks, duals, steps, k, floor, before, b, airports, key, row, store,
-        );
+    let port = port_of(asked.book, b);
+    if is_open(asked, cut, b) && pays(&airports[port as usize], row.len(), due) {
+        return fill_in_lines(asked, floor, before, b, airports, key, row, store);
     }
-    fill(book, table, net, marks, duals, steps, k, b, row, store)?;
+    fill(asked, b, row, store)?;
     Ok(())
 }
 
@@ -244,25 +222,17 @@ pub fn reset_all(airports: &mut [Airport])
 }
 
 // The number behind the last Must up to an activity; where that is one, all lines begin anew.
-fn pass_must(
-    book: &Book,
-    marks: &Marks,
-    k: u32,
-    b: u32,
-    floor: u32,
-    airports: &mut [Airport],
-) -> u32
-    requires marks { AreMarksOf book.now marks.now }
-    requires aircraft { k < aircraft book.now }
-    requires activity { b < activities book.now }
-    requires floor { IsFloor marks.now.facts k b floor }
-    ensures floor { IsFloor marks.now.facts k (b + 1) result }
+fn pass_must(asked: &Asked, b: u32, floor: u32, airports: &mut [Airport]) -> u32
+    requires asked { IsAsked asked.now }
+    requires activity { b < activities asked.now.book.now }
+    requires floor { IsFloorFor asked.now b floor }
+    ensures floor { IsFloorFor asked.now (b + 1) result }
     ensures alike { AreAlike airports.old airports.new }
     ensures lines { ((result ≡ floor) × (airports.new ≡ airports.old)) ⊎ AreFresh airports.new }
 {
     has_fact_decides();
-    every_book_is_sound(book);
-    if !marks.has(Fact::Must(k, b)) {
+    every_book_is_sound(asked.book);
+    if !asked.marks.has(Fact::Must(asked.k, b)) {
         return floor;
     }
     reset_all(airports);
@@ -299,13 +269,7 @@ pub fn note_cuts(book: &Book, marks: &Marks, cut: &mut [bool])
 /// Fills all buckets, in order of activity, with lines that are empty at first. Labels wait where more flights end than are
 /// due (`pays`).
 pub fn fill_lines(
-    book: &Book,
-    table: &CostTable,
-    net: &Net,
-    marks: &Marks,
-    duals: &Duals,
-    steps: &StepTable,
-    k: u32,
+    asked: &Asked,
     cut: &[bool],
     due: usize,
     airports: &mut [Airport],
@@ -313,28 +277,25 @@ pub fn fill_lines(
     row: &mut [i64],
     store: &mut Store,
 ) -> Result<(), Memory>
-    requires asked { IsAsked table.now book.now steps.now marks.now k duals.now.values }
-    requires net { net.now ≡ net_of book.now }
-    requires state { IsUnderWay table.now book.now marks.now.facts k duals.now.values store.old (length row.old) }
-    requires range { length cut.now ≡ activities book.now }
-    requires cut { AreNoted marks.now.facts cut.now }
-    requires airports { AreAirports table.now.bands book.now airports.old }
+    requires asked { IsAsked asked.now }
+    requires state { IsUnderWay asked.now store.old (length row.old) }
+    requires range { length cut.now ≡ activities asked.now.book.now }
+    requires cut { AreNoted asked.now.marks.now.facts cut.now }
+    requires airports { AreAirportsFor asked.now airports.old }
     requires fresh { AreFresh airports.old }
-    ensures state { IfOk result (λ _. IsUnderWay table.now book.now marks.now.facts k duals.now.values store.new (length row.new)) }
-    ensures filled { IfOk result (λ _. AreFilled table.now book.now marks.now.facts k duals.now.values store.new (activities book.now)) }
-    ensures airports { AreAirports table.now.bands book.now airports.new }
+    ensures state { IfOk result (λ _. IsUnderWay asked.now store.new (length row.new)) }
+    ensures filled { IfOk result (λ _. AreFilledFor asked.now store.new (activities asked.now.book.now)) }
+    ensures airports { AreAirportsFor asked.now airports.new }
     ensures wide { IsAsWide store.old store.new }
     ensures length { length row.new ≡ length row.old }
 {
+    let book = asked.book;
     every_book_is_sound(book);
     let (mut floor, mut before) = (0, 0);
     for b in 0..book.activities.len() as u32 {
         every_store_is_sound(store);
-        fill_at(
-            book, table, net, marks, duals, steps, k, cut, floor, before, b, due, airports, key,
-            row, store,
-        )?;
-        floor = pass_must(book, marks, k, b, floor, airports);
+        fill_at(asked, cut, floor, before, b, due, airports, key, row, store)?;
+        floor = pass_must(asked, b, floor, airports);
         before = start_of(book, b);
     }
     Ok(())

@@ -13,15 +13,14 @@ ghost use Rattle.branch_marks.specs.inside.MarkTables.{AreMarksOf};
 ghost use Rattle.branch_marks.specs.Settled.{AreDuals};
 ghost use Rattle.pricing.specs.Price.{IsPriceOf};
 ghost use Rattle.pricing.specs.Rows.{labels_of, AreSpelled};
-ghost use Rattle.pricing.specs.inside.Airports.{AreAirports};
-ghost use Rattle.pricing.specs.inside.Asked.{IsAsked, IsUnderWay};
-ghost use Rattle.pricing.specs.inside.Filled.{AreFilled};
-ghost use Rattle.pricing.specs.inside.Truth.{AreTrue};
 ghost use Rattle.label_store.specs.inside.Growth.{IsAsWide};
 ghost use Rattle.pricing.specs.inside.Prepared.{IsPricerOf};
+ghost use Rattle.pricing.specs.inside.Asked.{IsAsked, IsUnderWay};
+ghost use Rattle.pricing.specs.inside.ForAsked.{AreAirportsFor, AreFilledFor, AreTrueFor, IsClosedFor};
 
 use crate::airport::Airport;
 use crate::airports::airports_of;
+use crate::asked::Asked;
 use crate::exact_price::priced;
 use crate::fill::fill_all;
 use crate::line_pass::{fill_lines, note_cuts, reset_all};
@@ -118,14 +117,17 @@ impl Pricer {
         ensures pricer { IsPricerOf book.now table.now self.new }
     {
         let alloc = *self.row.allocator();
-        fill_from_empty(
+        let asked = Asked {
             book,
             table,
             net,
             marks,
             duals,
-            &self.steps,
+            steps: &self.steps,
             k,
+        };
+        fill_from_empty(
+            &asked,
             &mut self.cut,
             self.due,
             &mut self.airports,
@@ -133,19 +135,13 @@ impl Pricer {
             &mut self.row,
             store,
         )?;
-        priced(alloc, book, table, marks, duals, k, store)
+        priced(alloc, &asked, store)
     }
 }
 
 // Fills all buckets by lines that are empty at first.
 fn fill_by_lines(
-    book: &Book,
-    table: &CostTable,
-    net: &Net,
-    marks: &Marks,
-    duals: &Duals,
-    steps: &StepTable,
-    k: u32,
+    asked: &Asked,
     cut: &mut [bool],
     due: usize,
     airports: &mut [Airport],
@@ -153,34 +149,25 @@ fn fill_by_lines(
     row: &mut [i64],
     store: &mut Store,
 ) -> Result<(), Memory>
-    requires asked { IsAsked table.now book.now steps.now marks.now k duals.now.values }
-    requires net { net.now ≡ net_of book.now }
-    requires state { IsUnderWay table.now book.now marks.now.facts k duals.now.values store.old (length row.old) }
-    requires cut { length cut.old ≡ activities book.now }
-    requires airports { AreAirports table.now.bands book.now airports.old }
-    ensures state { IfOk result (λ _. IsUnderWay table.now book.now marks.now.facts k duals.now.values store.new (length row.new)) }
-    ensures filled { IfOk result (λ _. AreFilled table.now book.now marks.now.facts k duals.now.values store.new (activities book.now)) }
-    ensures airports { AreAirports table.now.bands book.now airports.new }
+    requires asked { IsAsked asked.now }
+    requires state { IsUnderWay asked.now store.old (length row.old) }
+    requires cut { length cut.old ≡ activities asked.now.book.now }
+    requires airports { AreAirportsFor asked.now airports.old }
+    ensures state { IfOk result (λ _. IsUnderWay asked.now store.new (length row.new)) }
+    ensures filled { IfOk result (λ _. AreFilledFor asked.now store.new (activities asked.now.book.now)) }
+    ensures airports { AreAirportsFor asked.now airports.new }
     ensures wide { IsAsWide store.old store.new }
     ensures row { length row.new ≡ length row.old }
     ensures cut { length cut.new ≡ length cut.old }
 {
     reset_all(airports);
-    note_cuts(book, marks, cut);
-    fill_lines(
-        book, table, net, marks, duals, steps, k, cut, due, airports, key, row, store,
-    )
+    note_cuts(asked.book, asked.marks, cut);
+    fill_lines(asked, cut, due, airports, key, row, store)
 }
 
 // Fills all buckets, by lines where there are airports.
 fn fill_by(
-    book: &Book,
-    table: &CostTable,
-    net: &Net,
-    marks: &Marks,
-    duals: &Duals,
-    steps: &StepTable,
-    k: u32,
+    asked: &Asked,
     cut: &mut [bool],
     due: usize,
     airports: &mut Option<Vec<Airport>>,
@@ -188,35 +175,26 @@ fn fill_by(
     row: &mut [i64],
     store: &mut Store,
 ) -> Result<(), Memory>
-    requires asked { IsAsked table.now book.now steps.now marks.now k duals.now.values }
-    requires net { net.now ≡ net_of book.now }
-    requires state { IsUnderWay table.now book.now marks.now.facts k duals.now.values store.old (length row.old) }
-    requires cut { length cut.old ≡ activities book.now }
-    requires airports { IfSome airports.old (λ all. AreAirports table.now.bands book.now all.items) }
-    ensures state { IfOk result (λ _. IsUnderWay table.now book.now marks.now.facts k duals.now.values store.new (length row.new)) }
-    ensures filled { IfOk result (λ _. AreFilled table.now book.now marks.now.facts k duals.now.values store.new (activities book.now)) }
-    ensures airports { IfSome airports.new (λ all. AreAirports table.now.bands book.now all.items) }
+    requires asked { IsAsked asked.now }
+    requires state { IsUnderWay asked.now store.old (length row.old) }
+    requires cut { length cut.old ≡ activities asked.now.book.now }
+    requires airports { IfSome airports.old (λ all. AreAirportsFor asked.now all.items) }
+    ensures state { IfOk result (λ _. IsUnderWay asked.now store.new (length row.new)) }
+    ensures filled { IfOk result (λ _. AreFilledFor asked.now store.new (activities asked.now.book.now)) }
+    ensures airports { IfSome airports.new (λ all. AreAirportsFor asked.now all.items) }
     ensures wide { IsAsWide store.old store.new }
     ensures row { length row.new ≡ length row.old }
     ensures cut { length cut.new ≡ length cut.old }
 {
     match airports {
-        Some(all) => fill_by_lines(
-            book, table, net, marks, duals, steps, k, cut, due, all, key, row, store,
-        ),
-        None => fill_all(book, table, net, marks, duals, steps, k, row, store),
+        Some(all) => fill_by_lines(asked, cut, due, all, key, row, store),
+        None => fill_all(asked, row, store),
     }
 }
 
 // Lets the store's rows go, and fills all its buckets.
 fn fill_from_empty(
-    book: &Book,
-    table: &CostTable,
-    net: &Net,
-    marks: &Marks,
-    duals: &Duals,
-    steps: &StepTable,
-    k: u32,
+    asked: &Asked,
     cut: &mut [bool],
     due: usize,
     airports: &mut Option<Vec<Airport>>,
@@ -224,26 +202,23 @@ fn fill_from_empty(
     row: &mut [i64],
     store: &mut Store,
 ) -> Result<(), Memory>
-    requires asked { IsAsked table.now book.now steps.now marks.now k duals.now.values }
-    requires net { net.now ≡ net_of book.now }
-    requires nodes { length store.old.buckets ≡ activities book.now }
-    requires width { store.old.width ≡ 1 + length book.now.rules.counters }
-    requires row { length row.old ≡ 1 + length book.now.rules.counters }
-    requires cut { length cut.old ≡ activities book.now }
-    requires airports { IfSome airports.old (λ all. AreAirports table.now.bands book.now all.items) }
-    ensures truths { IfOk result (λ _. AreTrue table.now book.now marks.now.facts k duals.now.values store.new) }
-    ensures closed { IfOk result (λ _. IsClosedFamily table.now book.now marks.now.facts k duals.now.values (labels_of store.new)) }
-    ensures airports { IfSome airports.new (λ all. AreAirports table.now.bands book.now all.items) }
+    requires asked { IsAsked asked.now }
+    requires nodes { length store.old.buckets ≡ activities asked.now.book.now }
+    requires width { store.old.width ≡ 1 + length asked.now.book.now.rules.counters }
+    requires row { length row.old ≡ 1 + length asked.now.book.now.rules.counters }
+    requires cut { length cut.old ≡ activities asked.now.book.now }
+    requires airports { IfSome airports.old (λ all. AreAirportsFor asked.now all.items) }
+    ensures truths { IfOk result (λ _. AreTrueFor asked.now store.new) }
+    ensures closed { IfOk result (λ _. IsClosedFor asked.now store.new) }
+    ensures airports { IfSome airports.new (λ all. AreAirportsFor asked.now all.items) }
     ensures wide { IsAsWide store.old store.new }
     ensures row { length row.new ≡ length row.old }
     ensures cut { length cut.new ≡ length cut.old }
 {
-    every_book_is_sound(book);
+    every_book_is_sound(asked.book);
     laws::filled_stores_are_closed();
     store.clear();
-    fill_by(
-        book, table, net, marks, duals, steps, k, cut, due, airports, key, row, store,
-    )?;
+    fill_by(asked, cut, due, airports, key, row, store)?;
     every_store_is_sound(store);
     Ok(())
 }

@@ -8,44 +8,44 @@ ghost use Rattle.std.specs.Prelude.{◌≡◌, ◌<◌, ◌+◌, ◌^◌, ◌↔
 ghost use Rattle.tail_book.specs.Lookup.{activities, aircraft};
 ghost use Rattle.tail_book.specs.Counters.{step, WithinLimits};
 ghost use Rattle.tail_book.specs.Link.{IsLink};
-ghost use Rattle.tail_book.specs.CostTable.{IsTableFor};
 ghost use Rattle.tail_book.specs.Place.{IsPlaceOf};
 ghost use Rattle.tail_book.specs.Ranges.{IsWithin};
 ghost use Rattle.turn_rules.specs.inside.FreeBefore.{IsFreeBefore};
 ghost use Rattle.maint_counters.specs.inside.Counts.{AreCounts};
 ghost use Rattle.maint_counters.specs.inside.StepTable.{IsStepTableOf};
-ghost use Rattle.branch_marks.specs.Settled.{AreDuals};
-ghost use Rattle.branch_marks.specs.Weights.{arc_weight};
 ghost use Rattle.pricing.specs.Rows.{weight_of, counters_of};
 ghost use Rattle.pricing.specs.inside.Truth.{row_after};
+ghost use Rattle.pricing.specs.inside.Asked.{IsAsked};
+ghost use Rattle.pricing.specs.inside.ForAsked.{arc_weight_for};
 
+use crate::asked::Asked;
 use maint_counters::{StepTable, step_by};
 use tail_book::laws::{costs_are_small, every_book_is_sound};
-use tail_book::{Book, COST_UNIT, CostTable, Duals, Place};
+use tail_book::{Book, COST_UNIT, Place};
 use turn_rules::arc_cost;
 use turn_rules::laws::links_leave_time;
 
 /// A link leaves an aircraft free before the activity starts: the law for one link.
-pub fn links_leave_free(book: &Book, k: u32, from: Place, b: u32)
-    requires link { IsLink book.now k from b }
-    ensures { IsFreeBefore book.now k from b }
+pub fn links_leave_free(asked: &Asked, from: Place, b: u32)
+    requires link { IsLink asked.now.book.now asked.now.k from b }
+    ensures { IsFreeBefore asked.now.book.now asked.now.k from b }
 {
-    every_book_is_sound(book);
+    every_book_is_sound(asked.book);
     links_leave_time();
 }
 
 /// What an activity after a place adds to a weight, in thousandths of a cost unit.
-pub fn arc_weight(book: &Book, table: &CostTable, duals: &Duals, k: u32, from: Place, b: u32) -> i64
-    requires table { IsTableFor book.now table.now }
-    requires duals { AreDuals table.now book.now duals.now.values }
-    requires aircraft { k < aircraft book.now }
-    requires place { IsPlaceOf book.now from }
-    requires activity { b < activities book.now }
-    ensures value { result ≡ arc_weight table.now book.now k duals.now.values from b }
+pub fn arc_weight(asked: &Asked, from: Place, b: u32) -> i64
+    requires asked { IsAsked asked.now }
+    requires place { IsPlaceOf asked.now.book.now from }
+    requires activity { b < activities asked.now.book.now }
+    ensures value { result ≡ arc_weight_for asked.now from b }
     ensures range { IsWithin (pos 0 -ℤ pos (2 ^ 62)) (pos (2 ^ 62)) result }
 {
-    costs_are_small(table);
-    (COST_UNIT * arc_cost(book, table, k, from, b)) as i64 - duals.values[b as usize]
+    costs_are_small(asked.table);
+    let duals = asked.duals;
+    (COST_UNIT * arc_cost(asked.book, asked.table, asked.k, from, b)) as i64
+        - duals.values[b as usize]
 }
 
 /// Writes the row after an activity that adds so much, and answers whether its counters are within their limits.

@@ -12,15 +12,18 @@ ghost use Rattle.tail_book.specs.inside.Sound.{IsMoment};
 ghost use Rattle.tail_book.specs.declared.limits.TheConstants.{COUNT_LIMIT};
 ghost use Rattle.maint_counters.specs.inside.Counts.{AreCounts};
 ghost use Rattle.label_store.specs.Store.{bucket_of};
-ghost use Rattle.pricing.specs.Rows.{weight_of, counters_of};
+ghost use Rattle.pricing.specs.Rows.{counters_of};
 ghost use Rattle.label_store.specs.inside.Growth.{IsAsWide};
 ghost use Rattle.pricing.specs.inside.Lines.{keys, key_row};
-ghost use Rattle.pricing.specs.inside.Waiting.{AreCleared, AreFlights, AreHeld, ArePending, HaveEntered, IsArrival, IsReadable, IsWaiting, IsHeld, Joins, MayWait, enters_after, window_at};
-ghost use Rattle.branch_marks.specs.inside.MarkTables.{AreMarksOf};
+ghost use Rattle.pricing.specs.inside.Waiting.{AreCleared, HasWaited, IsReadable, Joins, enters_after};
+ghost use Rattle.pricing.specs.inside.Asked.{IsAsked};
+ghost use Rattle.pricing.specs.inside.ForLines.{AreFlightsFor, AreHeldFor, ArePendingFor, HasWaitedFor, HaveEnteredFor, IsArrivalFor, IsClearedFor, IsHeldFor, IsWaitingFor, MayWaitFor};
 
+use crate::asked::Asked;
+use crate::lines::Lines;
 use crate::stand::Stand;
 use crate::window::{Window, key_one, stamp};
-use branch_marks::{Marks, Named};
+use branch_marks::Named;
 use label_store::laws::{
     every_store_is_sound, kept_rows_are_offered, offered_rows_are_covered, offers_keep_covered,
     offers_keep_rows, others_stay,
@@ -109,10 +112,8 @@ fn write_key(
 
 /// Lets a label enter the line of a window, unless one that is there covers it.
 pub fn enter(
-    book: &Book,
-    marks: &Marks,
-    stand: Stand,
-    windows: &[Window],
+    asked: &Asked,
+    lines: &Lines,
     store: &Store,
     i: usize,
     x: u32,
@@ -120,17 +121,17 @@ pub fn enter(
     waiting: &mut Waiting,
     key: &mut Vec<i64>,
 ) -> Result<(), Memory>
-    requires may { MayWait book.now marks.now.facts stand x }
-    requires window { i < length windows.now }
-    requires cleared { AreCleared book.now.rules.counters stand.port (window_at windows.now i) }
-    requires store { IsReadable book.now store.now }
+    requires may { MayWaitFor asked.now lines.now x }
+    requires window { i < length lines.now.windows.now }
+    requires cleared { IsClearedFor asked.now lines.now i }
+    requires store { IsReadable asked.now.book.now store.now }
     requires kept { j < length store.now.rows }
     requires label { Contains (bucket_of store.now x) j }
-    requires ready { (end_of book.now x +ℤ enters_after stand.turn (window_at windows.now i)) ≤ℤ stand.moment }
-    requires waiting { IsWaiting book.now marks.now.facts stand windows.now store.now waiting.old }
-    ensures waiting { IfOk result (λ _. IsWaiting book.now marks.now.facts stand windows.now store.now waiting.new) }
+    requires ready { HasWaitedFor asked.now lines.now i x }
+    requires waiting { IsWaitingFor asked.now lines.now store.now waiting.old }
+    ensures waiting { IfOk result (λ _. IsWaitingFor asked.now lines.now store.now waiting.new) }
     ensures joins { IfOk result (λ _. Joins i waiting.old waiting.new) }
-    ensures held { IfOk result (λ _. IsHeld book.now stand windows.now store.now waiting.new i x j) }
+    ensures held { IfOk result (λ _. IsHeldFor asked.now lines.now store.now waiting.new i x j) }
     ensures wide { IsAsWide waiting.old.keys waiting.new.keys }
 {
     offers_keep_rows();
@@ -140,7 +141,15 @@ pub fn enter(
     others_stay();
     every_store_is_sound(store);
     every_store_is_sound(&waiting.keys);
-    write_key(book, stand.port, windows[i], x, store.row(j), key)?;
+    let windows = lines.windows;
+    write_key(
+        asked.book,
+        lines.stand.port,
+        windows[i],
+        x,
+        store.row(j),
+        key,
+    )?;
     match waiting.keys.offer(i, None, key)? {
         Offered::Kept(_) => {
             waiting.labels.push(j)?;
@@ -153,65 +162,61 @@ pub fn enter(
 
 /// Lets each label of a flight enter the line of a window.
 fn enter_all(
-    book: &Book,
-    marks: &Marks,
-    stand: Stand,
-    windows: &[Window],
+    asked: &Asked,
+    lines: &Lines,
     store: &Store,
     i: usize,
     x: u32,
     waiting: &mut Waiting,
     key: &mut Vec<i64>,
 ) -> Result<(), Memory>
-    requires store { IsReadable book.now store.now }
-    requires may { MayWait book.now marks.now.facts stand x }
-    requires window { i < length windows.now }
-    requires cleared { AreCleared book.now.rules.counters stand.port (window_at windows.now i) }
-    requires ready { (end_of book.now x +ℤ enters_after stand.turn (window_at windows.now i)) ≤ℤ stand.moment }
-    requires waiting { IsWaiting book.now marks.now.facts stand windows.now store.now waiting.old }
-    ensures waiting { IfOk result (λ _. IsWaiting book.now marks.now.facts stand windows.now store.now waiting.new) }
+    requires store { IsReadable asked.now.book.now store.now }
+    requires may { MayWaitFor asked.now lines.now x }
+    requires window { i < length lines.now.windows.now }
+    requires cleared { IsClearedFor asked.now lines.now i }
+    requires ready { HasWaitedFor asked.now lines.now i x }
+    requires waiting { IsWaitingFor asked.now lines.now store.now waiting.old }
+    ensures waiting { IfOk result (λ _. IsWaitingFor asked.now lines.now store.now waiting.new) }
     ensures joins { IfOk result (λ _. Joins i waiting.old waiting.new) }
-    ensures held { IfOk result (λ _. AreHeld book.now stand windows.now store.now waiting.new i x) }
+    ensures held { IfOk result (λ _. AreHeldFor asked.now lines.now store.now waiting.new i x) }
     ensures wide { IsAsWide waiting.old.keys waiting.new.keys }
 {
     every_store_is_sound(store);
     for q in 0..store.count(x as usize) {
         let j = store.at(x as usize, q);
-        enter(book, marks, stand, windows, store, i, x, j, waiting, key)?;
+        enter(asked, lines, store, i, x, j, waiting, key)?;
     }
     Ok(())
 }
 
 /// Lets each label of a flight enter the line of a window, if the flight may wait.
 fn enter_flight(
-    book: &Book,
-    marks: &Marks,
-    stand: Stand,
-    windows: &[Window],
+    asked: &Asked,
+    lines: &Lines,
     store: &Store,
     i: usize,
     x: u32,
     waiting: &mut Waiting,
     key: &mut Vec<i64>,
 ) -> Result<(), Memory>
-    requires marks { AreMarksOf book.now marks.now }
-    requires store { IsReadable book.now store.now }
-    requires arrival { IsArrival book.now stand.port x }
-    requires window { i < length windows.now }
-    requires cleared { AreCleared book.now.rules.counters stand.port (window_at windows.now i) }
-    requires ready { (end_of book.now x +ℤ enters_after stand.turn (window_at windows.now i)) ≤ℤ stand.moment }
-    requires waiting { IsWaiting book.now marks.now.facts stand windows.now store.now waiting.old }
-    ensures waiting { IfOk result (λ _. IsWaiting book.now marks.now.facts stand windows.now store.now waiting.new) }
+    requires asked { IsAsked asked.now }
+    requires store { IsReadable asked.now.book.now store.now }
+    requires arrival { IsArrivalFor asked.now lines.now x }
+    requires window { i < length lines.now.windows.now }
+    requires cleared { IsClearedFor asked.now lines.now i }
+    requires ready { HasWaitedFor asked.now lines.now i x }
+    requires waiting { IsWaitingFor asked.now lines.now store.now waiting.old }
+    ensures waiting { IfOk result (λ _. IsWaitingFor asked.now lines.now store.now waiting.new) }
     ensures joins { IfOk result (λ _. Joins i waiting.old waiting.new) }
-    ensures held { IfOk result (λ _. MayWait book.now marks.now.facts stand x → AreHeld book.now stand windows.now store.now waiting.new i x) }
+    ensures held { IfOk result (λ _. MayWaitFor asked.now lines.now x → AreHeldFor asked.now lines.now store.now waiting.new i x) }
     ensures wide { IsAsWide waiting.old.keys waiting.new.keys }
 {
-    every_book_is_sound(book);
-    if x + 1 < stand.floor {
+    every_book_is_sound(asked.book);
+    if x + 1 < lines.stand.floor {
         return Ok(());
     }
-    match marks.tied_after(x) {
-        Named::Nothing => enter_all(book, marks, stand, windows, store, i, x, waiting, key),
+    match asked.marks.tied_after(x) {
+        Named::Nothing => enter_all(asked, lines, store, i, x, waiting, key),
         Named::One(_) | Named::Several => Ok(()),
     }
 }
@@ -227,7 +232,7 @@ fn enters_after(turn: i64, window: Window) -> i64
 fn is_ready(book: &Book, stand: Stand, window: Window, x: u32) -> bool
     requires activity { x < activities book.now }
     requires moment { IsMoment stand.moment }
-    ensures ready { IsTrue result → (end_of book.now x +ℤ enters_after stand.turn window) ≤ℤ stand.moment }
+    ensures ready { IsTrue result → HasWaited book.now stand window x }
     ensures early { result ≡ false → stand.moment <ℤ (end_of book.now x +ℤ enters_after stand.turn window) }
 {
     enters_after(stand.turn, window) <= stand.moment - end_of(book, x)
@@ -235,38 +240,34 @@ fn is_ready(book: &Book, stand: Stand, window: Window, x: u32) -> bool
 
 /// Lets the flights that have waited long enough enter the line of a window, and gives how many have.
 pub fn advance(
-    book: &Book,
-    marks: &Marks,
-    stand: Stand,
-    windows: &[Window],
-    flights: &[u32],
+    asked: &Asked,
+    lines: &Lines,
     store: &Store,
     i: usize,
     upto: usize,
     waiting: &mut Waiting,
     key: &mut Vec<i64>,
 ) -> Result<usize, Memory>
-    requires marks { AreMarksOf book.now marks.now }
-    requires store { IsReadable book.now store.now }
-    requires flights { AreFlights book.now stand.port flights.now }
-    requires moment { IsMoment stand.moment }
-    requires window { i < length windows.now }
-    requires cleared { AreCleared book.now.rules.counters stand.port (window_at windows.now i) }
-    requires waiting { IsWaiting book.now marks.now.facts stand windows.now store.now waiting.old }
-    requires entered { HaveEntered book.now marks.now.facts stand windows.now flights.now store.now waiting.old i upto }
-    ensures waiting { IfOk result (λ _. IsWaiting book.now marks.now.facts stand windows.now store.now waiting.new) }
+    requires asked { IsAsked asked.now }
+    requires store { IsReadable asked.now.book.now store.now }
+    requires flights { AreFlightsFor asked.now lines.now }
+    requires moment { IsMoment lines.now.stand.moment }
+    requires window { i < length lines.now.windows.now }
+    requires cleared { IsClearedFor asked.now lines.now i }
+    requires waiting { IsWaitingFor asked.now lines.now store.now waiting.old }
+    requires entered { HaveEnteredFor asked.now lines.now store.now waiting.old i upto }
+    ensures waiting { IfOk result (λ _. IsWaitingFor asked.now lines.now store.now waiting.new) }
     ensures joins { IfOk result (λ _. Joins i waiting.old waiting.new) }
-    ensures entered { IfOk result (λ now. HaveEntered book.now marks.now.facts stand windows.now flights.now store.now waiting.new i now) }
-    ensures others { IfOk result (λ now. ArePending book.now stand windows.now flights.now i now) }
+    ensures entered { IfOk result (λ now. HaveEnteredFor asked.now lines.now store.now waiting.new i now) }
+    ensures others { IfOk result (λ now. ArePendingFor asked.now lines.now i now) }
     ensures wide { IsAsWide waiting.old.keys waiting.new.keys }
 {
+    let (windows, flights) = (lines.windows, lines.flights);
     for q in upto..flights.len() {
-        if !is_ready(book, stand, windows[i], flights[q]) {
+        if !is_ready(asked.book, lines.stand, windows[i], flights[q]) {
             return Ok(q);
         }
-        enter_flight(
-            book, marks, stand, windows, store, i, flights[q], waiting, key,
-        )?;
+        enter_flight(asked, lines, store, i, flights[q], waiting, key)?;
     }
     Ok(flights.len())
 }

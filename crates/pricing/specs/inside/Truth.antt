@@ -38,7 +38,8 @@ abbrev pub row_after : BookSeen → ℕ → ℤ → Place → ℕ → List ℤ �
 row_after book k arc x b row = (weight_of row +ℤ arc) ∷ step book k x b (counters_of row)
 
 -- the route is legal, its links are usable, and it has this weight with these counters, and this place at its end
-pub record IsTrueRoute (table : CostTableSeen) (book : BookSeen) (marks : List Fact) (k : ℕ) (duals : List ℤ) (route : List ℕ) (x : Place) (row : List ℤ) : Type 0 where
+pub record IsTrueRoute (table : CostTableSeen) (book : BookSeen) (marks : List Fact) (k : ℕ) (duals : List ℤ)
+    (route : List ℕ) (x : Place) (row : List ℤ) : Type 0 where
   pub legal : IsLegalRoute book k route
   pub usable : IsUsableFrom book marks k Carry route
   pub values : row ≡ weight table book k duals route ∷ counters_after book k route
@@ -59,7 +60,8 @@ abbrev pub IsKept : StoreSeen → Option ℕ → Type 0
 IsKept store row = IfSome row (λ j. j < length store.rows)
 
 -- this is the row after b, from a place with a row, over a usable link and within the limits
-pub record IsNext (table : CostTableSeen) (book : BookSeen) (marks : List Fact) (k : ℕ) (duals : List ℤ) (x : Place) (row : List ℤ) (b : ℕ) (next : List ℤ) : Type 0 where
+pub record IsNext (table : CostTableSeen) (book : BookSeen) (marks : List Fact) (k : ℕ) (duals : List ℤ)
+    (x : Place) (row : List ℤ) (b : ℕ) (next : List ℤ) : Type 0 where
   pub usable : IsUsable book marks k x b
   pub within : WithinLimits book.rules.counters (step book k x b (counters_of row))
   pub counts : AreCounts (step book k x b (counters_of row))

@@ -65,6 +65,18 @@ pub record AreWindows (bands : List Band) (counters : List CounterSeen) (port : 
 abbrev pub enters_after : ℤ → Window → ℤ
 enters_after turn window = int_max window.lo turn
 
+-- a flight has waited so long
+abbrev pub HasWaited : BookSeen → Stand → Window → ℕ → Type 0
+HasWaited book stand window x = (end_of book x +ℤ enters_after stand.turn window) ≤ℤ stand.moment
+
+-- the flight at a place of a list
+abbrev pub flight_at : List ℕ → ℕ → ℕ
+flight_at flights q = slice_index_or flights q 0
+
+-- of two flights next to each other the first ends no later
+abbrev pub EndsRise : BookSeen → List ℕ → Type 0
+EndsRise book flights = (q : ℕ) → q + 1 < length flights → end_of book (flight_at flights q) ≤ℤ end_of book (flight_at flights (q + 1))
+
 -- a flight of the book that ends at the airport
 pub record IsArrival (book : BookSeen) (port x : ℕ) : Type 0 where
   pub place : x < activities book
@@ -80,9 +92,9 @@ pub record MayWait (book : BookSeen) (marks : List Fact) (stand : Stand) (x : �
 
 -- all flights of the book that end at the airport, in order of their ends
 pub record AreFlights (book : BookSeen) (port : ℕ) (flights : List ℕ) : Type 0 where
-  pub arrivals : (q : ℕ) → q < length flights → IsArrival book port (slice_index_or flights q 0)
+  pub arrivals : (q : ℕ) → q < length flights → IsArrival book port (flight_at flights q)
   pub every : (x : ℕ) → IsArrival book port x → Contains flights x
-  pub order : (q r : ℕ) → q ≤ r → r < length flights → end_of book (slice_index_or flights q 0) ≤ℤ end_of book (slice_index_or flights r 0)
+  pub order : (q r : ℕ) → q ≤ r → r < length flights → end_of book (flight_at flights q) ≤ℤ end_of book (flight_at flights r)
 
 -- the store has a bucket for each activity, and its rows are a weight and counts
 pub record IsReadable (book : BookSeen) (store : StoreSeen) : Type 0 where
@@ -94,7 +106,7 @@ pub record IsReadable (book : BookSeen) (store : StoreSeen) : Type 0 where
 pub record IsEntryOf (book : BookSeen) (marks : List Fact) (stand : Stand) (window : Window) (store : StoreSeen) (x j : ℕ) (key : List ℤ) : Type 0 where
   pub may : MayWait book marks stand x
   pub label : Contains (bucket_of store x) j
-  pub ready : (end_of book x +ℤ enters_after stand.turn window) ≤ℤ stand.moment
+  pub ready : HasWaited book stand window x
   pub is_key : key ≡ key_row book stand.port window.lo window.lasting x (row_at store.rows j)
 
 abbrev pub IsEntry : BookSeen → List Fact → Stand → List Window → StoreSeen → Waiting → ℕ → Type 0
@@ -130,18 +142,20 @@ pub record Joins (i : ℕ) (old new : Waiting) : Type 0 where
 
 -- of the flights in order the first so many have entered the line of window i: each has waited long enough, and is held
 -- where it may wait
-pub record HaveEntered (book : BookSeen) (marks : List Fact) (stand : Stand) (windows : List Window) (flights : List ℕ) (store : StoreSeen) (waiting : Waiting) (i upto : ℕ) : Type 0 where
+pub record HaveEntered (book : BookSeen) (marks : List Fact) (stand : Stand) (windows : List Window) (flights : List ℕ) (store : StoreSeen)
+    (waiting : Waiting) (i upto : ℕ) : Type 0 where
   pub some : upto ≤ length flights
-  pub gone : (q : ℕ) → q < upto → (end_of book (slice_index_or flights q 0) +ℤ enters_after stand.turn (window_at windows i)) ≤ℤ stand.moment
-  pub held : (q : ℕ) → q < upto → MayWait book marks stand (slice_index_or flights q 0) → AreHeld book stand windows store waiting i (slice_index_or flights q 0)
+  pub gone : (q : ℕ) → q < upto → HasWaited book stand (window_at windows i) (flight_at flights q)
+  pub held : (q : ℕ) → q < upto → MayWait book marks stand (flight_at flights q) → AreHeld book stand windows store waiting i (flight_at flights q)
 
 -- and the others have not waited long enough
 abbrev pub ArePending : BookSeen → Stand → List Window → List ℕ → ℕ → ℕ → Type 0
 ArePending book stand windows flights i upto = (q : ℕ) → upto ≤ q → q < length flights
-    → stand.moment <ℤ (end_of book (slice_index_or flights q 0) +ℤ enters_after stand.turn (window_at windows i))
+    → stand.moment <ℤ (end_of book (flight_at flights q) +ℤ enters_after stand.turn (window_at windows i))
 
 -- and so for each window
-pub record AreEntered (book : BookSeen) (marks : List Fact) (stand : Stand) (windows : List Window) (flights : List ℕ) (store : StoreSeen) (waiting : Waiting) (entered : List ℕ) : Type 0 where
+pub record AreEntered (book : BookSeen) (marks : List Fact) (stand : Stand) (windows : List Window) (flights : List ℕ) (store : StoreSeen)
+    (waiting : Waiting) (entered : List ℕ) : Type 0 where
   pub count : length entered ≡ length windows
   pub each : (i : ℕ) → i < length windows → HaveEntered book marks stand windows flights store waiting i (slice_index_or entered i 0)
 
@@ -162,7 +176,8 @@ AreTriedIn table book k duals old store windows b waiting i =
 -- each flight that has waited long enough for window i is held in its line
 abbrev pub AreAllHeld : BookSeen → List Fact → ℕ → Stand → List Window → StoreSeen → Waiting → ℕ → ℕ → Type 0
 AreAllHeld book marks k stand windows store waiting b i =
-    (x : ℕ) → MayWait book marks stand x → enters_after stand.turn (window_at windows i) ≤ℤ gap book k (After x) b → AreHeld book stand windows store waiting i x
+    (x : ℕ) → MayWait book marks stand x → enters_after stand.turn (window_at windows i) ≤ℤ gap book k (After x) b
+    → AreHeld book stand windows store waiting i x
 
 -- a departure of aircraft k that any flight which may wait can be followed by: a flight that is alive, with no Cut and no Tie
 -- into it, at the stand's airport and moment; the floor is above all Musts before it, and none other is that high

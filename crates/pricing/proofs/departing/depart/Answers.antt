@@ -18,7 +18,7 @@ use Rattle.pricing.proofs.departing.depart.Goals as goal
 
 pub try_waiting-requires-clause-may : goal.try_waiting-requires-clause-may
 try_waiting-requires-clause-may c =
-    subst (MayWait c.args.book.now c.args.marks.now.facts c.args.stand) (sym c.place_at-x.ensures) (c.loop-q.invariant.waiting.entries c.at-e.result c.at-e.ensures.kept).may
+    subst (MayWait c.args.asked.now.book.now c.args.asked.now.marks.now.facts c.args.lines.now.stand) (sym c.place_at-x.ensures) (c.loop-q.invariant.waiting.entries c.at-e.result c.at-e.ensures.kept).may
 
 pub try_waiting-requires-clause-label : goal.try_waiting-requires-clause-label
 try_waiting-requires-clause-label c =
@@ -34,25 +34,25 @@ try_waiting-requires-clause-waited c =
     let entry = c.loop-q.invariant.waiting.entries c.at-e.result c.at-e.ensures.kept in
     let ready = entry.ready in
     let moment = c.requires.leaves.moment in
-    let most = turn_at_most (window_at c.args.windows.now (node_of waiting.keys c.at-e.result)).lo c.args.stand.turn in
-    let waited : c.args.stand.turn ≤ℤ gap c.args.book.now c.args.k (After (place_at waiting c.at-e.result)) c.args.b = omega (arith, ints, ready, moment, most) in
-    subst (λ (x : ℕ). c.args.stand.turn ≤ℤ gap c.args.book.now c.args.k (After x) c.args.b) (sym c.place_at-x.ensures) waited
+    let most = turn_at_most (window_at c.args.lines.now.windows.now (node_of waiting.keys c.at-e.result)).lo c.args.lines.now.stand.turn in
+    let waited : c.args.lines.now.stand.turn ≤ℤ gap c.args.asked.now.book.now c.args.asked.now.k (After (place_at waiting c.at-e.result)) c.args.b = omega (arith, ints, ready, moment, most) in
+    subst (λ (x : ℕ). c.args.lines.now.stand.turn ≤ℤ gap c.args.asked.now.book.now c.args.asked.now.k (After x) c.args.b) (sym c.place_at-x.ensures) waited
 
 -- the entry at place q was tried too
 pub loop-q-preserved : goal.loop-q-preserved
 loop-q-preserved c =
     let inv = c.loop-q.invariant in
-    let book = c.args.book.now in
-    let table = c.args.table.now in
-    let duals = c.args.duals.now.values in
-    let k = c.args.k in
+    let book = c.args.asked.now.book.now in
+    let table = c.args.asked.now.table.now in
+    let duals = c.args.asked.now.duals.now.values in
+    let k = c.args.asked.now.k in
     let b = c.args.b in
     let waiting = c.args.waiting.now in
     let first = c.args.store.now in
     let old = c.loop-q.store in
     let new = c.try_waiting.new.store in
     let bucket = bucket_of waiting.keys c.args.i in
-    let hi = (window_at c.args.windows.now c.args.i).hi in
+    let hi = (window_at c.args.lines.now.windows.now c.args.i).hi in
     let e = c.at-e.result in
     let x = place_at waiting e in
     let j = label_at waiting e in
@@ -72,8 +72,8 @@ loop-q-preserved c =
       grows = grows_trans first old new inv.grows grows;
       wide = wide_trans first old new inv.wide c.in_ok-try_waiting.ensures.wide;
       row = long;
-      waiting = waiting_stays book c.every_book_is_sound.ensures c.args.marks.now.facts c.args.stand c.requires.leaves.forward b c.requires.activity
-          (let moment = c.requires.leaves.moment in omega (arith, ints, moment)) old new c.every_store_is_sound-in-loop-q.ensures inv.state.nodes grows c.args.windows.now waiting inv.waiting;
+      waiting = waiting_stays book c.every_book_is_sound.ensures c.args.asked.now.marks.now.facts c.args.lines.now.stand c.requires.leaves.forward b c.requires.activity
+          (let moment = c.requires.leaves.moment in omega (arith, ints, moment)) old new c.every_store_is_sound-in-loop-q.ensures inv.state.nodes grows c.args.lines.now.windows.now waiting inv.waiting;
       tried = one_more (λ r. IsTriedIn table book k duals first new hi b waiting (get_or bucket r 0)) c.loop-q.q
           (λ r lt short. tried_stays book k old new (arc_weight table book k duals (After (place_at waiting (get_or bucket r 0))) b) (After (place_at waiting (get_or bucket r 0))) b b
           (row_at first.rows (label_at waiting (get_or bucket r 0))) grows (inv.tried r lt short))
@@ -88,5 +88,5 @@ returns-clause-tried c = λ e counts.
     let (q, lt, is) = counts in
     let below : q < c.loop-q.q = omega (arith, lt) in
     let here : get_or bucket q 0 ≡ e = sym (get_or_default bucket q e 0 lt) ∙ is in
-    subst (λ (d : ℕ). IsTriedIn c.args.table.now c.args.book.now c.args.k c.args.duals.now.values c.args.store.now c.loop-q.store (window_at c.args.windows.now c.args.i).hi c.args.b waiting d)
+    subst (λ (d : ℕ). IsTriedIn c.args.asked.now.table.now c.args.asked.now.book.now c.args.asked.now.k c.args.asked.now.duals.now.values c.args.store.now c.loop-q.store (window_at c.args.lines.now.windows.now c.args.i).hi c.args.b waiting d)
     here (c.loop-q.invariant.tried q below)

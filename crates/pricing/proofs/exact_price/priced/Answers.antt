@@ -6,20 +6,20 @@ use Rattle.pricing.proofs.exact_price.priced.Goals as goal
 -- there is no end
 pub returns-in_default : goal.returns-in_default
 returns-in_default c =
-    c.endless_stores_stick.ensures c.args.table.now c.args.book.now c.args.marks.now.facts c.args.k c.args.duals.now.values c.args.store.now
+    c.endless_stores_stick.ensures c.args.asked.now.table.now c.args.asked.now.book.now c.args.asked.now.marks.now.facts c.args.asked.now.k c.args.asked.now.duals.now.values c.args.store.now
     c.every_store_is_sound.ensures c.requires.nodes c.requires.closed c.in_default.ensures
 
 -- the least end has the least weight, and the route to it has it
 pub returns : goal.returns
 returns c =
-    let table = c.args.table.now in
-    let book = c.args.book.now in
-    let marks = c.args.marks.now.facts in
-    let k = c.args.k in
-    let duals = c.args.duals.now.values in
+    let table = c.args.asked.now.table.now in
+    let book = c.args.asked.now.book.now in
+    let marks = c.args.asked.now.marks.now.facts in
+    let k = c.args.asked.now.k in
+    let duals = c.args.asked.now.duals.now.values in
     let value = c.in-Some.end.value in
     let fits : FitsSigned w64 value = search rules in
     let least = c.least_ends_are_least.ensures table book marks k duals c.args.store.now c.in-Some.end
-    c.every_book_is_sound.ensures c.requires.aircraft c.every_store_is_sound.ensures c.requires.nodes c.requires.truths c.requires.closed c.in-Some.ensures in
+    c.every_book_is_sound.ensures c.requires.asked.aircraft c.every_store_is_sound.ensures c.requires.nodes c.requires.truths c.requires.closed c.in-Some.ensures in
     subst (λ (v : ℤ). IsLeastWeight table book marks k duals v × IsRouteOfWeight table book marks k duals v c.in_ok-route.route) (sym (to_z-of_z w64 value fits))
     (least.0, subst (λ (route : List ℕ). IsRouteOfWeight table book marks k duals value route) (sym c.in_ok-route.ensures) least.1)

@@ -6,7 +6,7 @@ use Rattle.pricing.proofs.fill.fill.Goals as goal
 pub returns-clause-filled : goal.returns-clause-filled
 returns-clause-filled c =
     let node : c.args.b < length c.try_first.new.store.buckets = omega (arith, c.in_ok-try_first.ensures.wide.nodes, c.requires.state.nodes, c.requires.activity) in
-    filled c.args.table.now c.args.book.now c.args.marks.now.facts c.args.k c.args.duals.now.values c.try_first.new.store c.try_links.new.store c.args.b
+    filled c.args.asked.now.table.now c.args.asked.now.book.now c.args.asked.now.marks.now.facts c.args.asked.now.k c.args.asked.now.duals.now.values c.try_first.new.store c.try_links.new.store c.args.b
     c.every_store_is_sound.ensures node c.in_ok-try_links.ensures.grows c.in_ok-try_first.ensures.begun c.in_ok-try_links.ensures.reached
 
 pub returns-clause-grows : goal.returns-clause-grows

@@ -7,8 +7,8 @@ use Rattle.pricing.proofs.fill.fill_all.Given as goal
 -- the buckets before b are done
 abbrev pub invariant-loop-b : goal.invariant-loop-b
 invariant-loop-b l = record {
-  state : IsUnderWay l.table l.book l.marks.facts l.k l.duals.values l.store (length l.row);
+  state : IsUnderWay l.asked l.store (length l.row);
   wide : IsAsWide l.initial.store l.store;
-  filled : AreFilled l.table l.book l.marks.facts l.k l.duals.values l.store l.b;
+  filled : AreFilled l.asked.table.now l.asked.book.now l.asked.marks.now.facts l.asked.k l.asked.duals.now.values l.store l.b;
   row : length l.row ≡ length l.initial.row;
 }

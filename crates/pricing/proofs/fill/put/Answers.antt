@@ -3,7 +3,7 @@ use Rattle.pricing.proofs.fill.put.Goals as goal
 -- the row that is offered is true
 pub returns-clause-truths : goal.returns-clause-truths
 returns-clause-truths c =
-    c.offers_keep_truth.ensures c.args.table.now c.args.book.now c.args.marks.now.facts c.args.k c.args.duals.now.values c.args.store.now c.offer.new.self
+    c.offers_keep_truth.ensures c.args.asked.now.table.now c.args.asked.now.book.now c.args.asked.now.marks.now.facts c.args.asked.now.k c.args.asked.now.duals.now.values c.args.store.now c.offer.new.self
     c.args.parent c.args.b c.args.row.now c.in_ok-_offered._offered c.every_store_is_sound.ensures c.every_store_is_sound-2.ensures
     c.requires.truths c.requires.kept c.requires.truth c.requires.next c.in_ok-_offered.ensures.offered
 

@@ -35,7 +35,7 @@ loop-i-preserved c =
       state = c.in_ok-try_row.ensures.state;
       grows = grows_trans first old new inv.grows c.in_ok-try_row.ensures.grows;
       wide = wide_trans first old new inv.wide c.in_ok-try_row.ensures.wide;
-      tried = tried_one_more c.args.book.now c.args.k first old new bucket (to_z w64 (of_z w64 c.args.arc)) (After x) b i c.copy_from_slice.new.self c.in_ok-try_row.ensures.grows
+      tried = tried_one_more c.args.asked.now.book.now c.args.asked.now.k first old new bucket (to_z w64 (of_z w64 c.args.arc)) (After x) b i c.copy_from_slice.new.self c.in_ok-try_row.ensures.grows
           inv.tried c.in_ok-try_row.ensures.tried is;
       row = long;
     }
@@ -47,6 +47,6 @@ returns-clause-reached c = λ usable j has.
     let (q, lt, is) = has in
     let below : q < c.loop-i.i = omega (arith, lt) in
     let here : get_or bucket q 0 ≡ j = sym (get_or_default bucket q j 0 lt) ∙ is in
-    subst (λ (arc : ℤ). Tried c.args.book.now c.args.k c.loop-i.store arc (After c.args.x) c.args.b (row_at c.args.store.now.rows j)) (to_z-of_z w64 c.args.arc c.ranges.arc ∙ c.requires.arc)
-    (subst (λ (m : ℕ). Tried c.args.book.now c.args.k c.loop-i.store (to_z w64 (of_z w64 c.args.arc)) (After c.args.x) c.args.b (row_at c.args.store.now.rows m)) here
+    subst (λ (arc : ℤ). Tried c.args.asked.now.book.now c.args.asked.now.k c.loop-i.store arc (After c.args.x) c.args.b (row_at c.args.store.now.rows j)) (to_z-of_z w64 c.args.arc c.ranges.arc ∙ c.requires.arc)
+    (subst (λ (m : ℕ). Tried c.args.asked.now.book.now c.args.asked.now.k c.loop-i.store (to_z w64 (of_z w64 c.args.arc)) (After c.args.x) c.args.b (row_at c.args.store.now.rows m)) here
     (c.loop-i.invariant.tried q below))

@@ -10,9 +10,9 @@ use Rattle.pricing.proofs.fill.try_bucket.Given as goal
 -- the rows before place i were tried
 abbrev pub invariant-loop-i : goal.invariant-loop-i
 invariant-loop-i l = record {
-  state : IsUnderWay l.table l.book l.marks.facts l.k l.duals.values l.store (length l.row);
+  state : IsUnderWay l.asked l.store (length l.row);
   grows : Grows l.b l.initial.store l.store;
   wide : IsAsWide l.initial.store l.store;
-  tried : (q : ℕ) → q < l.i → Tried l.book l.k l.store l.arc (After l.x) l.b (row_at l.initial.store.rows (get_or (bucket_of l.initial.store l.x) q 0));
+  tried : (q : ℕ) → q < l.i → Tried l.asked.book.now l.asked.k l.store l.arc (After l.x) l.b (row_at l.initial.store.rows (get_or (bucket_of l.initial.store l.x) q 0));
   row : length l.row ≡ length l.initial.row;
 }

@@ -8,9 +8,9 @@ use Rattle.pricing.proofs.fill.try_links.Given as goal
 -- the activities at places before i were tried
 abbrev pub invariant-loop-i : goal.invariant-loop-i
 invariant-loop-i l = record {
-  state : IsUnderWay l.table l.book l.marks.facts l.k l.duals.values l.store (length l.row);
+  state : IsUnderWay l.asked l.store (length l.row);
   grows : Grows l.b l.initial.store l.store;
   wide : IsAsWide l.initial.store l.store;
-  reached : (q : ℕ) → q < l.i → IsReached l.table l.book l.marks.facts l.k l.duals.values l.initial.store (get_or l.before q 0) l.b l.store;
+  reached : (q : ℕ) → q < l.i → IsReached l.asked.table.now l.asked.book.now l.asked.marks.now.facts l.asked.k l.asked.duals.now.values l.initial.store (get_or l.before q 0) l.b l.store;
   row : length l.row ≡ length l.initial.row;
 }

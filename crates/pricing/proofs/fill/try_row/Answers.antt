@@ -11,20 +11,20 @@ use Rattle.pricing.proofs.fill.try_row.Goals as goal
 pub stepped-requires-clause-light : goal.stepped-requires-clause-light
 stepped-requires-clause-light c =
     subst (λ (r : List ℤ). IsWithin (pos 0 -ℤ pos (2 ^ 61)) (pos (2 ^ 61)) (weight_of r)) (sym c.requires.row)
-    (c.true_rows_are_small.ensures c.args.table.now c.args.book.now c.args.marks.now.facts c.args.k c.args.duals.now.values c.args.store.now c.args.parent
+    (c.true_rows_are_small.ensures c.args.asked.now.table.now c.args.asked.now.book.now c.args.asked.now.marks.now.facts c.args.asked.now.k c.args.asked.now.duals.now.values c.args.store.now c.args.parent
     c.every_book_is_sound.ensures c.every_cost_table_is_sound.ensures c.requires.asked.table c.requires.asked.duals c.requires.truth)
 
 -- the step was within the limits
 pub put-requires-clause-next : goal.put-requires-clause-next
 put-requires-clause-next c =
-    let book = c.args.book.now in
-    let k = c.args.k in
+    let book = c.args.asked.now.book.now in
+    let k = c.args.asked.now.k in
     let within : IsTrue c.stepped.result = search rules in
-    let next : IsNext c.args.table.now book c.args.marks.now.facts k c.args.duals.now.values c.args.from c.args.row.now c.args.b c.stepped.new.row = record {
+    let next : IsNext c.args.asked.now.table.now book c.args.asked.now.marks.now.facts k c.args.asked.now.duals.now.values c.args.from c.args.row.now c.args.b c.stepped.new.row = record {
       usable = c.requires.usable;
       within = c.stepped.ensures.limits.0 within;
       counts = c.stepped.ensures.counts within;
       values = c.stepped.ensures.row ∙ ap (λ (arc : ℤ). row_after book k arc c.args.from c.args.b c.args.row.now) (to_z-of_z w64 c.args.arc c.ranges.arc ∙ c.requires.arc);
     } in
-    subst (λ (r : List ℤ). IsNext c.args.table.now book c.args.marks.now.facts k c.args.duals.now.values (place_of c.args.store.now c.args.parent) r c.args.b c.stepped.new.row) c.requires.row
-    (subst (λ (x : Place). IsNext c.args.table.now book c.args.marks.now.facts k c.args.duals.now.values x c.args.row.now c.args.b c.stepped.new.row) c.requires.from next)
+    subst (λ (r : List ℤ). IsNext c.args.asked.now.table.now book c.args.asked.now.marks.now.facts k c.args.asked.now.duals.now.values (place_of c.args.store.now c.args.parent) r c.args.b c.stepped.new.row) c.requires.row
+    (subst (λ (x : Place). IsNext c.args.asked.now.table.now book c.args.asked.now.marks.now.facts k c.args.asked.now.duals.now.values x c.args.row.now c.args.b c.stepped.new.row) c.requires.from next)

@@ -8,10 +8,10 @@ use Rattle.pricing.proofs.line_fill.advance_all.Goals as goal
 pub loop-i-preserved : goal.loop-i-preserved
 loop-i-preserved c =
     let inv = c.loop-i.invariant in
-    let book = c.args.book.now in
-    let marks = c.args.marks.now.facts in
-    let windows = c.args.windows.now in
-    let flights = c.args.flights.now in
+    let book = c.args.asked.now.book.now in
+    let marks = c.args.asked.now.marks.now.facts in
+    let windows = c.args.lines.now.windows.now in
+    let flights = c.args.lines.now.flights.now in
     let store = c.args.store.now in
     let old = c.loop-i.waiting in
     let new = c.advance.new.waiting in
@@ -22,8 +22,8 @@ loop-i-preserved c =
     let count = inv.entered.count in
     record {
       waiting = c.in_ok-entered.ensures.waiting;
-      entered = entered_with book marks c.args.stand windows flights store i now old new entered c.in_ok-entered.ensures.joins inv.entered lt c.in_ok-entered.ensures.entered;
-      pending = pending_with book c.args.stand windows flights i now entered (omega (arith, lt, count)) inv.pending c.in_ok-entered.ensures.others;
+      entered = entered_with book marks c.args.lines.now.stand windows flights store i now old new entered c.in_ok-entered.ensures.joins inv.entered lt c.in_ok-entered.ensures.entered;
+      pending = pending_with book c.args.lines.now.stand windows flights i now entered (omega (arith, lt, count)) inv.pending c.in_ok-entered.ensures.others;
       wide = wide_trans c.args.waiting.now.keys old.keys new.keys inv.wide c.in_ok-entered.ensures.wide;
       count = length-set entered i now ∙ inv.count;
     }

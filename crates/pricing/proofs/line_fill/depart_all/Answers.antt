@@ -16,13 +16,13 @@ use Rattle.pricing.proofs.line_fill.depart_all.Goals as goal
 pub loop-i-preserved : goal.loop-i-preserved
 loop-i-preserved c =
     let inv = c.loop-i.invariant in
-    let book = c.args.book.now in
-    let table = c.args.table.now in
-    let duals = c.args.duals.now.values in
-    let k = c.args.k in
+    let book = c.args.asked.now.book.now in
+    let table = c.args.asked.now.table.now in
+    let duals = c.args.asked.now.duals.now.values in
+    let k = c.args.asked.now.k in
     let b = c.args.b in
     let i = c.loop-i.i in
-    let windows = c.args.windows.now in
+    let windows = c.args.lines.now.windows.now in
     let waiting = c.args.waiting.now in
     let first = c.args.store.now in
     let old = c.loop-i.store in
@@ -43,7 +43,7 @@ loop-i-preserved c =
       grows = grows_trans first old new inv.grows grows;
       wide = wide_trans first old new inv.wide c.in_ok-depart.ensures.wide;
       row = long;
-      waiting = waiting_stays book c.every_book_is_sound.ensures c.args.marks.now.facts c.args.stand c.requires.leaves.forward b c.requires.activity
+      waiting = waiting_stays book c.every_book_is_sound.ensures c.args.asked.now.marks.now.facts c.args.lines.now.stand c.requires.leaves.forward b c.requires.activity
           (let moment = c.requires.leaves.moment in omega (arith, ints, moment)) old new c.every_store_is_sound-in-loop-i.ensures inv.state.nodes grows windows waiting inv.waiting;
       tried = one_more (AreTriedIn table book k duals first new windows b waiting) i
           (λ v less e counts short. tried_stays book k old new (arc_weight table book k duals (After (place_at waiting e)) b) (After (place_at waiting e)) b b

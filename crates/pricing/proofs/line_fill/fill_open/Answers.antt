@@ -25,20 +25,20 @@ advance_all-requires-clause-cleared c = λ i lt. (c.requires.windows.each i lt).
 -- what waited does so while the first row is tried
 pub advance_all-requires-clause-waiting : goal.advance_all-requires-clause-waiting
 advance_all-requires-clause-waiting c =
-    waiting_stays c.args.book.now c.every_book_is_sound.ensures c.args.marks.now.facts c.args.stand c.requires.leaves.forward c.args.b c.requires.activity
+    waiting_stays c.args.asked.now.book.now c.every_book_is_sound.ensures c.args.asked.now.marks.now.facts c.args.stand c.requires.leaves.forward c.args.b c.requires.activity
     (let moment = c.requires.leaves.moment in omega (arith, ints, moment)) c.args.store.now c.try_first.new.store c.every_store_is_sound.ensures c.requires.state.nodes
     c.in_ok-try_first.ensures.grows c.args.windows.now c.args.waiting.now c.requires.waiting
 
 pub advance_all-requires-clause-entered : goal.advance_all-requires-clause-entered
 advance_all-requires-clause-entered c =
-    all_entered_stay c.args.book.now c.every_book_is_sound.ensures c.args.marks.now.facts c.args.stand c.requires.leaves.forward c.args.b c.requires.activity
+    all_entered_stay c.args.asked.now.book.now c.every_book_is_sound.ensures c.args.asked.now.marks.now.facts c.args.stand c.requires.leaves.forward c.args.b c.requires.activity
     (let moment = c.requires.leaves.moment in omega (arith, ints, moment)) c.args.store.now c.try_first.new.store c.every_store_is_sound.ensures c.requires.state.nodes
     c.in_ok-try_first.ensures.grows c.args.windows.now c.args.flights.now c.args.waiting.now c.args.entered.now c.requires.entered
 
 -- and while ground time is
 pub depart_all-requires-clause-waiting : goal.depart_all-requires-clause-waiting
 depart_all-requires-clause-waiting c =
-    waiting_stays c.args.book.now c.every_book_is_sound.ensures c.args.marks.now.facts c.args.stand c.requires.leaves.forward c.args.b c.requires.activity
+    waiting_stays c.args.asked.now.book.now c.every_book_is_sound.ensures c.args.asked.now.marks.now.facts c.args.stand c.requires.leaves.forward c.args.b c.requires.activity
     (let moment = c.requires.leaves.moment in omega (arith, ints, moment)) c.try_first.new.store c.try_grounds.new.store c.every_store_is_sound-2.ensures c.in_ok-try_first.ensures.state.nodes
     c.in_ok-try_grounds.ensures.grows c.args.windows.now c.advance_all.new.waiting c.in_ok-advance_all.ensures.waiting
 
@@ -51,7 +51,7 @@ returns-clause-grows c =
 pub returns-clause-waiting : goal.returns-clause-waiting
 returns-clause-waiting c =
     let moment = c.requires.leaves.moment in
-    let stays = waiting_stays c.args.book.now c.every_book_is_sound.ensures c.args.marks.now.facts c.args.stand c.requires.leaves.forward c.args.b c.requires.activity (omega (arith, ints, moment)) in
+    let stays = waiting_stays c.args.asked.now.book.now c.every_book_is_sound.ensures c.args.asked.now.marks.now.facts c.args.stand c.requires.leaves.forward c.args.b c.requires.activity (omega (arith, ints, moment)) in
     stays c.try_grounds.new.store c.depart_all.new.store c.every_store_is_sound-3.ensures c.in_ok-try_grounds.ensures.state.nodes c.in_ok-depart_all.ensures.grows c.args.windows.now c.advance_all.new.waiting
     (stays c.try_first.new.store c.try_grounds.new.store c.every_store_is_sound-2.ensures c.in_ok-try_first.ensures.state.nodes c.in_ok-try_grounds.ensures.grows c.args.windows.now
     c.advance_all.new.waiting c.in_ok-advance_all.ensures.waiting)
@@ -59,7 +59,7 @@ returns-clause-waiting c =
 pub returns-clause-entered : goal.returns-clause-entered
 returns-clause-entered c =
     let moment = c.requires.leaves.moment in
-    let stay = all_entered_stay c.args.book.now c.every_book_is_sound.ensures c.args.marks.now.facts c.args.stand c.requires.leaves.forward c.args.b c.requires.activity (omega (arith, ints, moment)) in
+    let stay = all_entered_stay c.args.asked.now.book.now c.every_book_is_sound.ensures c.args.asked.now.marks.now.facts c.args.stand c.requires.leaves.forward c.args.b c.requires.activity (omega (arith, ints, moment)) in
     stay c.try_grounds.new.store c.depart_all.new.store c.every_store_is_sound-3.ensures c.in_ok-try_grounds.ensures.state.nodes c.in_ok-depart_all.ensures.grows c.args.windows.now c.args.flights.now
     c.advance_all.new.waiting c.advance_all.new.entered
     (stay c.try_first.new.store c.try_grounds.new.store c.every_store_is_sound-2.ensures c.in_ok-try_first.ensures.state.nodes c.in_ok-try_grounds.ensures.grows c.args.windows.now c.args.flights.now
@@ -68,11 +68,11 @@ returns-clause-entered c =
 -- each activity before it was tried, by the lines or as ground time
 pub returns-clause-filled : goal.returns-clause-filled
 returns-clause-filled c =
-    let book = c.args.book.now in
-    let table = c.args.table.now in
-    let marks = c.args.marks.now.facts in
-    let k = c.args.k in
-    let duals = c.args.duals.now.values in
+    let book = c.args.asked.now.book.now in
+    let table = c.args.asked.now.table.now in
+    let marks = c.args.asked.now.marks.now.facts in
+    let k = c.args.asked.now.k in
+    let duals = c.args.asked.now.duals.now.values in
     let b = c.args.b in
     let windows = c.args.windows.now in
     let flights = c.args.flights.now in

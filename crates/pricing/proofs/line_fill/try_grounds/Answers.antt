@@ -10,11 +10,11 @@ use Rattle.pricing.proofs.line_fill.try_grounds.Goals as goal
 pub loop-q-preserved : goal.loop-q-preserved
 loop-q-preserved c =
     let inv = c.loop-q.invariant in
-    let table = c.args.table.now in
-    let book = c.args.book.now in
-    let marks = c.args.marks.now.facts in
-    let k = c.args.k in
-    let duals = c.args.duals.now.values in
+    let table = c.args.asked.now.table.now in
+    let book = c.args.asked.now.book.now in
+    let marks = c.args.asked.now.marks.now.facts in
+    let k = c.args.asked.now.k in
+    let duals = c.args.asked.now.duals.now.values in
     let b = c.args.b in
     let grounds = c.args.grounds.now in
     let q = c.loop-q.q in
@@ -44,5 +44,5 @@ returns-clause-reached c = λ x has later.
     let (q, lt, is) = has in
     let below : q < c.loop-q.q = omega (arith, lt) in
     let here : get_or grounds q 0 ≡ x = sym (get_or_default grounds q x 0 lt) ∙ is in
-    subst (λ (y : ℕ). y < c.args.b → IsReached c.args.table.now c.args.book.now c.args.marks.now.facts c.args.k c.args.duals.now.values c.args.store.now y c.args.b c.loop-q.store) here
+    subst (λ (y : ℕ). y < c.args.b → IsReached c.args.asked.now.table.now c.args.asked.now.book.now c.args.asked.now.marks.now.facts c.args.asked.now.k c.args.asked.now.duals.now.values c.args.store.now y c.args.b c.loop-q.store) here
     (c.loop-q.invariant.reached q below) later

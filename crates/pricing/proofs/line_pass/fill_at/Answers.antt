@@ -14,6 +14,6 @@ fill_in_lines-requires-clause-untied c =
 -- what waits stays so while the bucket is filled link by link
 pub returns-clause-busy : goal.returns-clause-busy
 returns-clause-busy c =
-    are_busy_stay c.args.book.now c.every_book_is_sound.ensures c.args.marks.now.facts c.args.k c.args.floor
-    (turn_forward c.args.book.now c.every_book_is_sound.ensures c.args.k c.requires.asked.aircraft) c.args.b c.requires.activity c.args.before c.requires.earlier
+    are_busy_stay c.args.asked.now.book.now c.every_book_is_sound.ensures c.args.asked.now.marks.now.facts c.args.asked.now.k c.args.floor
+    (turn_forward c.args.asked.now.book.now c.every_book_is_sound.ensures c.args.asked.now.k c.requires.asked.aircraft) c.args.b c.requires.activity c.args.before c.requires.earlier
     c.args.store.now c.fill.new.store c.every_store_is_sound.ensures c.requires.state.nodes c.in_ok-fill.ensures.grows c.args.airports.now c.requires.busy

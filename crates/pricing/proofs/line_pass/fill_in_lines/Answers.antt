@@ -13,8 +13,8 @@ use Rattle.pricing.proofs.line_pass.fill_in_lines.Goals as goal
 
 pub fill_open-requires-clause-waiting : goal.fill_open-requires-clause-waiting
 fill_open-requires-clause-waiting c =
-    let book = c.args.book.now in
-    let marks = c.args.marks.now.facts in
+    let book = c.args.asked.now.book.now in
+    let marks = c.args.asked.now.marks.now.facts in
     let store = c.args.store.now in
     let port = c.port_of-port.result in
     let airport = get_or c.args.airports.now port c.index-airports-port.result in
@@ -24,17 +24,17 @@ fill_open-requires-clause-waiting c =
     let fits_start : FitsSigned w64 c.start_of.result = search rules in
     let turn = to_z-of_z w64 c.turn_at.result fits_turn ∙ c.turn_at.ensures.value in
     let moment = to_z-of_z w64 c.start_of.result fits_start ∙ c.start_of.ensures.value in
-    let here = busy_later book marks c.args.k c.args.floor port c.args.before start store airport c.requires.earlier (c.requires.busy port c.index-airports-port.result inside) in
+    let here = busy_later book marks c.args.asked.now.k c.args.floor port c.args.before start store airport c.requires.earlier (c.requires.busy port c.index-airports-port.result inside) in
     subst (λ (ws : List Window). IsWaiting book marks (record { port = port; floor = c.args.floor; turn = to_z w64 (of_z w64 c.turn_at.result); moment = to_z w64 (of_z w64 c.start_of.result) }) ws store airport.waiting)
     (sym c.deref.ensures.value)
     (subst (λ (t : ℤ). IsWaiting book marks (record { port = port; floor = c.args.floor; turn = t; moment = to_z w64 (of_z w64 c.start_of.result) }) airport.windows.items store airport.waiting) (sym turn)
-    (subst (λ (m : ℤ). IsWaiting book marks (record { port = port; floor = c.args.floor; turn = (stand_at book c.args.k c.args.floor start port).turn; moment = m }) airport.windows.items store airport.waiting) (sym moment)
+    (subst (λ (m : ℤ). IsWaiting book marks (record { port = port; floor = c.args.floor; turn = (stand_at book c.args.asked.now.k c.args.floor start port).turn; moment = m }) airport.windows.items store airport.waiting) (sym moment)
     here.waiting))
 
 pub fill_open-requires-clause-entered : goal.fill_open-requires-clause-entered
 fill_open-requires-clause-entered c =
-    let book = c.args.book.now in
-    let marks = c.args.marks.now.facts in
+    let book = c.args.asked.now.book.now in
+    let marks = c.args.asked.now.marks.now.facts in
     let store = c.args.store.now in
     let port = c.port_of-port.result in
     let airport = get_or c.args.airports.now port c.index-airports-port.result in
@@ -44,13 +44,13 @@ fill_open-requires-clause-entered c =
     let fits_start : FitsSigned w64 c.start_of.result = search rules in
     let turn = to_z-of_z w64 c.turn_at.result fits_turn ∙ c.turn_at.ensures.value in
     let moment = to_z-of_z w64 c.start_of.result fits_start ∙ c.start_of.ensures.value in
-    let here = busy_later book marks c.args.k c.args.floor port c.args.before start store airport c.requires.earlier (c.requires.busy port c.index-airports-port.result inside) in
+    let here = busy_later book marks c.args.asked.now.k c.args.floor port c.args.before start store airport c.requires.earlier (c.requires.busy port c.index-airports-port.result inside) in
     let stand : Stand = record { port = port; floor = c.args.floor; turn = to_z w64 (of_z w64 c.turn_at.result); moment = to_z w64 (of_z w64 c.start_of.result) } in
     subst (λ (ws : List Window). AreEntered book marks stand ws c.deref-2.result.now store airport.waiting c.deref_mut.result.now) (sym c.deref.ensures.value)
     (subst (λ (fs : List ℕ). AreEntered book marks stand airport.windows.items fs store airport.waiting c.deref_mut.result.now) (sym c.deref-2.ensures.value)
     (subst (λ (es : List ℕ). AreEntered book marks stand airport.windows.items airport.flights.items store airport.waiting es) (sym c.deref_mut.ensures.value)
     (subst (λ (t : ℤ). AreEntered book marks (record { port = port; floor = c.args.floor; turn = t; moment = to_z w64 (of_z w64 c.start_of.result) }) airport.windows.items airport.flights.items store airport.waiting airport.entered.items) (sym turn)
-    (subst (λ (m : ℤ). AreEntered book marks (record { port = port; floor = c.args.floor; turn = (stand_at book c.args.k c.args.floor start port).turn; moment = m }) airport.windows.items airport.flights.items store airport.waiting airport.entered.items) (sym moment)
+    (subst (λ (m : ℤ). AreEntered book marks (record { port = port; floor = c.args.floor; turn = (stand_at book c.args.asked.now.k c.args.floor start port).turn; moment = m }) airport.windows.items airport.flights.items store airport.waiting airport.entered.items) (sym moment)
     here.entered))))
 
 -- only what waits at the airport has changed
@@ -63,7 +63,7 @@ returns-in_err-fill_open-clause-airports c =
     let count : length c.fill_open.new.entered ≡ length airport.entered.items = c.fill_open.ensures.count ∙ ap (λ (es : List ℕ). length es) c.deref_mut.ensures.value in
     let size = airport.entered.ok.0 in
     let full : (with_items airport.entered c.fill_open.new.entered).items ≡ c.fill_open.new.entered = with_items_is airport.entered c.fill_open.new.entered (omega (arith, count, size)) in
-    airports_with c.args.table.now.bands c.args.book.now c.args.airports.now port one c.requires.airports inside (λ d.
+    airports_with c.args.asked.now.table.now.bands c.args.asked.now.book.now c.args.airports.now port one c.requires.airports inside (λ d.
     record {
       flights = ap (λ (a : Airport). a.flights.items) (get_or_default c.args.airports.now port c.index-airports-port.result d inside);
       grounds = ap (λ (a : Airport). a.grounds.items) (get_or_default c.args.airports.now port c.index-airports-port.result d inside);
@@ -82,7 +82,7 @@ returns-clause-airports c =
     let count : length c.fill_open.new.entered ≡ length airport.entered.items = c.fill_open.ensures.count ∙ ap (λ (es : List ℕ). length es) c.deref_mut.ensures.value in
     let size = airport.entered.ok.0 in
     let full : (with_items airport.entered c.fill_open.new.entered).items ≡ c.fill_open.new.entered = with_items_is airport.entered c.fill_open.new.entered (omega (arith, count, size)) in
-    airports_with c.args.table.now.bands c.args.book.now c.args.airports.now port one c.requires.airports inside (λ d.
+    airports_with c.args.asked.now.table.now.bands c.args.asked.now.book.now c.args.airports.now port one c.requires.airports inside (λ d.
     record {
       flights = ap (λ (a : Airport). a.flights.items) (get_or_default c.args.airports.now port c.index-airports-port.result d inside);
       grounds = ap (λ (a : Airport). a.grounds.items) (get_or_default c.args.airports.now port c.index-airports-port.result d inside);
@@ -95,8 +95,8 @@ returns-clause-airports c =
 -- the others are busy as before, and this one is
 pub returns-clause-busy : goal.returns-clause-busy
 returns-clause-busy c =
-    let book = c.args.book.now in
-    let marks = c.args.marks.now.facts in
+    let book = c.args.asked.now.book.now in
+    let marks = c.args.asked.now.marks.now.facts in
     let store = c.fill_open.new.store in
     let port = c.port_of-port.result in
     let airport = get_or c.args.airports.now port c.index-airports-port.result in
@@ -114,13 +114,13 @@ returns-clause-busy c =
     let count : length c.fill_open.new.entered ≡ length airport.entered.items = c.fill_open.ensures.count ∙ ap (λ (es : List ℕ). length es) c.deref_mut.ensures.value in
     let size = airport.entered.ok.0 in
     let full : (with_items airport.entered c.fill_open.new.entered).items ≡ c.fill_open.new.entered = with_items_is airport.entered c.fill_open.new.entered (omega (arith, count, size)) in
-    busy_with book marks c.args.k c.args.floor start store c.args.airports.now port one inside
-    (are_busy_stay book c.every_book_is_sound.ensures marks c.args.k c.args.floor (turn_forward book c.every_book_is_sound.ensures c.args.k c.requires.asked.aircraft) c.args.b c.requires.activity
+    busy_with book marks c.args.asked.now.k c.args.floor start store c.args.airports.now port one inside
+    (are_busy_stay book c.every_book_is_sound.ensures marks c.args.asked.now.k c.args.floor (turn_forward book c.every_book_is_sound.ensures c.args.asked.now.k c.requires.asked.aircraft) c.args.b c.requires.activity
     c.args.before c.requires.earlier c.args.store.now store c.every_store_is_sound.ensures c.requires.state.nodes c.in_ok-fill_open.ensures.grows c.args.airports.now c.requires.busy)
     (record {
-      waiting = subst (λ (m : ℤ). IsWaiting book marks (record { port = port; floor = c.args.floor; turn = (stand_at book c.args.k c.args.floor start port).turn; moment = m }) airport.windows.items store c.fill_open.new.waiting) moment
+      waiting = subst (λ (m : ℤ). IsWaiting book marks (record { port = port; floor = c.args.floor; turn = (stand_at book c.args.asked.now.k c.args.floor start port).turn; moment = m }) airport.windows.items store c.fill_open.new.waiting) moment
           (subst (λ (t : ℤ). IsWaiting book marks (record { port = port; floor = c.args.floor; turn = t; moment = to_z w64 (of_z w64 c.start_of.result) }) airport.windows.items store c.fill_open.new.waiting) turn waiting);
-      entered = subst (λ (es : List ℕ). AreEntered book marks (stand_at book c.args.k c.args.floor start port) airport.windows.items airport.flights.items store c.fill_open.new.waiting es) (sym full)
-          (subst (λ (m : ℤ). AreEntered book marks (record { port = port; floor = c.args.floor; turn = (stand_at book c.args.k c.args.floor start port).turn; moment = m }) airport.windows.items airport.flights.items store c.fill_open.new.waiting c.fill_open.new.entered) moment
+      entered = subst (λ (es : List ℕ). AreEntered book marks (stand_at book c.args.asked.now.k c.args.floor start port) airport.windows.items airport.flights.items store c.fill_open.new.waiting es) (sym full)
+          (subst (λ (m : ℤ). AreEntered book marks (record { port = port; floor = c.args.floor; turn = (stand_at book c.args.asked.now.k c.args.floor start port).turn; moment = m }) airport.windows.items airport.flights.items store c.fill_open.new.waiting c.fill_open.new.entered) moment
           (subst (λ (t : ℤ). AreEntered book marks (record { port = port; floor = c.args.floor; turn = t; moment = to_z w64 (of_z w64 c.start_of.result) }) airport.windows.items airport.flights.items store c.fill_open.new.waiting c.fill_open.new.entered) turn entered));
     })

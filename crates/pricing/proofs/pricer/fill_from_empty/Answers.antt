@@ -9,5 +9,5 @@ returns-clause-closed c =
     let empty : List ℕ = [] in
     let nodes = c.in_ok-fill_by.ensures.wide.nodes ∙ ap (λ (s : StoreSeen). length s.buckets) c.clear.ensures
     ∙ length-replicate (length c.args.store.now.buckets) empty ∙ c.requires.nodes in
-    c.filled_stores_are_closed.ensures c.args.table.now c.args.book.now c.args.marks.now.facts c.args.k c.args.duals.now.values c.fill_by.new.store
+    c.filled_stores_are_closed.ensures c.args.asked.now.table.now c.args.asked.now.book.now c.args.asked.now.marks.now.facts c.args.asked.now.k c.args.asked.now.duals.now.values c.fill_by.new.store
     c.every_book_is_sound.ensures c.every_store_is_sound.ensures nodes c.in_ok-fill_by.ensures.state.truths c.in_ok-fill_by.ensures.filled

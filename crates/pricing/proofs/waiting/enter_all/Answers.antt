@@ -10,9 +10,9 @@ use Rattle.pricing.proofs.waiting.enter_all.Goals as goal
 pub loop-q-preserved : goal.loop-q-preserved
 loop-q-preserved c =
     let inv = c.loop-q.invariant in
-    let book = c.args.book.now in
+    let book = c.args.asked.now.book.now in
     let store = c.args.store.now in
-    let windows = c.args.windows.now in
+    let windows = c.args.lines.now.windows.now in
     let old = c.loop-q.waiting in
     let new = c.enter.new.waiting in
     let bucket = bucket_of store c.args.x in
@@ -20,9 +20,9 @@ loop-q-preserved c =
     record {
       waiting = c.in_ok-enter.ensures.waiting;
       joins = joins_trans c.args.i c.args.waiting.now old new inv.joins joins;
-      held = one_more (λ r. IsHeld book c.args.stand windows store new c.args.i c.args.x (get_or bucket r 0)) c.loop-q.q
-          (λ r lt. held_stays book c.args.stand windows store c.args.i c.args.i c.args.x (get_or bucket r 0) old new joins (inv.held r lt))
-          (subst (λ (j : ℕ). IsHeld book c.args.stand windows store new c.args.i c.args.x j) c.at-j.ensures.number c.in_ok-enter.ensures.held);
+      held = one_more (λ r. IsHeld book c.args.lines.now.stand windows store new c.args.i c.args.x (get_or bucket r 0)) c.loop-q.q
+          (λ r lt. held_stays book c.args.lines.now.stand windows store c.args.i c.args.i c.args.x (get_or bucket r 0) old new joins (inv.held r lt))
+          (subst (λ (j : ℕ). IsHeld book c.args.lines.now.stand windows store new c.args.i c.args.x j) c.at-j.ensures.number c.in_ok-enter.ensures.held);
       wide = wide_trans c.args.waiting.now.keys old.keys new.keys inv.wide c.in_ok-enter.ensures.wide;
     }
 
@@ -33,5 +33,5 @@ returns-clause-held c = λ j has.
     let (q, lt, is) = has in
     let below : q < c.loop-q.q = omega (arith, lt) in
     let here : get_or bucket q 0 ≡ j = sym (get_or_default bucket q j 0 lt) ∙ is in
-    subst (λ (m : ℕ). IsHeld c.args.book.now c.args.stand c.args.windows.now c.args.store.now c.loop-q.waiting c.args.i c.args.x m) here
+    subst (λ (m : ℕ). IsHeld c.args.asked.now.book.now c.args.lines.now.stand c.args.lines.now.windows.now c.args.store.now c.loop-q.waiting c.args.i c.args.x m) here
     (c.loop-q.invariant.held q below)

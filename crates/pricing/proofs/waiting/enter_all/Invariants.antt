@@ -7,8 +7,8 @@ use Rattle.pricing.proofs.waiting.enter_all.Given as goal
 -- the labels before place q are held
 abbrev pub invariant-loop-q : goal.invariant-loop-q
 invariant-loop-q l = record {
-  waiting : IsWaiting l.book l.marks.facts l.stand l.windows l.store l.waiting;
+  waiting : IsWaiting l.asked.book.now l.asked.marks.now.facts l.lines.stand l.lines.windows.now l.store l.waiting;
   joins : Joins l.i l.initial.waiting l.waiting;
-  held : (r : ℕ) → r < l.q → IsHeld l.book l.stand l.windows l.store l.waiting l.i l.x (get_or (bucket_of l.store l.x) r 0);
+  held : (r : ℕ) → r < l.q → IsHeld l.asked.book.now l.lines.stand l.lines.windows.now l.store l.waiting l.i l.x (get_or (bucket_of l.store l.x) r 0);
   wide : IsAsWide l.initial.waiting.keys l.waiting.keys;
 }
