@@ -3,7 +3,7 @@
 -- What was read so far is a front of the file's bytes. A piece is what stands right behind it, so both together are a
 -- front again. A read that gives no byte, though there is room for some, is at the end: then the front is the whole
 -- file, and so its first bytes up to the limit.
-use Rattle.std.proofs.Common.{◌≡◌, ◌∙◌, ℕ, ◌+◌, ◌-◌, ◌≤◌, ◌<◌, List, [], ◌++◌, Option, Some, None, IfSome, length, take, drop, refl, sym, arith, inl, inr, append_assoc, length-append, length-take-le}
+use Rattle.std.proofs.Common.{◌≡◌, ◌∙◌, ℕ, ◌+◌, ◌-◌, ◌≤◌, List, [], ◌++◌, Option, Some, None, IfSome, length, take, drop, sym, arith, append_assoc, length-append, length-take-le}
 use Rattle.std.proofs.lemmas.List.{append-nil, length-take, drop-drop, take_all, take-append-drop, take-take}
 use Rattle.tail_outside.specs.inside.Outside.{IsRead}
 

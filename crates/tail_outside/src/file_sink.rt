@@ -1,10 +1,12 @@
 //! A sink over one named file: each piece is appended there, and every other file stays as it is.
 
-ghost use Rattle.std.specs.Prelude.{◌≡◌, IsTrue};
+ghost use Rattle.std.specs.Prelude.{◌≡◌, false, IsErrOf, IsTrue, OnErr, OnOk};
+ghost use Rattle.tail_outside.specs.inside.Outside.{HoldsFront, OnlyWritten, WriteHasFailed, with_piece};
 
 use crate::{Fault, Files, Sink};
 
-/// A sink over one named file of some files, which it holds meanwhile. A file that isn't there yet has taken nothing.
+/// A sink over one named file of some files, which it holds meanwhile. It tells what the file holds, and nothing until the
+/// file is there.
 #[derive(Drop)]
 pub struct FileSink<'a, F: Files> {
     /// The files, among which the sink's is one.
@@ -36,7 +38,7 @@ impl<'a, F: Files> FileSink<'a, F> {
 impl<'a, F: Files> Sink for FileSink<'a, F> {
     ghost use Rattle.std.specs.Prelude.{◌≡◌, refl};
     ghost use Rattle.std.proofs.Common.{◌∙◌, ap};
-    ghost use Rattle.tail_outside.specs.inside.OverFile.{shown_over, told_over-ceased};
+    ghost use Rattle.tail_outside.specs.inside.OverFile.{shown_over};
     ghost use Rattle.tail_outside.specs.inside.Outside.{OnlyWritten, only_written_same, only_written_chains};
 
     ghost shows = { λ s. shown_over (F.shows s.files) s.name.now };
@@ -45,8 +47,7 @@ impl<'a, F: Files> Sink for FileSink<'a, F> {
     ghost beside = { λ a b. (b.name ≡ a.name)
         × OnlyWritten a.name.now (F.shows a.files) (F.shows b.files) };
 
-    ghost ceased_tells_nothing = { λ s gone.
-        told_over-ceased ((F.shows s.files).ceased s.name.now) ((F.shows s.files).holds s.name.now) gone };
+    ghost ceased_tells_nothing = { λ s gone. F.ceased_tells_nothing s.files s.name.now gone };
 
     ghost beside_same = { λ s. (refl, only_written_same s.name.now (F.shows s.files)) };
 
@@ -56,7 +57,20 @@ impl<'a, F: Files> Sink for FileSink<'a, F> {
           (ap (λ name. name.now) h.0) h.1 k.1,
     ) };
 
-    fn put(&mut self, piece: &[u8]) -> Result<(), Fault> {
+    fn put(&mut self, piece: &[u8]) -> Result<(), Fault>
+        ensures added { OnOk result ((F.shows self.new.files).ceased self.new.name.now ≡ false →
+            (F.shows self.new.files).holds self.new.name.now
+            ≡ with_piece ((F.shows self.old.files).holds self.old.name.now) piece.now) }
+        ensures front { OnErr result ((F.shows self.new.files).ceased self.new.name.now ≡ false →
+            HoldsFront ((F.shows self.old.files).holds self.old.name.now)
+            ((F.shows self.new.files).holds self.new.name.now) piece.now) }
+        ensures name { self.new.name ≡ self.old.name }
+        ensures only_written { OnlyWritten self.old.name.now (F.shows self.old.files) (F.shows self.new.files) }
+        ensures cause { IsErrOf result Fault.Failed →
+            WriteHasFailed (F.shows self.old.files) (F.shows self.new.files) }
+        ensures memory { IsErrOf result Fault.Memory →
+            (F.shows self.new.files).write_faults ≡ (F.shows self.old.files).write_faults }
+    {
         self.files.append(self.name, piece)
     }
 }

@@ -2,13 +2,13 @@
 -- that were read are fronts of those held, and the book of the fronts is that of the whole. Reading changes no file, so
 -- a file that stays as it was after the reading is as it was at first, and a certificate that is due for the fronts is
 -- due for the whole.
-use Rattle.std.proofs.Common.{◌≡◌, ◌∙◌, ◌⊎◌, inl, inr, ℕ, false, List, [], Option, Some, IfSome, Result, Ok, Err, sym, ap, subst}
-use Rattle.std.specs.Prelude.{IfOk, option_and_then, unwrap_or}
+use Rattle.std.proofs.Common.{◌≡◌, ◌∙◌, ◌⊎◌, inl, inr, ℕ, false, List, Option, Some, IfSome, Result, Ok, Err, sym, ap, subst}
+use Rattle.std.specs.Prelude.{IfOk, option_and_then}
 use Rattle.tail_outside.specs.Outside.{OnlyRead}
 use Rattle.tail_outside.specs.Shown.{FilesShown}
 use Rattle.run_frame.proofs.Fronts.{book_of-fronts}
 use Rattle.run_frame.proofs.Held.{whole}
-use Rattle.tailplan.specs.Answers.{HasFrontOfDue, cert_of}
+use Rattle.tailplan.specs.Answers.{HasFrontOfDue, HoldsText, cert_of}
 use Rattle.tailplan.specs.Kept.{LeavesCertificate}
 use Rattle.tailplan.specs.Tasks.{TaskNamesSeen, TaskSeen, task_held}
 use Rattle.tailplan.specs.Words.{run_of}
@@ -31,10 +31,13 @@ module _ (words : List (List ℕ)) (files read later : FilesShown) (names : Task
     still_due : (text : List ℕ) (all : TaskSeen) → HasFrontOfDue (task_fronts all) text → HasFrontOfDue all text
     still_due text all due = (due.0, sym (book_of-fronts all.tables) ∙ due.1, due.2)
 
+    still_held : (name : List ℕ) (all : TaskSeen) → HoldsText later name (HasFrontOfDue (task_fronts all)) → HoldsText later name (HasFrontOfDue all)
+    still_held name all held = (held.0, held.1, still_due held.0 all held.2)
+
     pub left_before : LeavesFile task read later → LeavesCertificate words files later
     left_before leaves name is alive =
         let named : task.cert ≡ Some name = cert ∙ sym cert_given ∙ is in
-        elim ((subst (λ (c : Option (List ℕ)). IfSome c (λ n. later.ceased n ≡ false → (later.holds n ≡ read.holds n) ⊎ HasFrontOfDue task (unwrap_or (later.holds n) []))) named leaves) alive) [
+        elim ((subst (λ (c : Option (List ℕ)). IfSome c (λ n. later.ceased n ≡ false → (later.holds n ≡ read.holds n) ⊎ HoldsText later n (HasFrontOfDue task))) named leaves) alive) [
           | inl stays ↦ inl (stays ∙ only.holds name)
-          | inr due ↦ inr (names, given, whole task_fronts (λ x. HasFrontOfDue x (unwrap_or (later.holds name) [])) (still_due (unwrap_or (later.holds name) [])) (task_held files names) task fronts due)
+          | inr due ↦ inr (names, given, whole task_fronts (λ x. HoldsText later name (HasFrontOfDue x)) (still_held name) (task_held files names) task fronts due)
         ]

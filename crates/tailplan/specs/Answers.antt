@@ -48,10 +48,13 @@ AreRefused task refusal = book_of task.tables.timetable task.tables.fleet task.t
 abbrev pub HasTree : BookSeen → Limit → Outcome → Type 0
 HasTree book limit outcome = (tree : SearchTree) × IsSearchTree (costs_of book) book limit outcome tree
 
+-- the file of this name is there, and P holds of its text
+abbrev pub HoldsText : FilesShown → List ℕ → (List ℕ → Type 0) → Type 0
+HoldsText files name P = (text : List ℕ) × (files.holds name ≡ Some text) × P text
+
 -- the file of this name holds a certificate of the outcome, where anything is told of it
 abbrev pub HoldsCertificate : FilesShown → BookSeen → Limit → Outcome → List ℕ → Type 0
-HoldsCertificate files book limit outcome name =
-    files.ceased name ≡ false → (text : List ℕ) × (files.holds name ≡ Some text) × IsCertificateOf book limit outcome text
+HoldsCertificate files book limit outcome name = files.ceased name ≡ false → HoldsText files name (IsCertificateOf book limit outcome)
 
 -- so does the certificate's file, where the task names one
 abbrev pub IsCertified : FilesShown → TaskSeen → BookSeen → Outcome → Type 0

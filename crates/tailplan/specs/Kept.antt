@@ -1,11 +1,11 @@
 -- What becomes of the files of a run: only the certificate's is written, and what it may then hold.
-use Rattle.std.specs.Prelude.{ℕ, ◌≡◌, ◌≢◌, ◌⊎◌, ◌≤◌, false, List, [], Option, None, Some, String, unwrap_or}
+use Rattle.std.specs.Prelude.{ℕ, ◌≡◌, ◌≢◌, ◌⊎◌, ◌≤◌, false, List, Option, None, Some, String}
 use Rattle.tail_book.specs.Faults.{HasRisen}
 use Rattle.tail_outside.specs.Outside.{OnlyRead, PieceHasFailed, SameNames}
 use Rattle.tail_outside.specs.Shown.{FilesShown, SinkShown}
 use Rattle.run_frame.specs.Spelled.{spelled}
 use Rattle.run_frame.specs.TableFiles.{AreGiven}
-use Rattle.tailplan.specs.Answers.{HasFrontOfDue, OfTask, cert_of}
+use Rattle.tailplan.specs.Answers.{HasFrontOfDue, HoldsText, OfTask, cert_of}
 
 -- what has not ceased now had not before
 abbrev pub StayCeased : FilesShown → FilesShown → Type 0
@@ -20,11 +20,11 @@ pub record OnlyCertificate (cert : Option (List ℕ)) (old new : FilesShown) : T
   pub reads : old.read_faults ≤ new.read_faults
   pub writes : old.write_faults ≤ new.write_faults
 
--- the file holds what it held, or a front of a certificate that was due; one that isn't there has no bytes
+-- the file holds what it held, or is there with a front of a certificate that was due
 abbrev pub LeavesCertificate : List (List ℕ) → FilesShown → FilesShown → Type 0
 LeavesCertificate words old new =
     (name : List ℕ) → cert_of words ≡ Some name → new.ceased name ≡ false
-    → (new.holds name ≡ old.holds name) ⊎ OfTask words old (λ task. HasFrontOfDue task (unwrap_or (new.holds name) []))
+    → (new.holds name ≡ old.holds name) ⊎ OfTask words old (λ task. HoldsText new name (HasFrontOfDue task))
 
 -- the words or a table were refused, or a read failed
 abbrev pub EndsBeforeSearch : ℕ → Type 0

@@ -1,5 +1,5 @@
 -- How a run ends: what was printed of its answer, and what becomes of the files by it.
-use Rattle.std.specs.Prelude.{ℕ, ◌≡◌, ⊤, Result, Ok, Err, List, [], Option, IfSome, unwrap_or, false, ◌⊎◌}
+use Rattle.std.specs.Prelude.{ℕ, ◌≡◌, ⊤, Result, Ok, Err, List, Option, IfSome, false, ◌⊎◌}
 use Rattle.tail_outside.specs.Outside.{OnlyRead}
 use Rattle.tail_outside.specs.Shown.{FilesShown, SinkShown}
 use Rattle.tail_text.specs.declared.refusal.Refusal.{Refusal}
@@ -9,7 +9,7 @@ use Rattle.tail_book.specs.Seen.{BookSeen}
 use Rattle.tail_book.specs.Truth.{IsTrueOutcome}
 use Rattle.branch_tree.specs.declared.limit.Limit.{Limit}
 use Rattle.certified_search.specs.Written.{IsFrontOfDue}
-use Rattle.tailplan.specs.Answers.{Answer, HasFrontOfDue, HasTree, HoldsCertificate, answer_text}
+use Rattle.tailplan.specs.Answers.{Answer, HasFrontOfDue, HasTree, HoldsCertificate, HoldsText, answer_text}
 use Rattle.tailplan.specs.Tasks.{TaskSeen}
 use Rattle.tailplan.specs.declared.answer.Solved.{Solved}
 use Rattle.tailplan.specs.declared.answered.Unwritten.{Unwritten}
@@ -30,7 +30,7 @@ KeepsFiles old new Memory = ⊤
 
 -- where the task names a certificate's file, it holds what it held or a front of what was due
 abbrev pub LeavesFile : TaskSeen → FilesShown → FilesShown → Type 0
-LeavesFile task old new = IfSome task.cert (λ name. new.ceased name ≡ false → (new.holds name ≡ old.holds name) ⊎ HasFrontOfDue task (unwrap_or (new.holds name) []))
+LeavesFile task old new = IfSome task.cert (λ name. new.ceased name ≡ false → (new.holds name ≡ old.holds name) ⊎ HoldsText new name (HasFrontOfDue task))
 
 -- what is planned: a book, under a limit, with or without a certificate
 pub record Planned : Type 0 where
@@ -51,4 +51,4 @@ IsPlanned later planned solved =
 -- the file holds what it held, or a front of what was due of the book
 abbrev pub LeavesPlanned : Planned → FilesShown → FilesShown → Type 0
 LeavesPlanned planned old new =
-    IfSome planned.cert (λ name. new.ceased name ≡ false → (new.holds name ≡ old.holds name) ⊎ IsFrontOfDue planned.book planned.limit (unwrap_or (new.holds name) []))
+    IfSome planned.cert (λ name. new.ceased name ≡ false → (new.holds name ≡ old.holds name) ⊎ HoldsText new name (IsFrontOfDue planned.book planned.limit))

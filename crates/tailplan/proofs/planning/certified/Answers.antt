@@ -1,5 +1,4 @@
-use Rattle.std.proofs.Common.{[], Result, IfOk, inr, refl, ap, subst}
-use Rattle.std.specs.Prelude.{unwrap_or}
+use Rattle.std.proofs.Common.{Result, IfOk, inr, refl, ap, subst}
 use Rattle.tail_book.specs.Truth.{IsTrueOutcome}
 use Rattle.tail_book.specs.declared.outcome.Outcome.{Outcome}
 use Rattle.tail_book.specs.CostTable.{costs_of}
@@ -7,7 +6,7 @@ use Rattle.tail_outside.specs.inside.OverFile.{shown_over}
 use Rattle.branch_tree.specs.SearchTree.{IsSearchTree, SearchTree}
 use Rattle.node_leaves.specs.declared.stop.Stop.{Stop}
 use Rattle.certified_search.specs.Written.{IsCertificateOf, LeavesText}
-use Rattle.tailplan.proofs.Holding.{certificate_front, certificate_held, held_by}
+use Rattle.tailplan.proofs.Holding.{certificate_front, held_by}
 use Rattle.tailplan.proofs.planning.certified.Goals as goal
 
 -- the file holds the certificate of the outcome
@@ -23,7 +22,7 @@ returns-in-Ok-found-clause-answer g c =
     (g.F.Files.shows c.begin.new.self) old new (g.F.Files.shows c.into_files-files.result)
     (ap (λ name. name.now) c.new-sink.ensures.name) (ap (λ name. name.now) run.ensures.beside.0) (ap (λ files. g.F.Files.shows files) c.new-sink.ensures.files)
     (ap (λ files. g.F.Files.shows files) c.into_files-files.ensures) c.in-Ok.ensures.empty run.ensures.beside.1 leaves in
-    (refl, truth, tree, certificate_held book c.args.limit outcome c.args.name.now (g.F.Files.shows c.into_files-files.result) held)
+    (refl, truth, tree, held)
 
 pub returns-in-Ok-found-clause-left : goal.returns-in-Ok-found-clause-left
 returns-in-Ok-found-clause-left g c = λ alive.
@@ -35,4 +34,4 @@ returns-in-Ok-found-clause-left g c = λ alive.
     (g.F.Files.shows c.begin.new.self) old new (g.F.Files.shows c.into_files-files.result)
     (ap (λ name. name.now) c.new-sink.ensures.name) (ap (λ name. name.now) run.ensures.beside.0) (ap (λ files. g.F.Files.shows files) c.new-sink.ensures.files)
     (ap (λ files. g.F.Files.shows files) c.into_files-files.ensures) c.in-Ok.ensures.empty run.ensures.beside.1 leaves in
-    inr (certificate_front book c.args.limit outcome (unwrap_or ((g.F.Files.shows c.into_files-files.result).holds c.args.name.now) []) (held alive))
+    inr (certificate_front book c.args.limit outcome c.args.name.now (g.F.Files.shows c.into_files-files.result) (held alive))

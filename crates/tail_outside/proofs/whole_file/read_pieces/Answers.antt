@@ -1,8 +1,8 @@
-use Rattle.std.proofs.Common.{◌≡◌, ◌≤◌, ◌∙◌, ◌+◌, ◌-◌, ◌++◌, IfSome, arith, rules, length, take, true}
+use Rattle.std.proofs.Common.{◌≡◌, ◌≤◌, ◌∙◌, ◌-◌, ◌++◌, IfSome, arith, rules, length, take, true}
 use Rattle.std.specs.Result.{is_ok}
 use Rattle.tail_outside.specs.inside.Outside.{IsRead, only_read_chains}
 use Rattle.tail_outside.proofs.ReadLemmas.{read-piece, read-within}
-use Rattle.tail_outside.proofs.reading.read_pieces.Goals as goal
+use Rattle.tail_outside.proofs.whole_file.read_pieces.Goals as goal
 
 -- what was read stands behind what had been read
 pub pieces-preserved : goal.pieces-preserved

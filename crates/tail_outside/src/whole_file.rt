@@ -22,7 +22,7 @@ pub enum ReadFail {
 }
 
 impl From<Failed> for ReadFail {
-    ghost use Rattle.tail_outside.specs.declared.reading.ReadFail.TheVariants.{Failed as ReadFailed};
+    ghost use Rattle.tail_outside.specs.declared.whole_file.ReadFail.TheVariants.{Failed as ReadFailed};
 
     ghost from_gives = { λ _ e. e ≡ ReadFailed };
 

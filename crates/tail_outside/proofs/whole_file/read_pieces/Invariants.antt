@@ -1,6 +1,6 @@
 use Rattle.std.proofs.Common.{◌≡◌, ◌≤◌, ◌-◌, ◌++◌, length, drop, IfSome, IsTrue}
 use Rattle.tail_outside.specs.Outside.{OnlyRead}
-use Rattle.tail_outside.proofs.reading.read_pieces.Given as goal
+use Rattle.tail_outside.proofs.whole_file.read_pieces.Given as goal
 
 -- the file begins with the bytes read so far, and files were only read
 abbrev pub invariant-pieces : goal.invariant-pieces
