@@ -12,7 +12,7 @@ use std::marker::Model;
 use tail_book::Memory;
 
 /// A set of pairs of a row and a column. Contracts see the numbers of rows and columns and the words of bits.
-#[derive(Drop)]
+#[derive(Debug, Drop)]
 pub struct BitRows {
     rows: usize,
     columns: usize,

@@ -5,7 +5,7 @@
 use crate::{Fact, Pair, Row};
 
 /// A step of a tree, or a part of a leaf.
-#[derive(Clone, Copy, PartialEq, Eq)]
+#[derive(Clone, Copy, PartialEq, Eq, Debug)]
 pub enum Event {
     /// A fact that follows from the marks.
     Fact(Fact),

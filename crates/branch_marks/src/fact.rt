@@ -45,7 +45,7 @@ impl Fact {
 }
 
 /// What a split decides: whether an aircraft flies an activity, or whether an activity comes directly after another.
-#[derive(Clone, Copy, PartialEq, Eq)]
+#[derive(Clone, Copy, PartialEq, Eq, Debug)]
 pub enum Pair {
     /// An aircraft and an activity.
     Fly(u32, u32),

@@ -11,7 +11,7 @@ use std::alloc::Global;
 use tail_book::Memory;
 
 /// What facts name: nothing, one number, or several that differ.
-#[derive(Clone, Copy, PartialEq, Eq)]
+#[derive(Clone, Copy, PartialEq, Eq, Debug)]
 pub enum Named {
     Nothing,
     One(u32),

@@ -14,7 +14,7 @@ use std::marker::Model;
 use tail_book::limits::COUNTER_LIMIT;
 
 /// At most six numbers, one for each counter of a book. Contracts see the list of them.
-#[derive(Clone, Copy)]
+#[derive(Clone, Copy, Debug)]
 pub struct Row {
     count: u8,
     values: [i64; COUNTER_LIMIT],

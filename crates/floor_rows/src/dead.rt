@@ -13,8 +13,8 @@ ghost use Rattle.floor_rows.specs.inside.FloorRow.{floor_in, IsRowOf};
 ghost use Rattle.floor_rows.specs.inside.LeastOver.{floor_of};
 
 use crate::floor_row::FloorRow;
-use crate::going::{goes_on, goes_on_over};
 use crate::laws::successors_tell;
+use crate::link_steps::{goes_on, goes_on_over};
 use branch_marks::Marks;
 use branch_marks::laws::usable_decides;
 use connection_net::Net;

@@ -3,10 +3,10 @@
 //! All values stand in one list, a row for each activity, with a flag beside it that says whether there is a floor: at
 //! most 4,000 rows of six values. A floor is lowered in place, and nothing is allocated once the lists are made.
 
-ghost use Rattle.std.specs.Prelude.{◌≡◌, ◌≢◌, ◌<◌, ◌≤◌, ◌+◌, ◌*◌, ◌++◌, IsTrue, IfOk, Option, None, Some, is_some, false, if◌then◌else◌, length, replicate, slice_index_or, slice_set, take, drop, slice_range};
-ghost use Rattle.branch_marks.specs.Floors.{lesser, lesser_floor};
+ghost use Rattle.std.specs.Prelude.{◌≡◌, ◌≢◌, ◌<◌, ◌≤◌, ◌+◌, ◌*◌, ◌++◌, IsTrue, IfOk, Option, None, Some, is_some, false, if◌then◌else◌, length, replicate, slice_index_or, slice_set, take, drop};
+ghost use Rattle.branch_marks.specs.Floors.{lesser};
 ghost use Rattle.maint_counters.specs.inside.Counts.{AreCounts};
-ghost use Rattle.floor_rows.specs.inside.FloorRow.{kept_floors, IsFloorRow};
+ghost use Rattle.floor_rows.specs.inside.FloorRow.{kept_floors, lowered_at, lowered_from, IsFloorRow};
 
 use std::alloc::Global;
 use std::marker::Model;
@@ -52,7 +52,7 @@ fn lower_each(part: &mut [i64], row: &[i64])
 // Lowers the values from a place on to those of a row, where these are less.
 fn lower(values: &mut [i64], from: usize, row: &[i64])
     requires { from + length row.now ≤ length values.old }
-    ensures { values.new ≡ take from values.old ++ lesser (slice_range values.old from (from + length row.now)) row.now ++ drop (from + length row.now) values.old }
+    ensures { values.new ≡ lowered_from from row.now values.old }
 {
     let part = &mut values[from..from + row.len()];
     lower_each(part, row);
@@ -96,7 +96,7 @@ fn lower_row(width: usize, known: &mut [bool], values: &mut [i64], b: usize, row
     requires width { length row.now ≡ width }
     requires range { AreCounts row.now }
     ensures row { IsFloorRow width known.new values.new }
-    ensures value { kept_floors width known.new values.new ≡ slice_set (kept_floors width known.old values.old) b (lesser_floor (slice_index_or (kept_floors width known.old values.old) b None) (Some row.now)) }
+    ensures value { kept_floors width known.new values.new ≡ lowered_at b row.now (kept_floors width known.old values.old) }
 {
     let from = b * width;
     if known[b] {
@@ -189,7 +189,7 @@ impl FloorRow {
         requires place { b < length self.old.floors }
         requires width { length row.now ≡ self.old.width }
         requires range { AreCounts row.now }
-        ensures { self.new ≡ record self.old { floors = slice_set self.old.floors b (lesser_floor (slice_index_or self.old.floors b None) (Some row.now)) } }
+        ensures { self.new ≡ record self.old { floors = lowered_at b row.now self.old.floors } }
     {
         lower_row(self.width, &mut self.known, &mut self.values, b, row);
     }

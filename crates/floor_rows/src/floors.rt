@@ -14,10 +14,10 @@ ghost use Rattle.floor_rows.specs.inside.FloorRow.{floor_in, IsSetAt, IsRowOf};
 ghost use Rattle.floor_rows.specs.inside.LeastOver.{floor_of, brought_first, brought};
 
 use crate::floor_row::FloorRow;
-use crate::going::goes_to;
 use crate::laws::{
     floors_are_least, no_floor_without, predecessors_bring_all, predecessors_come_before,
 };
+use crate::link_steps::goes_to;
 use branch_marks::Marks;
 use branch_marks::laws::lesser_in_any_order;
 use connection_net::Net;

@@ -4,10 +4,10 @@
 mod dead;
 mod floor_row;
 mod floors;
-mod going;
 pub mod laws;
+mod link_steps;
 
 pub use dead::{is_dead, may_go_over};
 pub use floor_row::FloorRow;
 pub use floors::{put_floor, put_floors};
-pub use going::{goes_on, goes_on_over, goes_on_to, goes_to};
+pub use link_steps::{goes_on, goes_on_over, goes_on_to, goes_to};

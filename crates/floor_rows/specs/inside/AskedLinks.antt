@@ -18,4 +18,5 @@ pub record AreAsked (book : BookSeen) (marks : List Fact) (a b n : ℕ) (used : 
 -- the law of asking: at first nobody has been asked, and who is not alive at the first activity need not be
 pub record AskingPassesOver (book : BookSeen) (marks : List Fact) (a b : ℕ) : Type 0 where
   pub nobody : AreAsked book marks a b 0 false
-  pub over : (n m : ℕ) (used : Bool) → ((k : ℕ) → n ≤ k → k < m → is_alive book marks k a ≡ false) → AreAsked book marks a b n used → AreAsked book marks a b m used
+  pub over : (n m : ℕ) (used : Bool) → ((k : ℕ) → n ≤ k → k < m → is_alive book marks k a ≡ false)
+      → AreAsked book marks a b n used → AreAsked book marks a b m used

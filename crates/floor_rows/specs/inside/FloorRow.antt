@@ -1,8 +1,9 @@
 -- The floors of one aircraft as two flat lists: whether there is a floor, and its values.
-use Rattle.std.specs.Prelude.{ℕ, ℤ, ◌≡◌, ◌≢◌, ◌*◌, ◌≤◌, ⊤, List, [], ◌∷◌, Bool, Option, None, Some, All, if◌then◌else◌, length, take, drop, slice_index_or}
+use Rattle.std.specs.Prelude.{ℕ, ℤ, ◌≡◌, ◌≢◌, ◌+◌, ◌*◌, ◌≤◌, ⊤, List, [], ◌∷◌, ◌++◌, Bool, Option, None, Some, All, if◌then◌else◌, length, take, drop, slice_index_or, slice_range, slice_set}
 use Rattle.tail_book.specs.Seen.{BookSeen}
 use Rattle.tail_book.specs.Lookup.{activities}
 use Rattle.maint_counters.specs.inside.Counts.{AreCounts}
+use Rattle.branch_marks.specs.Floors.{lesser, lesser_floor}
 
 -- what contracts see of the floors: how many values each has, and for each activity its floor or none
 pub record FloorRowSeen : Type 0 where
@@ -25,6 +26,15 @@ pub record IsFloorRow (width : ℕ) (flags : List Bool) (values : List ℤ) : Ty
   pub few : length flags ≤ 4096
   pub narrow : width ≤ 6
   pub kept : All (IsKept width) (kept_floors width flags values)
+
+-- the values, from a place on lowered to those of a row where these are less
+abbrev pub lowered_from : ℕ → List ℤ → List ℤ → List ℤ
+lowered_from from row values =
+    take from values ++ lesser (slice_range values from (from + length row)) row ++ drop (from + length row) values
+
+-- the floors, where that of b is lowered to these values, or they are made its floor
+abbrev pub lowered_at : ℕ → List ℤ → List (Option (List ℤ)) → List (Option (List ℤ))
+lowered_at b row floors = slice_set floors b (lesser_floor (slice_index_or floors b None) (Some row))
 
 -- the floor of a number in a row
 abbrev pub floor_in : FloorRowSeen → ℕ → Option (List ℤ)

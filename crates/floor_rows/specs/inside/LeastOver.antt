@@ -49,6 +49,7 @@ NoFloorWithout = (book : BookSeen) (marks : List Fact) (k b : ℕ) → b < activ
 pub record BroughtTells : Type 0 where
   pub unusable : (book : BookSeen) (marks : List Fact) (k : ℕ) (x : Place) (b : ℕ) (floor : Option (List ℤ))
       → is_usable book marks k x b ≡ false → stepped_floor book marks k x b floor ≡ None
-  pub without : (book : BookSeen) (marks : List Fact) (k b : ℕ) (floor : ℕ → Option (List ℤ)) → is_alive book marks k b ≡ false → least_at book marks k floor b ≡ None
+  pub without : (book : BookSeen) (marks : List Fact) (k b : ℕ) (floor : ℕ → Option (List ℤ))
+      → is_alive book marks k b ≡ false → least_at book marks k floor b ≡ None
   pub same : (book : BookSeen) (old new : List Fact) (k b : ℕ) (f g : ℕ → Option (List ℤ)) → brought_first book new k b ≡ brought_first book old k b
       → ((x : ℕ) → x < b → brought book new k b g x ≡ brought book old k b f x) → least_at book new k g b ≡ least_at book old k f b

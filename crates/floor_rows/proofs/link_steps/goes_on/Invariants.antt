@@ -2,7 +2,7 @@ use Rattle.std.proofs.Common.{◌≡◌, ℤ, List, drop, Some}
 use Rattle.std.specs.List.{list_any}
 use Rattle.floor_rows.specs.inside.FloorRow.{floor_in}
 use Rattle.floor_rows.specs.inside.Neighbours.{goes_on_from, goes_on_to}
-use Rattle.floor_rows.proofs.going.goes_on.Given as goal
+use Rattle.floor_rows.proofs.link_steps.goes_on.Given as goal
 
 -- the successors that are left decide
 abbrev pub invariant-loop-b : goal.invariant-loop-b
