@@ -12,7 +12,7 @@ use Rattle.propagator.specs.InTurn.{WaitInTurn}
 use Rattle.dive_heuristic.specs.declared.answer.DiveStep.{DiveStep}
 use Rattle.dive_heuristic.specs.declared.answer.DiveStep.TheVariants.{Chosen, Forced}
 use Rattle.dive_heuristic.specs.Dive.{AreSteps, StepsWait, fact_of, marks_after}
-use Rattle.dive_heuristic.specs.inside.Going.{AreForced, GoesOn}
+use Rattle.dive_heuristic.specs.inside.DiveSteps.{AreForced, GoesOn}
 
 -- the facts of forced steps
 facts_of_forced : (facts : List Fact) → map fact_of (map Forced facts) ≡ facts

@@ -19,9 +19,9 @@ use Rattle.dive_heuristic.specs.declared.answer.DiveStep.TheVariants.{Chosen}
 use Rattle.dive_heuristic.specs.Choice.{IsChoice}
 use Rattle.dive_heuristic.specs.LeastRoutes.{AreLeastRoutes, IsEachInOne}
 use Rattle.dive_heuristic.specs.Dive.{AreSteps, StepsWait, DiveEnd, IsEnd, IsDive, HasNoHole, marks_after}
-use Rattle.dive_heuristic.specs.inside.Going.{AreForced, GoesOn, StandsAt}
-use Rattle.dive_heuristic.specs.declared.renewing.Found.{Found}
-use Rattle.dive_heuristic.specs.declared.renewing.Found.TheVariants as found
+use Rattle.dive_heuristic.specs.inside.DiveSteps.{AreForced, GoesOn, StandsAt}
+use Rattle.dive_heuristic.specs.declared.least_routes.Found.{Found}
+use Rattle.dive_heuristic.specs.declared.least_routes.Found.TheVariants as found
 use Rattle.dive_heuristic.specs.inside.Kept.{FitsWithFewer, AreFound, HasBegun}
 use Rattle.dive_heuristic.specs.inside.Laws.{MoreFactsLeaveNoMore}
 use Rattle.dive_heuristic.proofs.Forced.{go_forced, go_both}

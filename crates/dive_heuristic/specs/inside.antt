@@ -1,5 +1,5 @@
 -- What only proofs, and calls further in, cite.
 pub mod Flown
-pub mod Going
+pub mod DiveSteps
 pub mod Kept
 pub mod Laws

@@ -2,16 +2,16 @@
 #![tactic(auto)]
 
 mod answer;
-mod carrying;
-mod choosing;
+mod carrier;
+mod descent;
+mod dive_choice;
+mod dive_steps;
 mod diver;
-mod diving;
-mod going;
 pub mod laws;
-mod renewing;
+mod least_routes;
 mod tally;
 
 pub use answer::{DeadEnd, Dive, DiveStep};
-pub use choosing::choice;
+pub use descent::dive;
+pub use dive_choice::choice;
 pub use diver::Diver;
-pub use diving::dive;

@@ -9,11 +9,11 @@ use Rattle.tail_book.specs.Route.{IsLegalRoute}
 use Rattle.branch_marks.specs.declared.fact.Fact.{Fact}
 use Rattle.branch_marks.specs.Marks.{Fits}
 use Rattle.branch_marks.specs.Weights.{weight, WeighsAtLeast}
-use Rattle.dive_heuristic.specs.declared.renewing.Found.{Found}
-use Rattle.dive_heuristic.specs.declared.renewing.Found.TheVariants as found
+use Rattle.dive_heuristic.specs.declared.least_routes.Found.{Found}
+use Rattle.dive_heuristic.specs.declared.least_routes.Found.TheVariants as found
 use Rattle.dive_heuristic.specs.LeastRoutes.{IsLeastRoute, AreLeastRoutes}
 use Rattle.dive_heuristic.specs.Dive.{IsDeadEnd}
-use Rattle.dive_heuristic.specs.inside.Going.{StandsAt}
+use Rattle.dive_heuristic.specs.inside.DiveSteps.{StandsAt}
 
 -- the route is legal for aircraft k, and no legal route of k that fits weighs less; whether it fits itself is not said
 pub record IsLowRoute (table : CostTableSeen) (book : BookSeen) (marks : List Fact) (k : ℕ) (duals : List ℤ) (route : List ℕ) : Type 0 where
