@@ -49,7 +49,7 @@ const PATIENCE: u32 = 2;
 const COOLINGS: u32 = 32;
 
 /// What an ascent keeps between rounds. Contracts see the best duals that were priced, and their sum.
-#[derive(Debug, Drop)]
+#[derive(Drop)]
 pub struct Ascent {
     powers: Powers,
     mixture: Mixture,

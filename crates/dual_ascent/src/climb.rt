@@ -17,7 +17,7 @@ use tail_book::{Book, CostTable, Duals, Memory};
 const MANY: usize = 800;
 
 /// How far duals may go.
-#[derive(Clone, Copy, Debug)]
+#[derive(Clone, Copy)]
 pub struct Limits<'a> {
     /// The duals that are trusted, and how far from them, in thousandths of a cost unit.
     pub center: &'a [i64],

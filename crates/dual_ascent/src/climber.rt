@@ -15,7 +15,7 @@ use std::alloc::Global;
 use tail_book::{Book, CostTable, Duals, Memory};
 
 /// What climbs keep from one to the next: room, and a table of powers.
-#[derive(Debug, Drop)]
+#[derive(Drop)]
 pub struct Climber {
     powers: Powers,
     mixture: Mixture,

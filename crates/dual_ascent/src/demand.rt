@@ -7,7 +7,7 @@
 use crate::powers::{OCTAVE, Powers};
 
 /// The share of an aircraft's mixture that has the activity.
-#[derive(Clone, Copy, Debug)]
+#[derive(Clone, Copy)]
 pub struct Share {
     /// As a part of `WHOLE`.
     pub part: u64,

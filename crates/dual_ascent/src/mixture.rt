@@ -8,7 +8,7 @@
 use crate::demand::{Share, part_of, rise};
 use crate::groups::{Groups, Member};
 use crate::powers::{OCTAVE, ONE, Powers};
-use restricted_master::Pool;
+use restricted_master::{Pool, number_of};
 use std::alloc::Global;
 use tail_book::Memory;
 
@@ -39,7 +39,7 @@ const STILL: u64 = 100;
 const RESTS: u32 = 2;
 
 // A route that takes part: its aircraft, its weight in thousandths of a cost unit, and its mass.
-#[derive(Clone, Copy, Debug)]
+#[derive(Clone, Copy)]
 struct Mixed {
     owner: u32,
     weight: i64,
@@ -47,7 +47,7 @@ struct Mixed {
 }
 
 // Where the routes of an aircraft lie, from which weight their masses are measured, and what these sum to.
-#[derive(Clone, Copy, Debug)]
+#[derive(Clone, Copy)]
 struct Owner {
     first: usize,
     end: usize,
@@ -57,7 +57,7 @@ struct Owner {
 
 // How weights become exponents: so many thousandths of a cost unit above the base a route has no mass, and a thousandth is
 // so many parts of an octave, times two to the power of `PART_BITS`.
-#[derive(Clone, Copy, Debug)]
+#[derive(Clone, Copy)]
 struct Scale {
     reach: i64,
     parts: i64,
@@ -73,7 +73,7 @@ fn scale_at(temperature: i64) -> Scale {
 }
 
 /// The mixtures of all aircraft at a temperature.
-#[derive(Debug, Drop)]
+#[derive(Drop)]
 pub struct Mixture {
     temperature: i64,
     scale: Scale,
@@ -185,7 +185,7 @@ impl Mixture {
             if self.weights[i] <= least.saturating_add(reach) {
                 self.owned.push(Member {
                     group,
-                    thing: (i % (1 << 32)) as u32,
+                    thing: number_of(i),
                 })?;
             }
         }
@@ -340,7 +340,7 @@ fn mix(
     weight: i64,
     route: &[u32],
 ) -> Result<(), Memory> {
-    let thing = (mixed.len() % (1 << 32)) as u32;
+    let thing = number_of(mixed.len());
     mixed.push(Mixed {
         owner,
         weight,

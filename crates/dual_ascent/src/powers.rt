@@ -25,7 +25,7 @@ const MOST: i64 = 16 * OCTAVE;
 const RATIO: u64 = 2_148_937_775;
 
 /// The powers of one octave, from that of 0 to that of 1,024.
-#[derive(Debug, Drop)]
+#[derive(Drop)]
 pub struct Powers {
     octave: Vec<u64>,
 }

@@ -2,7 +2,7 @@
 //! covers it, and then nothing has changed.
 
 /// The answer to an offer. Rows are numbered from 0 in the order in which they were kept.
-#[derive(Clone, Copy, PartialEq, Eq, Debug)]
+#[derive(Clone, Copy, PartialEq, Eq)]
 pub enum Offered {
     /// The row is kept, under this number.
     Kept(usize),

@@ -23,11 +23,11 @@ pub struct Rows {
 impl Model for Rows {
     ghost use Rattle.std.specs.Prelude.{length};
     ghost use Rattle.label_store.specs.Seen.{RowsSeen};
-    ghost use Rattle.label_store.specs.inside.RowsParts.{rows_in, AreRows};
+    ghost use Rattle.label_store.specs.inside.RowsParts.{rows_seen, AreRows};
 
     ghost Value = { RowsSeen };
 
-    ghost view = { λ r. record { width = r.width; rows = rows_in r.width (length r.nodes.items) r.values.items; parents = r.parents.items; nodes = r.nodes.items } };
+    ghost view = { rows_seen };
 
     ghost invariant = { λ r. AreRows r.width (length r.nodes.items) r.values.items r.parents.items };
 }

@@ -45,10 +45,14 @@ abbrev pub as_activity : List Met → List ℕ → Option ℕ → Met
 as_activity met id None = Unknown id
 as_activity met id (Some a) = if contains (activities_met met) a then Twice id else Activity a
 
+-- the names that were met, and behind them an id
+abbrev pub with_id : BookSeen → List Met → List ℕ → List Met
+with_id book met id = met ++ as_activity met id (activity_named book id) ∷ []
+
 -- the names that were met, and behind them the ids of a line
 unfoldable pub with_ids : BookSeen → List Met → List (List ℕ) → List Met
 with_ids book met [] = met
-with_ids book met (id ∷ ids) = with_ids book (met ++ as_activity met id (activity_named book id) ∷ []) ids
+with_ids book met (id ∷ ids) = with_ids book (with_id book met id) ids
 
 -- the names that were met, and behind them an aircraft, with its ids only where it is met for the first time (as an activity no aircraft is met)
 abbrev pub with_tail : BookSeen → List Met → Met → List (List ℕ) → List Met

@@ -11,7 +11,7 @@ use std::alloc::Global;
 use tail_book::{Memory, Place};
 
 /// An activity of a route, with its aircraft and the place before it. Aircraft and activity are numbers in the book.
-#[derive(Clone, Copy, PartialEq, Eq, Debug)]
+#[derive(Clone, Copy, PartialEq, Eq)]
 pub struct Leg {
     pub tail: u32,
     pub from: Place,

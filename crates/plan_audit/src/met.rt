@@ -5,7 +5,7 @@
 use tail_book::Name;
 
 /// A name of a plan as it is met. Aircraft and activities are numbers in the book.
-#[derive(Clone, Copy, PartialEq, Eq, Debug)]
+#[derive(Clone, Copy, PartialEq, Eq)]
 pub enum Met {
     /// Nothing has the name.
     Unknown(Name),

@@ -7,7 +7,7 @@ ghost use Rattle.plan_audit.specs.inside.BookNames.{AreBookNames};
 ghost use Rattle.plan_audit.specs.inside.MetNames.{AreMetNamesOf};
 ghost use Rattle.tail_book.specs.Lookup.{activities, aircraft};
 ghost use Rattle.plan_audit.specs.inside.Met.{IsMetOf, IsDropped};
-ghost use Rattle.plan_audit.specs.Met.{as_tail, as_activity, activity_named, tail_named, with_ids, with_line, with_lines, names_met};
+ghost use Rattle.plan_audit.specs.Met.{as_tail, as_activity, activity_named, tail_named, with_id, with_ids, with_line, with_lines, names_met};
 
 use crate::book_names::{BookNames, names_of, number_of};
 use crate::met::Met;
@@ -121,7 +121,7 @@ fn meet_activity(names: &BookNames, id: Name, met_names: &MetNames) -> Met
 fn read_id(names: &BookNames, id: Name, met_names: &mut MetNames) -> Result<(), Memory>
     requires names { AreBookNames names.now }
     requires met_names { AreMetNamesOf names.now.book.now met_names.old }
-    ensures reads { IfOk result (λ _. met_names.new.met.items ≡ met_names.old.met.items ++ as_activity met_names.old.met.items id (activity_named names.now.book.now id) ∷ []) }
+    ensures reads { IfOk result (λ _. met_names.new.met.items ≡ with_id names.now.book.now met_names.old.met.items id) }
     ensures met_names { IfOk result (λ _. AreMetNamesOf names.now.book.now met_names.new) }
 {
     match meet_activity(names, id, met_names) {

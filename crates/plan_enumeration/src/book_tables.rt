@@ -11,7 +11,7 @@ use tail_book::{Book, CostTable, Memory};
 use turn_rules::PermissionTable;
 
 /// What activities and connections cost, and who may fly what.
-#[derive(Debug, Drop)]
+#[derive(Drop)]
 pub struct BookTables {
     pub costs: CostTable,
     pub permissions: PermissionTable,

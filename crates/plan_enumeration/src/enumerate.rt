@@ -31,7 +31,7 @@ use turn_rules::link_by;
 
 /// The best assignment so far: for each activity the aircraft that flies it, and its cost in cost units. Neither means
 /// anything before one is found.
-#[derive(Debug, Drop)]
+#[derive(Drop)]
 pub struct Best {
     pub found: bool,
     pub cost: u64,
@@ -40,7 +40,7 @@ pub struct Best {
 
 /// Where the enumeration stands: who flies the activities that are assigned, where each aircraft is after them, and
 /// the counters after each of them, a row for an activity.
-#[derive(Debug, Drop)]
+#[derive(Drop)]
 pub struct Trial {
     pub fliers: Vec<u32>,
     pub places: Vec<Place>,
@@ -48,7 +48,7 @@ pub struct Trial {
 }
 
 /// What it costs an aircraft to go on with the next activity, in cost units, and the place that it goes on from.
-#[derive(Debug, Drop)]
+#[derive(Drop)]
 pub struct Advance {
     pub from: Place,
     pub cost: u64,

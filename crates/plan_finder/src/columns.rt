@@ -19,7 +19,7 @@ use crate::problem::Problem;
 use branch_marks::Marks;
 use maint_counters::is_legal_route;
 use pool_plans::Weights;
-use restricted_master::{Pool, PoolAdd};
+use restricted_master::{Pool, PoolAdd, number_of};
 use route_search::{Found, RouteSearch, Suggestions};
 use std::alloc::Global;
 use tail_book::laws::{every_book_is_sound, legal_routes_rise};
@@ -262,7 +262,7 @@ impl Columns {
         ensures columns { AreColumns problem.now self.new }
     {
         for k in 0..routes.len() {
-            let (number, route) = ((k % (1 << 32)) as u32, &routes[k]);
+            let (number, route) = (number_of(k), &routes[k]);
             self.add(alloc, problem, marks, number, &route.0)?;
         }
         Ok(())

@@ -8,7 +8,7 @@
 
 mod columns;
 mod copying;
-mod finding;
+mod finder;
 mod ground;
 mod judging;
 mod ladder;
@@ -20,6 +20,6 @@ mod restarting;
 mod soft_dive;
 mod window;
 
-pub use finding::{Sought, exchange, find_by_dives};
+pub use finder::{Sought, exchange, find_by_dives};
 pub use mending::{Given, mend};
 pub use problem::Problem;

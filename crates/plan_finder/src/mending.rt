@@ -11,7 +11,7 @@ ghost use Rattle.plan_finder.specs.Finding.{IsFittingPlan};
 ghost use Rattle.plan_finder.specs.Problem.{IsProblem};
 
 use crate::columns::Columns;
-use crate::finding::{Sought, add_all};
+use crate::finder::{Sought, add_all};
 use crate::ground::Ground;
 use crate::judging::judge;
 use crate::problem::Problem;

@@ -20,7 +20,7 @@ use crate::problem::Problem;
 use branch_marks::Marks;
 use dual_ascent::Climber;
 use pool_plans::{ALL, Lead, Slice, SoftPlan, WHOLE, Weights, fix, leads_of};
-use restricted_master::Pool;
+use restricted_master::{Pool, number_of};
 use std::alloc::Global;
 use tail_book::laws::every_book_is_sound;
 use tail_book::{Duals, Memory};
@@ -273,7 +273,7 @@ impl Dive {
     {
         let book = problem.book;
         every_book_is_sound(book);
-        let number = (k % (1 << 32)) as u32;
+        let number = number_of(k);
         if number as usize >= book.tails.len() {
             return Ok(false);
         }
@@ -362,7 +362,7 @@ impl Dive {
         };
         let more = self.more();
         if let Some(Some(lead)) = leads.get(k).copied() {
-            self.fix(alloc, problem, pool, (k % (1 << 32)) as u32, lead)?;
+            self.fix(alloc, problem, pool, number_of(k), lead)?;
         }
         self.fix_more(alloc, problem, pool, leads, more)?;
         self.fix_sure(alloc, problem, pool, leads)?;

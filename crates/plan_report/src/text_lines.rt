@@ -10,7 +10,7 @@ use std::marker::Model;
 use tail_text::Parts;
 
 /// A line without its newline, and whether it has one. Contracts see the record of both.
-#[derive(Debug, Drop)]
+#[derive(Drop)]
 pub struct TextLine<'a> {
     pub text: &'a [u8],
     pub ends: bool,
@@ -25,7 +25,7 @@ impl<'a> Model for TextLine<'a> {
 }
 
 /// The lines of a text that are still to be taken. Contracts see the list of them.
-#[derive(Debug, Drop)]
+#[derive(Drop)]
 pub struct TextLines<'a> {
     parts: Parts<'a>,
 }

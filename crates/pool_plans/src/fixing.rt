@@ -7,6 +7,7 @@ ghost use Rattle.branch_marks.specs.inside.MarkTables.{AreMarksOf};
 
 use crate::slice::{ALL, Slice};
 use branch_marks::{Fact, Marks};
+use restricted_master::number_of;
 use tail_book::{Book, Memory, Route};
 
 // Adds a fact, if its numbers are of the book.
@@ -97,7 +98,7 @@ fn hold_outside(
     ensures { AreMarksOf book.now marks.new }
 {
     for k in 0..routes.len() {
-        let (number, route) = ((k % (1 << 32)) as u32, &routes[k]);
+        let (number, route) = (number_of(k), &routes[k]);
         fix_outside(book, marks, number, &route.0, from, to)?;
     }
     Ok(())
@@ -126,7 +127,7 @@ fn hold_kept(book: &Book, marks: &mut Marks, routes: &[Route], kept: &[bool]) ->
 {
     for k in 0..routes.len().min(kept.len()) {
         if kept[k] {
-            let (number, route) = ((k % (1 << 32)) as u32, &routes[k]);
+            let (number, route) = (number_of(k), &routes[k]);
             fix(book, marks, number, &route.0, ALL)?;
         }
     }

@@ -9,8 +9,8 @@
 
 mod bits;
 mod candidates;
-mod finding;
 mod fixing;
+mod judged_plans;
 mod leads;
 mod mixing;
 mod partition;
@@ -20,8 +20,8 @@ mod standing;
 mod tried;
 mod weights;
 
-pub use finding::{Found, find_cover, find_plan};
 pub use fixing::{fix, marks_beside, marks_outside};
+pub use judged_plans::{Found, find_cover, find_plan};
 pub use leads::{Lead, WHOLE, leads_of};
 pub use mixing::mixed;
 pub use slice::{ALL, Slice};

@@ -18,9 +18,9 @@ ghost use Rattle.propagator.specs.inside.Settling.{StandBelow};
 ghost use Rattle.propagator.specs.inside.Unnamed.{unnamed};
 ghost use Rattle.propagator.specs.inside.Work.{IsWorkOf};
 
-use crate::adding::add_next;
+use crate::added_facts::add_next;
 use crate::laws::{musts_leave_others, same_dead, same_floors};
-use crate::settling::settle_at;
+use crate::settled_aircraft::settle_at;
 use crate::work::Work;
 use branch_marks::laws::{alive_decides, has_fact_decides};
 use branch_marks::{Fact, Marks};

@@ -17,7 +17,7 @@ ghost use Rattle.propagator.specs.inside.Settling.{ActsOn, IsSettledFor};
 ghost use Rattle.propagator.specs.inside.Moves.{LosesFloors};
 ghost use Rattle.propagator.specs.inside.Touching.{IsAskedBelow};
 
-use crate::adding::add_bar;
+use crate::added_facts::add_bar;
 use crate::flags::set_all;
 use crate::laws::{bars_kill_nothing_later, bars_kill_predecessors, bars_take_one_floor};
 use branch_marks::laws::{alive_decides, floors_count};

@@ -21,7 +21,7 @@ ghost use Rattle.propagator.specs.inside.Lowest.{IsLowestOf, SomebodyUses};
 ghost use Rattle.propagator.specs.inside.Suspects.{is_suspect};
 ghost use Rattle.propagator.specs.inside.Cutting.{AreFloorsOf, NothingNewFollows};
 
-use crate::adding::add_next;
+use crate::added_facts::add_next;
 use crate::laws::{cuts_make_nothing_follow, cuts_take_no_floor};
 use crate::lowest::none_goes_over;
 use crate::suspects::is_suspect;

@@ -11,7 +11,7 @@ use branch_marks::laws::alive_decides;
 use tail_book::Book;
 
 /// What is told of marks once all that follows from them is added.
-#[derive(Clone, Copy, PartialEq, Eq, Debug)]
+#[derive(Clone, Copy, PartialEq, Eq)]
 pub enum Closed {
     /// Each activity is alive for somebody.
     Fixed,

@@ -1,22 +1,22 @@
 //! Propagation: all facts that follow from marks are added to them.
 #![tactic(auto)]
 
-mod adding;
+mod added_facts;
 mod carriers;
-mod closing;
 mod dead_ends;
 mod dead_links;
+mod due_floors;
+mod fixpoint;
 mod flags;
 mod hole;
-mod keeping;
+mod kept_rows;
 pub mod laws;
 mod lowering;
 mod lowest;
-mod renewing;
-mod settling;
+mod settled_aircraft;
 mod suspects;
 mod touching;
 mod work;
 
 pub use hole::Closed;
-pub use keeping::{Propagator, close};
+pub use kept_rows::{Propagator, close};

@@ -6,7 +6,7 @@
 //! falls while marks grow: once it is again what it was, nothing that is left can lower it, which for most floors
 //! shows after a few predecessors.
 
-ghost use Rattle.std.specs.Prelude.{◌≡◌, ◌<◌, ℕ, ℤ, List, true, false, IsTrue, None, Some, if◌then◌else◌, length};
+ghost use Rattle.std.specs.Prelude.{◌≡◌, ◌<◌, ℕ, ℤ, List, true, false, IsTrue, None, Some, length};
 ghost use Rattle.tail_book.specs.Lookup.{activities, aircraft};
 ghost use Rattle.turn_rules.specs.inside.FreeBefore.{IsFreeBefore};
 ghost use Rattle.tail_book.specs.declared.place.Place.TheVariants.{After as PlaceAfter};
@@ -21,7 +21,7 @@ ghost use Rattle.floor_rows.specs.inside.LeastOver.{brought, brought_first, floo
 ghost use Rattle.maint_counters.specs.inside.Counts.{AreCounts};
 ghost use Rattle.maint_counters.specs.inside.StepTable.{IsStepTableOf};
 ghost use Rattle.propagator.specs.inside.CutOff.{IsCutOff};
-ghost use Rattle.propagator.specs.inside.Rising.{IsCopied};
+ghost use Rattle.propagator.specs.inside.Rising.{BringsWhereUsable, IsCopied};
 
 use branch_marks::Marks;
 use branch_marks::laws::{lesser_in_any_order, usable_decides};
@@ -109,7 +109,7 @@ fn steps_to(
     requires row { IsRowOf book.now row.now }
     requires width { length values.old ≡ length book.now.rules.counters }
     ensures none { result ≡ false → (marks : List MarkFact) → brought book.now marks k b (floor_in row.now) x ≡ None }
-    ensures some { result ≡ true → (marks : List MarkFact) → brought book.now marks k b (floor_in row.now) x ≡ (if is_usable book.now marks k (PlaceAfter x) b then Some values.new else None) }
+    ensures some { result ≡ true → BringsWhereUsable book.now k x b row.now values.new }
     ensures range { IsFreeBefore book.now k (PlaceAfter x) b → IsTrue result → AreCounts values.new }
 {
     row.read(x as usize, values) && step_by(book, steps, k, Place::After(x), b, values)

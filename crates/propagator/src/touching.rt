@@ -4,17 +4,16 @@
 //! predecessors. A Must of its own takes all links over it, and the ends before it. A Cut and a Tie take the links that
 //! they part. Nothing else changes for it.
 
-ghost use Rattle.std.specs.Prelude.{◌≡◌, ◌<◌, ◌≤◌, ◌++◌, ◌∷◌, [], ℕ, List, Option, None, All, length, take};
+ghost use Rattle.std.specs.Prelude.{◌≡◌, ◌<◌, ◌≤◌, ℕ, None, All, length, take};
 ghost use Rattle.tail_book.specs.Lookup.{activities, aircraft};
 ghost use Rattle.connection_net.specs.Net.{net_of};
-ghost use Rattle.branch_marks.specs.declared.fact.Fact.{Fact as MarkFact};
 ghost use Rattle.branch_marks.specs.declared.fact.Fact.TheVariants.{Bar as FactBar, Must as FactMust, Cut as FactCut, Tie as FactTie};
 ghost use Rattle.branch_marks.specs.Facts.{IsFactOf};
 ghost use Rattle.branch_marks.specs.inside.MarkTables.{AreMarksOf};
 ghost use Rattle.floor_rows.specs.inside.FloorRow.{floor_in, IsRowOf};
 ghost use Rattle.propagator.specs.inside.Moves.{LosesFloors};
 ghost use Rattle.propagator.specs.inside.Rising.{IsLowRow};
-ghost use Rattle.propagator.specs.inside.Touching.{IsTouched, IsReadyFor, LosesOnly, Touches};
+ghost use Rattle.propagator.specs.inside.Touching.{IsTouched, IsReadyFor, Touches, TouchesLost};
 
 use crate::flags::{clear, set, set_all, set_each, set_from};
 use crate::laws::{bars_leave_others, floors_rise};
@@ -47,7 +46,7 @@ fn lose(
     requires ask { length ask.old ≡ activities book.now }
     ensures row { IsRowOf book.now row.new }
     ensures loses { LosesFloors row.old row.new }
-    ensures touches { (marks : List MarkFact) (fact : MarkFact) → LosesOnly book.now marks fact k c → IsTouched book.now marks k row.old due.old ask.old → IsTouched book.now (marks ++ fact ∷ []) k row.new due.new ask.new }
+    ensures touches { TouchesLost book.now k c row.old due.old ask.old row.new due.new ask.new }
 {
     rows_for_each();
     successors_are_of_book();

@@ -1,5 +1,5 @@
 -- A pool of routes, each kept with its cost, and what makes it one for a book and its table.
-use Rattle.std.specs.Prelude.{◌≡◌, ℕ, ◌<◌, List, [], All, Any, map, slice_index_or}
+use Rattle.std.specs.Prelude.{◌≡◌, ℕ, ◌<◌, List, [], ◌∷◌, ◌++◌, All, Any, map, length, slice_index_or}
 use Rattle.tail_book.specs.Seen.{BookSeen}
 use Rattle.tail_book.specs.declared.place.Place.TheVariants.{Carry}
 use Rattle.tail_book.specs.Lookup.{activities, aircraft}
@@ -26,6 +26,14 @@ aircraft_at pool i = (entry_at pool i).aircraft
 
 abbrev pub cost_at : PoolSeen → ℕ → ℕ
 cost_at pool i = slice_index_or pool.costs i 0
+
+-- the pool has a route of aircraft k at a number
+abbrev pub IsEntryAt : PoolSeen → ℕ → List ℕ → ℕ → Type 0
+IsEntryAt pool k route i = (i < length pool.entries) × (entry_at pool i ≡ record { aircraft = k; route = route })
+
+-- the pool with one entry more at its end, and its cost
+abbrev pub with_entry : PoolSeen → Pooled → ℕ → PoolSeen
+with_entry pool entry cost = record { entries = pool.entries ++ entry ∷ []; costs = pool.costs ++ cost ∷ [] }
 
 -- what an entry costs by a table
 abbrev pub entry_cost : CostTableSeen → BookSeen → Pooled → ℕ

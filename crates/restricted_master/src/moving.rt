@@ -4,9 +4,8 @@
 //! known. Then only the routes with the activity change, all by the same, and each aircraft's least weight is the
 //! lesser of its two choices: no route is weighed anew, and nothing is allocated.
 
-ghost use Rattle.std.specs.Prelude.{◌≡◌, ℕ, ◌<◌, ◌≤◌, ◌-ℤ◌, ◌^◌, if◌then◌else◌, All, length, pos};
+ghost use Rattle.std.specs.Prelude.{◌≡◌, ℕ, ◌<◌, ◌≤◌, ◌-ℤ◌, ◌^◌, All, length, pos};
 ghost use Rattle.tail_book.specs.Lookup.{activities, aircraft};
-ghost use Rattle.tail_book.specs.Numbers.{contains};
 ghost use Rattle.tail_book.specs.CostTable.{box_end, IsInBox};
 ghost use Rattle.tail_book.specs.Ranges.{IsWithin};
 ghost use Rattle.branch_marks.specs.Bound.{value_of};
@@ -14,12 +13,12 @@ ghost use Rattle.branch_marks.specs.Weights.{dual};
 ghost use Rattle.branch_marks.specs.Settled.{with_dual};
 ghost use Rattle.restricted_master.specs.Pool.{HasRoutes};
 ghost use Rattle.restricted_master.specs.inside.Choices.{choice_at, taken_at, IsBetter, IsSmall, IsSmallChoice};
-ghost use Rattle.restricted_master.specs.inside.Least.{weight_at, IsChoiceOf, IsWeighed};
+ghost use Rattle.restricted_master.specs.inside.Least.{IsChoiceOf, IsWeighed};
 ghost use Rattle.restricted_master.specs.inside.Listing.{AreApart};
-ghost use Rattle.restricted_master.specs.inside.Moving.{LooksAt};
+ghost use Rattle.restricted_master.specs.inside.Moving.{AreShifted, LooksAt};
 
+use crate::aircraft_choices::choose;
 use crate::choice::Choice;
-use crate::choosing::choose;
 use crate::switching::{best_dual, part_at};
 use crate::{Pool, RouteLists, laws};
 use branch_marks::laws::least_in_is_least;
@@ -49,7 +48,7 @@ fn shift(weights: &mut [i64], numbers: &[u32], rise: i64)
     requires apart { AreApart numbers.now }
     requires small { All IsSmall weights.old }
     requires rise { IsWithin (pos 0 -ℤ pos (2 ^ 62)) (pos (2 ^ 62)) rise }
-    ensures { (i : ℕ) → i < length weights.new → weight_at weights.new i ≡ (if contains numbers.now i then weight_at weights.old i -ℤ rise else weight_at weights.old i) }
+    ensures { AreShifted numbers.now rise weights.old weights.new }
 {
     for q in 0..numbers.len() {
         weights[numbers[q] as usize] -= rise;

@@ -19,7 +19,7 @@ use tail_book::{Book, CostTable, Memory};
 
 /// For each activity the numbers of the routes that have it, in order of aircraft, and for each aircraft the numbers of
 /// its routes. Contracts see the record of these lists.
-#[derive(Debug, Drop)]
+#[derive(Drop)]
 pub struct RouteLists {
     by_activity: Vec<Numbers>,
     by_aircraft: Vec<Numbers>,

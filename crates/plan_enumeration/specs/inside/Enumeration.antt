@@ -67,7 +67,8 @@ pub record IsTrial (book : BookSeen) (a : ℕ) (trial : Trial) : Type 0 where
   pub one_row_each : length trial.values.items ≡ activities book * width_of book
   pub legal : IsLegalSoFar book (take a trial.fliers.items)
   pub standing : (k : ℕ) → k < aircraft book → slice_index_or trial.places.items k Carry ≡ end_of_route k (take a trial.fliers.items)
-  pub counted : (k : ℕ) → k < aircraft book → values_at book trial.values.items k (end_of_route k (take a trial.fliers.items)) ≡ counters_after book k (route_by (take a trial.fliers.items) k)
+  pub counted : (k : ℕ) → k < aircraft book
+      → values_at book trial.values.items k (end_of_route k (take a trial.fliers.items)) ≡ counters_after book k (route_by (take a trial.fliers.items) k)
   pub small : All IsCounterValue (take (a * width_of book) trial.values.items)
 
 -- the counters of aircraft k after activity a, where it comes from that place

@@ -42,6 +42,13 @@ abbrev pub Touches : BookSeen → ℕ → Fact → FloorRowSeen → List Bool �
 Touches book k fact row due ask next due' ask' =
     (marks : List Fact) → IsTouched book marks k row due ask → IsTouched book (marks ++ fact ∷ []) k next due' ask'
 
+-- where with a fact aircraft k loses activity c alone, the fact leaves a row that was right but for these flags as right,
+-- but for those
+abbrev pub TouchesLost : BookSeen → ℕ → ℕ → FloorRowSeen → List Bool → List Bool → FloorRowSeen → List Bool → List Bool → Type 0
+TouchesLost book k c row due ask next due' ask' =
+    (marks : List Fact) (fact : Fact) → LosesOnly book marks fact k c
+    → IsTouched book marks k row due ask → IsTouched book (marks ++ fact ∷ []) k next due' ask'
+
 -- these are the floors that the first n facts leave, and nothing was dead for the aircraft then; where nothing was seen, any
 -- list will do
 abbrev pub IsReadyFor : BookSeen → List Fact → ℕ → List (Option (List ℤ)) → Option ℕ → Type 0

@@ -1,5 +1,5 @@
 -- The least of what numbers have, and the least weights with and without an activity.
-use Rattle.std.specs.Prelude.{◌≡◌, ℕ, ℤ, pos, ◌+◌, ◌*◌, ◌^◌, ◌+ℤ◌, ◌≤ℤ◌, ◌<ℤ◌, ◌<◌, ◌⊎◌, ⊤, All, Bool, true, false, not, ◌&&◌, int_lt, List, Option, Some, None, length, slice_index_or}
+use Rattle.std.specs.Prelude.{◌≡◌, ℕ, ℤ, pos, ◌+◌, ◌*◌, ◌^◌, ◌+ℤ◌, ◌≤ℤ◌, ◌<ℤ◌, ◌<◌, ◌⊎◌, ⊤, All, Bool, true, false, not, ◌&&◌, if◌then◌else◌, int_lt, nat_eq, List, Option, Some, None, length, slice_index_or}
 use Rattle.std.specs.Int.{int_min}
 use Rattle.tail_book.specs.Seen.{BookSeen}
 use Rattle.tail_book.specs.TableSeen.{CostTableSeen}
@@ -7,12 +7,12 @@ use Rattle.tail_book.specs.CostTable.{IsCostTable, IsTableFor}
 use Rattle.tail_book.specs.Lookup.{activities, aircraft}
 use Rattle.branch_marks.specs.Weights.{weight}
 use Rattle.branch_marks.specs.Bound.{value_of}
-use Rattle.branch_marks.specs.Pool.{Pooled, least_in, sum_in}
+use Rattle.branch_marks.specs.Pool.{Pooled, least_in, least_with, sum_in}
 use Rattle.branch_marks.specs.Settled.{AreDuals}
 use Rattle.restricted_master.specs.Seen.{PoolSeen, RouteListsSeen}
 use Rattle.restricted_master.specs.Pool.{entry_at, IsPoolFor}
-use Rattle.restricted_master.specs.Lists.{is_of, has, AreListsOf}
-use Rattle.restricted_master.specs.inside.Choices.{IsSmall}
+use Rattle.restricted_master.specs.Lists.{is_of, has, list_at, AreListsOf}
+use Rattle.restricted_master.specs.inside.Choices.{choice_at, IsSmall}
 use Rattle.restricted_master.specs.declared.choice.Choice.{Choice}
 
 -- the least of what the numbers below n that pass a test have, none where none passes
@@ -32,6 +32,21 @@ weight_at weights i = slice_index_or weights i (pos 0)
 
 abbrev pub entry_weight : CostTableSeen → BookSeen → List ℤ → Pooled → ℤ
 entry_weight table book duals entry = weight table book entry.aircraft duals entry.route
+
+-- the least weight of an aircraft's routes with one entry more, which counts where it is of that aircraft
+abbrev pub least_with_entry : CostTableSeen → BookSeen → List ℤ → ℕ → Pooled → Option ℤ → Option ℤ
+least_with_entry table book duals k entry least =
+    if nat_eq k entry.aircraft then Some (least_with (entry_weight table book duals entry) least) else least
+
+-- the least weight, with the dual, of aircraft k's routes among these numbers
+abbrev pub IsLeastWith : PoolSeen → List ℕ → List ℤ → ℤ → ℕ → Option ℤ → Type 0
+IsLeastWith pool numbers weights dual k least =
+    IsLeastBelow (length numbers) (λ p. is_of pool k (slice_index_or numbers p 0)) (λ p. weight_at weights (slice_index_or numbers p 0) +ℤ dual) least
+
+-- the least weight of the routes among these numbers that do not have activity a
+abbrev pub IsLeastWithout : PoolSeen → List ℕ → List ℤ → ℕ → Option ℤ → Type 0
+IsLeastWithout pool numbers weights a least =
+    IsLeastBelow (length numbers) (λ p. not (has pool a (slice_index_or numbers p 0))) (λ p. weight_at weights (slice_index_or numbers p 0)) least
 
 -- each route has its weight
 pub record AreWeights (table : CostTableSeen) (book : BookSeen) (pool : PoolSeen) (duals weights : List ℤ) : Type 0 where
@@ -71,7 +86,12 @@ IsAbove weight (Some with) = weight <ℤ with
 pub record IsFound (pool : PoolSeen) (numbers : List ℕ) (weights : List ℤ) (a : ℕ) (value : ℤ) (old new : Choice) : Type 0 where
   pub with : new.with ≡ old.with
   pub without : ((new.without ≡ old.without) × IsAbove value new.with)
-      ⊎ IsLeastBelow (length numbers) (λ p. not (has pool a (slice_index_or numbers p 0))) (λ p. weight_at weights (slice_index_or numbers p 0)) new.without
+      ⊎ IsLeastWithout pool numbers weights a new.without
+
+-- and so for each aircraft, among its own routes
+abbrev pub AreFound : PoolSeen → List (List ℕ) → List ℤ → List ℤ → ℕ → ℤ → List Choice → List Choice → Type 0
+AreFound pool lists weights values a dual old new = (k : ℕ) → k < length new
+    → IsFound pool (list_at lists k) weights a (value_of values k +ℤ dual) (choice_at old k) (choice_at new k)
 
 -- with duals in the box all weights are small
 abbrev pub WeightsAreSmall : Type 0

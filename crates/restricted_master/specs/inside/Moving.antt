@@ -1,16 +1,23 @@
 -- One dual moves: what it leaves settled, and what it gains, for one look, one visit, one sweep and the whole climb.
-use Rattle.std.specs.Prelude.{◌≡◌, ℕ, ℤ, pos, ◌+ℤ◌, ◌≤ℤ◌, ◌<ℤ◌, ◌<◌, List, Bool, true, false, length, slice_index_or}
+use Rattle.std.specs.Prelude.{◌≡◌, ℕ, ℤ, pos, ◌+ℤ◌, ◌-ℤ◌, ◌≤ℤ◌, ◌<ℤ◌, ◌<◌, if◌then◌else◌, List, Bool, true, false, length, slice_index_or}
 use Rattle.tail_book.specs.Seen.{BookSeen}
 use Rattle.tail_book.specs.TableSeen.{CostTableSeen}
 use Rattle.tail_book.specs.CostTable.{IsInBox, cost_unit}
 use Rattle.tail_book.specs.Lookup.{activities}
+use Rattle.tail_book.specs.Numbers.{contains}
 use Rattle.branch_marks.specs.Pool.{Pooled, sum_in}
 use Rattle.branch_marks.specs.Settled.{with_dual, IsSettledOver}
+use Rattle.restricted_master.specs.inside.Least.{weight_at}
 
 -- no other dual of the activity in the box gains a cost unit
 abbrev pub IsSettledAt : CostTableSeen → BookSeen → List Pooled → List ℤ → ℕ → Type 0
 IsSettledAt table book pool duals a =
     (value : ℤ) → IsInBox table value → sum_in table book (with_dual duals a value) pool <ℤ (sum_in table book duals pool +ℤ pos cost_unit)
+
+-- so much is taken from the weights of these numbers, and from no other
+abbrev pub AreShifted : List ℕ → ℤ → List ℤ → List ℤ → Type 0
+AreShifted numbers rise old new = (i : ℕ) → i < length new
+    → weight_at new i ≡ (if contains numbers i then weight_at old i -ℤ rise else weight_at old i)
 
 -- one look at an activity: its dual moves and gains a cost unit, or nothing moves and it is settled there
 abbrev pub LooksAt : CostTableSeen → BookSeen → List Pooled → ℕ → List ℤ → List ℤ → Bool → Type 0
