@@ -4,4 +4,5 @@ pub mod Followers
 pub mod Completion
 pub mod Reach
 pub mod Ends
+pub mod ForTask
 pub mod Laws

@@ -4,13 +4,13 @@
 //! forbid, a legal rest of a route is among the rests that fit, and none of it weighs less than the completion. No link is
 //! asked for twice, and an activity from which no end can be reached ends the question at once.
 
-ghost use Rattle.std.specs.Prelude.{◌≡◌, ◌<◌, ◌+ℤ◌, ◌+◌, [], length, Option, None, Some, IfSome, slice_index_or};
+ghost use Rattle.std.specs.Prelude.{◌≡◌, ◌<◌, ◌+ℤ◌, ◌+◌, [], length, None, Some, IfSome, slice_index_or};
 ghost use Rattle.tail_book.specs.declared.place.Place.TheVariants.{After};
 ghost use Rattle.tail_book.specs.Lookup.{activities};
 ghost use Rattle.tail_book.specs.Place.{IsPlaceOf};
-ghost use Rattle.branch_marks.specs.Marks.{IsUsable};
 ghost use Rattle.route_search.specs.inside.Task.{IsTask};
-ghost use Rattle.route_search.specs.inside.Completion.{AreBehind, AreBehindFrom, IsBehind, IsCompletion, IsLeastAmong, IsBroad, IsSmall, IsWay, IsWayOrNone, least_of, lesser};
+ghost use Rattle.route_search.specs.inside.Completion.{IsBroad, IsSmall, least_of, lesser};
+ghost use Rattle.route_search.specs.inside.ForTask.{AreBehindFor, AreLaterBehindFor, IsBehindFor, IsCompletionFor, IsLeastAmongFor, IsUsableFor, IsWayFor, IsWayOrNoneFor};
 
 use crate::followers::followers;
 use crate::laws;
@@ -43,8 +43,8 @@ pub fn way_through(task: &Task, behind: &[Option<i64>], from: Place, b: u32) -> 
     requires place { IsPlaceOf task.now.book.now from }
     requires activity { b < activities task.now.book.now }
     requires one_each { length behind.now ≡ activities task.now.book.now }
-    requires behind { IsBehind task.now.table.now task.now.book.now task.now.marks.now.facts task.now.k task.now.duals.now.values b (slice_index_or behind.now b None) }
-    ensures way { IsWayOrNone task.now.table.now task.now.book.now task.now.marks.now.facts task.now.k task.now.duals.now.values from b result }
+    requires behind { IsBehindFor task.now b (slice_index_or behind.now b None) }
+    ensures way { IsWayOrNoneFor task.now from b result }
     ensures small { IfSome result (λ way. IsSmall way.least) }
     ensures arc { IfSome result (λ way. IsBroad way.arc) }
 {
@@ -60,9 +60,9 @@ fn with_rest(task: &Task, from: Place, b: u32, rest: i64) -> Way
     requires task { IsTask task.now }
     requires place { IsPlaceOf task.now.book.now from }
     requires activity { b < activities task.now.book.now }
-    requires usable { IsUsable task.now.book.now task.now.marks.now.facts task.now.k from b }
-    requires rest { IsCompletion task.now.table.now task.now.book.now task.now.marks.now.facts task.now.k task.now.duals.now.values (After b) (Some rest) }
-    ensures way { IsWay task.now.table.now task.now.book.now task.now.marks.now.facts task.now.k task.now.duals.now.values from b result }
+    requires usable { IsUsableFor task.now from b }
+    requires rest { IsCompletionFor task.now (After b) (Some rest) }
+    ensures way { IsWayFor task.now from b result }
     ensures small { IsSmall result.least }
     ensures arc { IsBroad result.arc }
 {
@@ -95,7 +95,7 @@ fn least_of(way: Option<Way>) -> Option<i64>
 fn ended(task: &Task, from: Place) -> Option<i64>
     requires task { IsTask task.now }
     requires place { IsPlaceOf task.now.book.now from }
-    ensures { IsLeastAmong task.now.table.now task.now.book.now task.now.marks.now.facts task.now.k task.now.duals.now.values from [] 0 result }
+    ensures { IsLeastAmongFor task.now from [] 0 result }
 {
     if task.marks.may_end(task.book, task.k, from) {
         Some(0)
@@ -109,8 +109,8 @@ fn least_behind(task: &Task, behind: &[Option<i64>], x: u32) -> Option<i64>
     requires task { IsTask task.now }
     requires activity { x < activities task.now.book.now }
     requires one_each { length behind.now ≡ activities task.now.book.now }
-    requires behind { AreBehindFrom task.now.table.now task.now.book.now task.now.marks.now.facts task.now.k task.now.duals.now.values (x + 1) behind.now }
-    ensures { IsCompletion task.now.table.now task.now.book.now task.now.marks.now.facts task.now.k task.now.duals.now.values (After x) result }
+    requires behind { AreLaterBehindFor task.now (x + 1) behind.now }
+    ensures { IsCompletionFor task.now (After x) result }
 {
     let mut least = ended(task, Place::After(x));
     let next = followers(task, x);
@@ -126,8 +126,8 @@ fn behind_alive(task: &Task, behind: &[Option<i64>], x: u32) -> Option<i64>
     requires task { IsTask task.now }
     requires activity { x < activities task.now.book.now }
     requires one_each { length behind.now ≡ activities task.now.book.now }
-    requires behind { AreBehindFrom task.now.table.now task.now.book.now task.now.marks.now.facts task.now.k task.now.duals.now.values (x + 1) behind.now }
-    ensures { IsBehind task.now.table.now task.now.book.now task.now.marks.now.facts task.now.k task.now.duals.now.values x result }
+    requires behind { AreLaterBehindFor task.now (x + 1) behind.now }
+    ensures { IsBehindFor task.now x result }
 {
     if !task.marks.alive(task.book, task.k, x) {
         return None;
@@ -139,7 +139,7 @@ fn behind_alive(task: &Task, behind: &[Option<i64>], x: u32) -> Option<i64>
 pub fn complete(task: &Task, behind: &mut [Option<i64>])
     requires task { IsTask task.now }
     requires one_each { length behind.old ≡ activities task.now.book.now }
-    ensures { AreBehind task.now.table.now task.now.book.now task.now.marks.now.facts task.now.k task.now.duals.now.values behind.new }
+    ensures { AreBehindFor task.now behind.new }
 {
     every_task_is_sound(task);
     let book = task.book;

@@ -2,15 +2,15 @@
 //!
 //! With each lighter end the limit falls to it and the slack, so that what comes later has less to do.
 
-ghost use Rattle.std.specs.Prelude.{true, false, ◌≡◌, ◌<◌, ◌≤◌, ◌≤ℤ◌, ◌⊎◌, ℤ, length, None, Some, IfSome};
-ghost use Rattle.tail_book.specs.declared.place.Place.TheVariants.{Carry, After};
+ghost use Rattle.std.specs.Prelude.{true, false, ◌≡◌, ◌<◌, ◌≤◌, ◌≤ℤ◌, ◌⊎◌, ℤ, length, Some, IfSome};
+ghost use Rattle.tail_book.specs.declared.place.Place.TheVariants.{After};
 ghost use Rattle.tail_book.specs.Lookup.{activities};
 ghost use Rattle.branch_marks.specs.Marks.{MayEnd};
 ghost use Rattle.label_store.specs.Buckets.{row_at};
 ghost use Rattle.pricing.specs.Rows.{weight_of};
-ghost use Rattle.pricing.specs.inside.Truth.{AreTrue};
 ghost use Rattle.route_search.specs.inside.Completion.{IsBroad, IsSmall};
-ghost use Rattle.route_search.specs.inside.Ends.{IsEnd, IsAtMost, IsLimit, IsLeastAt, AreEnds, AreNoHeavier};
+ghost use Rattle.route_search.specs.inside.Ends.{IsAtMost, IsLimit, AreNoHeavier};
+ghost use Rattle.route_search.specs.inside.ForTask.{AreEndsFor, AreTrueFor, IsEndFor, IsLeastEndAtFor};
 ghost use Rattle.route_search.specs.inside.Task.{IsTask};
 
 use crate::task::{Task, every_task_is_sound};
@@ -92,11 +92,11 @@ fn with_rows(task: &Task, store: &Store, x: u32, ends: Ends, slack: u32) -> Ends
     requires task { IsTask task.now }
     requires activity { x < activities task.now.book.now }
     requires nodes { length store.now.buckets ≡ activities task.now.book.now }
-    requires truths { AreTrue task.now.table.now task.now.book.now task.now.marks.now.facts task.now.k task.now.duals.now.values store.now }
+    requires truths { AreTrueFor task.now store.now }
     requires may { MayEnd task.now.marks.now.facts task.now.k (After x) }
-    requires one { IfSome ends.best (IsEnd task.now.book.now task.now.marks.now.facts task.now.k store.now) }
-    ensures one { IfSome result.best (IsEnd task.now.book.now task.now.marks.now.facts task.now.k store.now) }
-    ensures here { IsLeastAt task.now.marks.now.facts task.now.k store.now result x }
+    requires one { IfSome ends.best (IsEndFor task.now store.now) }
+    ensures one { IfSome result.best (IsEndFor task.now store.now) }
+    ensures here { IsLeastEndAtFor task.now store.now result x }
     ensures no_heavier { AreNoHeavier ends result }
     ensures limit { (cut : ℤ) → IsLimit cut ends.best ends.limit → IsLimit cut result.best result.limit }
     ensures broad { IsBroad ends.limit → IsBroad result.limit }
@@ -118,10 +118,10 @@ pub fn with_ends_at(task: &Task, store: &Store, x: u32, ends: Ends, slack: u32) 
     requires task { IsTask task.now }
     requires activity { x < activities task.now.book.now }
     requires nodes { length store.now.buckets ≡ activities task.now.book.now }
-    requires truths { AreTrue task.now.table.now task.now.book.now task.now.marks.now.facts task.now.k task.now.duals.now.values store.now }
-    requires one { IfSome ends.best (IsEnd task.now.book.now task.now.marks.now.facts task.now.k store.now) }
-    ensures one { IfSome result.best (IsEnd task.now.book.now task.now.marks.now.facts task.now.k store.now) }
-    ensures here { IsLeastAt task.now.marks.now.facts task.now.k store.now result x }
+    requires truths { AreTrueFor task.now store.now }
+    requires one { IfSome ends.best (IsEndFor task.now store.now) }
+    ensures one { IfSome result.best (IsEndFor task.now store.now) }
+    ensures here { IsLeastEndAtFor task.now store.now result x }
     ensures no_heavier { AreNoHeavier ends result }
     ensures limit { (cut : ℤ) → IsLimit cut ends.best ends.limit → IsLimit cut result.best result.limit }
     ensures broad { IsBroad ends.limit → IsBroad result.limit }
@@ -135,7 +135,7 @@ pub fn with_ends_at(task: &Task, store: &Store, x: u32, ends: Ends, slack: u32) 
 /// The end at the carry-in, if the aircraft may end there and the cut allows it.
 pub fn first_ends(task: &Task, store: &Store, cut: i64, slack: u32) -> Ends
     requires { IsTask task.now }
-    ensures ends { AreEnds task.now.book.now task.now.marks.now.facts task.now.k store.now cut 0 result }
+    ensures ends { AreEndsFor task.now store.now cut 0 result }
     ensures broad { IsBroad cut → IsBroad result.limit }
 {
     let ends = Ends {

@@ -6,7 +6,8 @@
 ghost use Rattle.std.specs.Prelude.{◌≡◌, ◌<◌};
 ghost use Rattle.std.specs.List.Sorted.{IsNonDecreasing};
 ghost use Rattle.tail_book.specs.Lookup.{activities};
-ghost use Rattle.route_search.specs.inside.Followers.{AreFollowers, only};
+ghost use Rattle.route_search.specs.inside.Followers.{only};
+ghost use Rattle.route_search.specs.inside.ForTask.{AreFollowersFor};
 ghost use Rattle.route_search.specs.inside.Task.{IsTask};
 
 use crate::task::{Task, every_task_is_sound};
@@ -32,7 +33,7 @@ fn only(next: &[u32], b: u32) -> &[u32]
 pub fn followers<'a>(task: &'a Task, x: u32) -> &'a [u32]
     requires task { IsTask task.now }
     requires activity { x < activities task.now.book.now }
-    ensures { AreFollowers task.now.book.now task.now.marks.now.facts task.now.k x result.now }
+    ensures { AreFollowersFor task.now x result.now }
 {
     every_task_is_sound(task);
     successors_are_links();

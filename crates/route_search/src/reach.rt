@@ -5,21 +5,19 @@
 //! link adds and the least that can come behind, is past the limit: no completion of it is within. That is one comparison,
 //! before the counters are stepped, before anything is copied. Nothing is allocated but what the store grows by.
 
-ghost use Rattle.std.specs.Prelude.{◌≡◌, ◌<◌, ◌≤◌, ◌+◌, ◌-ℤ◌, ℤ, suc, length, Option, Some, IfOk};
+ghost use Rattle.std.specs.Prelude.{◌≡◌, ◌<◌, ◌≤◌, ◌+◌, ◌-ℤ◌, ℤ, suc, length, IfOk};
 ghost use Rattle.tail_book.specs.declared.place.Place.TheVariants.{Carry, After};
 ghost use Rattle.tail_book.specs.Lookup.{activities, carry_of};
 ghost use Rattle.tail_book.specs.Place.{IsPlaceOf};
 ghost use Rattle.maint_counters.specs.inside.Counts.{AreCounts};
-ghost use Rattle.branch_marks.specs.Marks.{IsUsable};
-ghost use Rattle.branch_marks.specs.Weights.{arc_weight};
 ghost use Rattle.label_store.specs.Buckets.{row_at};
 ghost use Rattle.label_store.specs.Store.{IsRowOf};
 ghost use Rattle.label_store.specs.inside.Laws.{IsCoveredAt};
-ghost use Rattle.pricing.specs.Rows.{weight_of};
-ghost use Rattle.pricing.specs.inside.Truth.{place_of, first_row, row_of, IsTrueAt, AreTrue, IsKept, IsNext};
-ghost use Rattle.route_search.specs.inside.Completion.{AreBehind, IsBroad, IsSmall, IsWay};
+ghost use Rattle.pricing.specs.inside.Truth.{place_of, IsKept};
+ghost use Rattle.route_search.specs.inside.Completion.{IsBroad, IsSmall};
 ghost use Rattle.label_store.specs.inside.Growth.{IsAsWide};
-ghost use Rattle.route_search.specs.inside.Reach.{IsTried, AreTried, IsDone, GoesOn, Grows, up_to};
+ghost use Rattle.route_search.specs.inside.Reach.{Grows, up_to};
+ghost use Rattle.route_search.specs.inside.ForTask.{AreBehindFor, AreTriedFor, AreTrueFor, GoesOnFor, IsDoneFor, IsNextFor, IsTriedFor, IsTrueFor, IsUsableFor, IsWayFor, arc_weight_for, first_row_for, row_for};
 ghost use Rattle.route_search.specs.inside.Task.{IsTask};
 
 use crate::completion::{Way, way_through};
@@ -49,11 +47,11 @@ fn put(
     requires node { b < length store.old.buckets }
     requires later { up_to (place_of store.old parent) ≤ b }
     requires width { length row.now ≡ store.old.width }
-    requires truths { AreTrue task.now.table.now task.now.book.now task.now.marks.now.facts task.now.k task.now.duals.now.values store.old }
+    requires truths { AreTrueFor task.now store.old }
     requires kept { IsKept store.old parent }
-    requires truth { IsTrueAt task.now.table.now task.now.book.now task.now.marks.now.facts task.now.k task.now.duals.now.values store.old parent }
-    requires next { IsNext task.now.table.now task.now.book.now task.now.marks.now.facts task.now.k task.now.duals.now.values (place_of store.old parent) (row_of task.now.book.now task.now.k store.old parent) b row.now }
-    ensures truths { IfOk result (λ _. AreTrue task.now.table.now task.now.book.now task.now.marks.now.facts task.now.k task.now.duals.now.values store.new) }
+    requires truth { IsTrueFor task.now store.old parent }
+    requires next { IsNextFor task.now (place_of store.old parent) (row_for task.now store.old parent) b row.now }
+    ensures truths { IfOk result (λ _. AreTrueFor task.now store.new) }
     ensures grows { IfOk result (λ _. Grows (up_to (place_of store.old parent)) store.old store.new) }
     ensures covered { IfOk result (λ _. IsCoveredAt store.new b row.now) }
     ensures wide { IsAsWide store.old store.new }
@@ -83,20 +81,20 @@ fn try_row(
     requires place { IsPlaceOf task.now.book.now from }
     requires activity { b < activities task.now.book.now }
     requires later { up_to from ≤ b }
-    requires arc { arc ≡ arc_weight task.now.table.now task.now.book.now task.now.k task.now.duals.now.values from b }
+    requires arc { arc ≡ arc_weight_for task.now from b }
     requires arc_range { IsBroad arc }
     requires nodes { length store.old.buckets ≡ activities task.now.book.now }
     requires width { length row.old ≡ 1 + length task.now.book.now.rules.counters }
     requires same_width { store.old.width ≡ length row.old }
-    requires truths { AreTrue task.now.table.now task.now.book.now task.now.marks.now.facts task.now.k task.now.duals.now.values store.old }
+    requires truths { AreTrueFor task.now store.old }
     requires kept { IsKept store.old parent }
-    requires truth { IsTrueAt task.now.table.now task.now.book.now task.now.marks.now.facts task.now.k task.now.duals.now.values store.old parent }
+    requires truth { IsTrueFor task.now store.old parent }
     requires from { from ≡ place_of store.old parent }
-    requires row { row.old ≡ row_of task.now.book.now task.now.k store.old parent }
-    requires usable { IsUsable task.now.book.now task.now.marks.now.facts task.now.k from b }
-    ensures truths { IfOk result (λ _. AreTrue task.now.table.now task.now.book.now task.now.marks.now.facts task.now.k task.now.duals.now.values store.new) }
+    requires row { row.old ≡ row_for task.now store.old parent }
+    requires usable { IsUsableFor task.now from b }
+    ensures truths { IfOk result (λ _. AreTrueFor task.now store.new) }
     ensures grows { IfOk result (λ _. Grows (up_to from) store.old store.new) }
-    ensures tried { IfOk result (λ _. (limit : ℤ) → IsTried task.now.table.now task.now.book.now task.now.marks.now.facts task.now.k task.now.duals.now.values limit store.new from row.old b) }
+    ensures tried { IfOk result (λ _. (limit : ℤ) → IsTriedFor task.now limit store.new from row.old b) }
     ensures wide { IsAsWide store.old store.new }
     ensures length { length row.new ≡ length row.old }
 {
@@ -132,17 +130,17 @@ fn try_bucket(
     requires place { x < activities task.now.book.now }
     requires activity { b < activities task.now.book.now }
     requires later { x < b }
-    requires way { IsWay task.now.table.now task.now.book.now task.now.marks.now.facts task.now.k task.now.duals.now.values (After x) b way }
+    requires way { IsWayFor task.now (After x) b way }
     requires small { IsSmall way.least }
     requires arc { IsBroad way.arc }
     requires limit { IsBroad limit }
     requires nodes { length store.old.buckets ≡ activities task.now.book.now }
     requires width { length row.old ≡ 1 + length task.now.book.now.rules.counters }
     requires same_width { store.old.width ≡ length row.old }
-    requires truths { AreTrue task.now.table.now task.now.book.now task.now.marks.now.facts task.now.k task.now.duals.now.values store.old }
-    ensures truths { IfOk result (λ _. AreTrue task.now.table.now task.now.book.now task.now.marks.now.facts task.now.k task.now.duals.now.values store.new) }
+    requires truths { AreTrueFor task.now store.old }
+    ensures truths { IfOk result (λ _. AreTrueFor task.now store.new) }
     ensures grows { IfOk result (λ _. Grows (suc x) store.old store.new) }
-    ensures tried { IfOk result (λ _. AreTried task.now.table.now task.now.book.now task.now.marks.now.facts task.now.k task.now.duals.now.values limit store.old x store.new b) }
+    ensures tried { IfOk result (λ _. AreTriedFor task.now limit store.old x store.new b) }
     ensures wide { IsAsWide store.old store.new }
     ensures length { length row.new ≡ length row.old }
 {
@@ -171,16 +169,16 @@ fn try_kept(
     requires place { x < activities task.now.book.now }
     requires activity { b < activities task.now.book.now }
     requires later { x < b }
-    requires way { IsWay task.now.table.now task.now.book.now task.now.marks.now.facts task.now.k task.now.duals.now.values (After x) b way }
+    requires way { IsWayFor task.now (After x) b way }
     requires arc { IsBroad way.arc }
     requires nodes { length store.old.buckets ≡ activities task.now.book.now }
     requires width { length row.old ≡ 1 + length task.now.book.now.rules.counters }
     requires same_width { store.old.width ≡ length row.old }
-    requires truths { AreTrue task.now.table.now task.now.book.now task.now.marks.now.facts task.now.k task.now.duals.now.values store.old }
+    requires truths { AreTrueFor task.now store.old }
     requires kept { IsRowOf store.old x j }
-    ensures truths { IfOk result (λ _. AreTrue task.now.table.now task.now.book.now task.now.marks.now.facts task.now.k task.now.duals.now.values store.new) }
+    ensures truths { IfOk result (λ _. AreTrueFor task.now store.new) }
     ensures grows { IfOk result (λ _. Grows (suc x) store.old store.new) }
-    ensures tried { IfOk result (λ _. (limit : ℤ) → room ≡ limit -ℤ way.least → IsTried task.now.table.now task.now.book.now task.now.marks.now.facts task.now.k task.now.duals.now.values limit store.new (After x) (row_at store.old.rows j) b) }
+    ensures tried { IfOk result (λ _. (limit : ℤ) → room ≡ limit -ℤ way.least → IsTriedFor task.now limit store.new (After x) (row_at store.old.rows j) b) }
     ensures wide { IsAsWide store.old store.new }
     ensures length { length row.new ≡ length row.old }
 {
@@ -203,7 +201,7 @@ fn try_link(
     store: &mut Store,
 ) -> Result<(), Memory>
     requires task { IsTask task.now }
-    requires behind { AreBehind task.now.table.now task.now.book.now task.now.marks.now.facts task.now.k task.now.duals.now.values behind.now }
+    requires behind { AreBehindFor task.now behind.now }
     requires place { x < activities task.now.book.now }
     requires activity { b < activities task.now.book.now }
     requires later { x < b }
@@ -211,10 +209,10 @@ fn try_link(
     requires nodes { length store.old.buckets ≡ activities task.now.book.now }
     requires width { length row.old ≡ 1 + length task.now.book.now.rules.counters }
     requires same_width { store.old.width ≡ length row.old }
-    requires truths { AreTrue task.now.table.now task.now.book.now task.now.marks.now.facts task.now.k task.now.duals.now.values store.old }
-    ensures truths { IfOk result (λ _. AreTrue task.now.table.now task.now.book.now task.now.marks.now.facts task.now.k task.now.duals.now.values store.new) }
+    requires truths { AreTrueFor task.now store.old }
+    ensures truths { IfOk result (λ _. AreTrueFor task.now store.new) }
     ensures grows { IfOk result (λ _. Grows (suc x) store.old store.new) }
-    ensures tried { IfOk result (λ _. AreTried task.now.table.now task.now.book.now task.now.marks.now.facts task.now.k task.now.duals.now.values limit store.old x store.new b) }
+    ensures tried { IfOk result (λ _. AreTriedFor task.now limit store.old x store.new b) }
     ensures wide { IsAsWide store.old store.new }
     ensures length { length row.new ≡ length row.old }
 {
@@ -234,16 +232,16 @@ fn try_links(
     store: &mut Store,
 ) -> Result<(), Memory>
     requires task { IsTask task.now }
-    requires behind { AreBehind task.now.table.now task.now.book.now task.now.marks.now.facts task.now.k task.now.duals.now.values behind.now }
+    requires behind { AreBehindFor task.now behind.now }
     requires place { x < activities task.now.book.now }
     requires limit { IsBroad limit }
     requires nodes { length store.old.buckets ≡ activities task.now.book.now }
     requires width { length row.old ≡ 1 + length task.now.book.now.rules.counters }
     requires same_width { store.old.width ≡ length row.old }
-    requires truths { AreTrue task.now.table.now task.now.book.now task.now.marks.now.facts task.now.k task.now.duals.now.values store.old }
-    ensures truths { IfOk result (λ _. AreTrue task.now.table.now task.now.book.now task.now.marks.now.facts task.now.k task.now.duals.now.values store.new) }
+    requires truths { AreTrueFor task.now store.old }
+    ensures truths { IfOk result (λ _. AreTrueFor task.now store.new) }
     ensures grows { IfOk result (λ _. Grows (suc x) store.old store.new) }
-    ensures done { IfOk result (λ _. IsDone task.now.table.now task.now.book.now task.now.marks.now.facts task.now.k task.now.duals.now.values limit store.new x) }
+    ensures done { IfOk result (λ _. IsDoneFor task.now limit store.new x) }
     ensures wide { IsAsWide store.old store.new }
     ensures length { length row.new ≡ length row.old }
 {
@@ -265,16 +263,16 @@ pub fn go_on(
     store: &mut Store,
 ) -> Result<(), Memory>
     requires task { IsTask task.now }
-    requires behind { AreBehind task.now.table.now task.now.book.now task.now.marks.now.facts task.now.k task.now.duals.now.values behind.now }
+    requires behind { AreBehindFor task.now behind.now }
     requires place { x < activities task.now.book.now }
     requires limit { IsBroad limit }
     requires nodes { length store.old.buckets ≡ activities task.now.book.now }
     requires width { length row.old ≡ 1 + length task.now.book.now.rules.counters }
     requires same_width { store.old.width ≡ length row.old }
-    requires truths { AreTrue task.now.table.now task.now.book.now task.now.marks.now.facts task.now.k task.now.duals.now.values store.old }
-    ensures truths { IfOk result (λ _. AreTrue task.now.table.now task.now.book.now task.now.marks.now.facts task.now.k task.now.duals.now.values store.new) }
+    requires truths { AreTrueFor task.now store.old }
+    ensures truths { IfOk result (λ _. AreTrueFor task.now store.new) }
     ensures grows { IfOk result (λ _. Grows (suc x) store.old store.new) }
-    ensures done { IfOk result (λ _. IsDone task.now.table.now task.now.book.now task.now.marks.now.facts task.now.k task.now.duals.now.values limit store.new x) }
+    ensures done { IfOk result (λ _. IsDoneFor task.now limit store.new x) }
     ensures wide { IsAsWide store.old store.new }
     ensures length { length row.new ≡ length row.old }
 {
@@ -288,7 +286,7 @@ pub fn go_on(
 fn write_first(task: &Task, row: &mut [i64])
     requires task { IsTask task.now }
     requires width { length row.old ≡ 1 + length task.now.book.now.rules.counters }
-    ensures first { row.new ≡ first_row task.now.book.now task.now.k }
+    ensures first { row.new ≡ first_row_for task.now }
     ensures counts { AreCounts (carry_of task.now.book.now task.now.k) }
 {
     start(task.book, task.k, &mut row[1..]);
@@ -305,15 +303,15 @@ fn try_first(
     store: &mut Store,
 ) -> Result<(), Memory>
     requires task { IsTask task.now }
-    requires behind { AreBehind task.now.table.now task.now.book.now task.now.marks.now.facts task.now.k task.now.duals.now.values behind.now }
+    requires behind { AreBehindFor task.now behind.now }
     requires activity { b < activities task.now.book.now }
     requires nodes { length store.old.buckets ≡ activities task.now.book.now }
     requires width { length row.old ≡ 1 + length task.now.book.now.rules.counters }
     requires same_width { store.old.width ≡ length row.old }
-    requires truths { AreTrue task.now.table.now task.now.book.now task.now.marks.now.facts task.now.k task.now.duals.now.values store.old }
-    ensures truths { IfOk result (λ _. AreTrue task.now.table.now task.now.book.now task.now.marks.now.facts task.now.k task.now.duals.now.values store.new) }
+    requires truths { AreTrueFor task.now store.old }
+    ensures truths { IfOk result (λ _. AreTrueFor task.now store.new) }
     ensures grows { IfOk result (λ _. Grows 0 store.old store.new) }
-    ensures tried { IfOk result (λ _. IsUsable task.now.book.now task.now.marks.now.facts task.now.k Carry b → IsTried task.now.table.now task.now.book.now task.now.marks.now.facts task.now.k task.now.duals.now.values limit store.new Carry (first_row task.now.book.now task.now.k) b) }
+    ensures tried { IfOk result (λ _. IsUsableFor task.now Carry b → IsTriedFor task.now limit store.new Carry (first_row_for task.now) b) }
     ensures wide { IsAsWide store.old store.new }
     ensures length { length row.new ≡ length row.old }
 {
@@ -336,13 +334,13 @@ pub fn begin(
     store: &mut Store,
 ) -> Result<(), Memory>
     requires task { IsTask task.now }
-    requires behind { AreBehind task.now.table.now task.now.book.now task.now.marks.now.facts task.now.k task.now.duals.now.values behind.now }
+    requires behind { AreBehindFor task.now behind.now }
     requires nodes { length store.old.buckets ≡ activities task.now.book.now }
     requires width { length row.old ≡ 1 + length task.now.book.now.rules.counters }
     requires same_width { store.old.width ≡ length row.old }
-    requires truths { AreTrue task.now.table.now task.now.book.now task.now.marks.now.facts task.now.k task.now.duals.now.values store.old }
-    ensures truths { IfOk result (λ _. AreTrue task.now.table.now task.now.book.now task.now.marks.now.facts task.now.k task.now.duals.now.values store.new) }
-    ensures begun { IfOk result (λ _. GoesOn task.now.table.now task.now.book.now task.now.marks.now.facts task.now.k task.now.duals.now.values limit store.new Carry (first_row task.now.book.now task.now.k)) }
+    requires truths { AreTrueFor task.now store.old }
+    ensures truths { IfOk result (λ _. AreTrueFor task.now store.new) }
+    ensures begun { IfOk result (λ _. GoesOnFor task.now limit store.new Carry (first_row_for task.now)) }
     ensures grows { IfOk result (λ _. Grows 0 store.old store.new) }
     ensures wide { IsAsWide store.old store.new }
     ensures length { length row.new ≡ length row.old }

@@ -14,14 +14,12 @@ ghost use Rattle.tail_book.specs.CostTable.{IsTableFor};
 ghost use Rattle.connection_net.specs.Net.{net_of};
 ghost use Rattle.branch_marks.specs.inside.MarkTables.{AreMarksOf};
 ghost use Rattle.branch_marks.specs.Settled.{AreDuals};
-ghost use Rattle.pricing.specs.inside.Truth.{AreTrue};
 ghost use Rattle.route_search.specs.Found.{IsFoundWithin};
 ghost use Rattle.route_search.specs.Search.{IsSearchOf};
-ghost use Rattle.route_search.specs.inside.Completion.{AreBehind, IsBroad};
-ghost use Rattle.route_search.specs.inside.Ends.{AreEnds};
+ghost use Rattle.route_search.specs.inside.Completion.{IsBroad};
 ghost use Rattle.route_search.specs.inside.Laws.{IsClamped};
 ghost use Rattle.label_store.specs.inside.Growth.{IsAsWide};
-ghost use Rattle.route_search.specs.inside.Reach.{AreDone};
+ghost use Rattle.route_search.specs.inside.ForTask.{AreBehindFor, AreDoneFor, AreEndsFor, AreTrueFor, IsFoundWithinFor};
 ghost use Rattle.route_search.specs.inside.Task.{IsTask};
 
 use crate::added::add_up;
@@ -76,15 +74,15 @@ fn search_rows(
     store: &mut Store,
 ) -> Result<Ends, Memory>
     requires task { IsTask task.now }
-    requires behind { AreBehind task.now.table.now task.now.book.now task.now.marks.now.facts task.now.k task.now.duals.now.values behind.now }
+    requires behind { AreBehindFor task.now behind.now }
     requires cut { IsBroad cut }
     requires nodes { length store.old.buckets ≡ activities task.now.book.now }
     requires width { length row.old ≡ 1 + length task.now.book.now.rules.counters }
     requires same_width { store.old.width ≡ length row.old }
-    requires truths { AreTrue task.now.table.now task.now.book.now task.now.marks.now.facts task.now.k task.now.duals.now.values store.old }
-    ensures truths { IfOk result (λ _. AreTrue task.now.table.now task.now.book.now task.now.marks.now.facts task.now.k task.now.duals.now.values store.new) }
-    ensures done { IfOk result (λ ends. AreDone task.now.table.now task.now.book.now task.now.marks.now.facts task.now.k task.now.duals.now.values ends.limit store.new (activities task.now.book.now)) }
-    ensures ends { IfOk result (AreEnds task.now.book.now task.now.marks.now.facts task.now.k store.new cut (activities task.now.book.now)) }
+    requires truths { AreTrueFor task.now store.old }
+    ensures truths { IfOk result (λ _. AreTrueFor task.now store.new) }
+    ensures done { IfOk result (λ ends. AreDoneFor task.now ends.limit store.new (activities task.now.book.now)) }
+    ensures ends { IfOk result (AreEndsFor task.now store.new cut (activities task.now.book.now)) }
     ensures wide { IsAsWide store.old store.new }
     ensures length { length row.new ≡ length row.old }
 {
@@ -112,12 +110,12 @@ fn found(
     store: &mut Store,
 ) -> Result<Found, Memory>
     requires task { IsTask task.now }
-    requires behind { AreBehind task.now.table.now task.now.book.now task.now.marks.now.facts task.now.k task.now.duals.now.values behind.now }
+    requires behind { AreBehindFor task.now behind.now }
     requires cut { IsBroad cut }
     requires nodes { length store.old.buckets ≡ activities task.now.book.now }
     requires width { length row.old ≡ 1 + length task.now.book.now.rules.counters }
     requires same_width { store.old.width ≡ length row.old }
-    ensures found { IfOk result (IsFoundWithin task.now.table.now task.now.book.now task.now.marks.now.facts task.now.k task.now.duals.now.values cut) }
+    ensures found { IfOk result (IsFoundWithinFor task.now cut) }
     ensures wide { IsAsWide store.old store.new }
     ensures length { length row.new ≡ length row.old }
 {

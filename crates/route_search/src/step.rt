@@ -7,9 +7,9 @@ ghost use Rattle.tail_book.specs.Link.{IsLink};
 ghost use Rattle.tail_book.specs.CostTable.{connection_cost_in};
 ghost use Rattle.tail_book.specs.Place.{IsPlaceOf};
 ghost use Rattle.turn_rules.specs.inside.FreeBefore.{IsFreeBefore};
-ghost use Rattle.branch_marks.specs.Weights.{arc_weight};
 ghost use Rattle.route_search.specs.inside.Task.{IsTask, IsAdded};
 ghost use Rattle.route_search.specs.inside.Completion.{IsBroad};
+ghost use Rattle.route_search.specs.inside.ForTask.{arc_weight_for};
 
 use crate::task::{Task, every_task_is_sound};
 use tail_book::laws::costs_are_small;
@@ -62,7 +62,7 @@ pub fn arc_weight(task: &Task, from: Place, b: u32) -> i64
     requires task { IsTask task.now }
     requires place { IsPlaceOf task.now.book.now from }
     requires activity { b < activities task.now.book.now }
-    ensures value { result ≡ arc_weight task.now.table.now task.now.book.now task.now.k task.now.duals.now.values from b }
+    ensures value { result ≡ arc_weight_for task.now from b }
     ensures range { IsBroad result }
 {
     added_by(task, b) + connection_weight(task, from, b)

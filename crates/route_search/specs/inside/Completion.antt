@@ -54,7 +54,8 @@ pub record AreBehind (table : CostTableSeen) (book : BookSeen) (marks : List Fac
 pub record IsWay (table : CostTableSeen) (book : BookSeen) (marks : List Fact) (k : ℕ) (duals : List ℤ) (x : Place) (b : ℕ) (way : Way) : Type 0 where
   pub usable : IsUsable book marks k x b
   pub arc : way.arc ≡ arc_weight table book k duals x b
-  pub least : (rest : List ℕ) → FitsFrom book marks k (After b) rest → way.least ≤ℤ (arc_weight table book k duals x b +ℤ weight_from table book k duals (After b) rest)
+  pub least : (rest : List ℕ) → FitsFrom book marks k (After b) rest
+      → way.least ≤ℤ (arc_weight table book k duals x b +ℤ weight_from table book k duals (After b) rest)
   pub attained : IsAttained table book marks k duals x way.least
 
 -- so it is, or no rest from x on that begins with b fits
