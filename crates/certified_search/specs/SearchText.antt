@@ -26,5 +26,7 @@ search_text book events outcome = text_of (search_lines book events outcome)
 
 -- where lines spell the events of a search tree, its text is accepted for what its outcome claims
 abbrev pub SearchTreesAreAccepted : Type 0
-SearchTreesAreAccepted = (book : BookSeen) → IsBook book → (limit : Limit) (outcome : Outcome) (tree : SearchTree) → IsSearchTree (costs_of book) book limit outcome tree
-    → All IsNotable (events_of (nodes_of tree)) → Accepts book (search_text book (events_of (nodes_of tree)) outcome) (claim_of outcome)
+SearchTreesAreAccepted =
+    (book : BookSeen) → IsBook book → (limit : Limit) (outcome : Outcome) (tree : SearchTree)
+    → IsSearchTree (costs_of book) book limit outcome tree → All IsNotable (events_of (nodes_of tree))
+    → Accepts book (search_text book (events_of (nodes_of tree)) outcome) (claim_of outcome)

@@ -22,7 +22,8 @@ pub record PrintsFront {A : Type 0} (is_true : A → Type 0) (text : A → List 
 -- what a status promises that is not that of a finding: 2 that the words give no names and the usage was printed, 3 the
 -- first refusal of what is held, 5 that nothing was printed, 6 and 7 a front of the text of a true answer, 6 after a piece
 -- that failed; no other status comes
-abbrev pub ElsePromise : {N X A : Type 0} → Option N → (N → Option X) → (X → Refusal → Type 0) → List ℕ → (A → Type 0) → (A → List ℕ) → SinkShown → SinkShown → ℕ → Type 0
+abbrev pub ElsePromise : {N X A : Type 0} → Option N → (N → Option X) → (X → Refusal → Type 0) → List ℕ → (A → Type 0) → (A → List ℕ)
+    → SinkShown → SinkShown → ℕ → Type 0
 ElsePromise given held refuses usage is_true text before after status =
     cond (status == 2) ((given ≡ None) × Takes before after usage) (
     cond (status == 3) (OfHeld given held (PrintsRefusal refuses before after)) (

@@ -8,7 +8,11 @@ use Rattle.run_frame.specs.Tables.{NamesSeen}
 abbrev pub required_place : List ℕ → Rule
 required_place id = record (new_rule id) { required = true }
 
--- an option that has to be given, once and with one value
+-- an option that may be given, once and with one value
+abbrev pub optional : List ℕ → Rule
+optional id = record (new_rule id) { long = Some id }
+
+-- one that has to be given
 abbrev pub required_option : List ℕ → Rule
 required_option id = record (new_rule id) { long = Some id; required = true }
 

@@ -4,10 +4,10 @@
 //! are exact: names come where the command takes the words, and nothing where it refuses them.
 
 ghost use Rattle.std.specs.Prelude.{◌≡◌, true, IfOk, option_map};
-ghost use Rattle.clap.specs.Words.{app_of, first_of, found_of, is_simple_and_free, rows_of};
+ghost use Rattle.clap.specs.Words.{app_of, first_of, found_of, is_simple_and_free, rows_of, with_rule};
 ghost use Rattle.run_frame.specs.inside.TableFiles.{names_seen};
 ghost use Rattle.run_frame.specs.Spelled.{spelled};
-ghost use Rattle.run_frame.specs.Words.{matched, tables_command, tables_in};
+ghost use Rattle.run_frame.specs.Words.{bare_command, matched, required_place, tables_command, tables_in};
 
 use crate::TableNames;
 use clap::error::ErrorKind;
@@ -19,11 +19,28 @@ use tail_book::Memory;
 pub fn tables_command<'a>(alloc: Global, program: &'a str) -> Result<Command<'a>, AllocError>
     ensures { IfOk result (λ c. app_of c ≡ tables_command program.now) }
 {
-    Command::new(alloc, program)
-        .disable_help_flag(true)
-        .arg(Arg::new(alloc, "timetable").required(true))?
-        .arg(Arg::new(alloc, "fleet").required(true))?
-        .arg(Arg::new(alloc, "rules").required(true))
+    let bare = bare_command(alloc, program);
+    let one = with_place(alloc, bare, "timetable")?;
+    let two = with_place(alloc, one, "fleet")?;
+    with_place(alloc, two, "rules")
+}
+
+// The bare command of a program: without a flag for help.
+fn bare_command<'a>(alloc: Global, program: &'a str) -> Command<'a>
+    ensures { app_of result ≡ bare_command program.now }
+{
+    Command::new(alloc, program).disable_help_flag(true)
+}
+
+// The command with one more word that has to stand in its place.
+fn with_place<'a>(
+    alloc: Global,
+    command: Command<'a>,
+    id: &'a str,
+) -> Result<Command<'a>, AllocError>
+    ensures { IfOk result (λ c. app_of c ≡ with_rule (app_of command.entry) (required_place id.now)) }
+{
+    command.arg(Arg::new(alloc, id).required(true))
 }
 
 /// What a command matches of the words, or nothing where it refuses them. The words begin with the program's name.

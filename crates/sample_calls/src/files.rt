@@ -1,7 +1,7 @@
 //! Named files: a plan that is read from one, and a report that is kept in one. Files are a parameter, so the same
 //! calls serve real files and files in memory.
 
-ghost use Rattle.std.specs.Prelude.{◌≡◌, ◌<◌, [], false, IfSome, IsErrOf, IsTrue, OnOk, unwrap_or};
+ghost use Rattle.std.specs.Prelude.{◌≡◌, ◌<◌, false, IfSome, IsErrOf, IsTrue, OnOk, Some};
 ghost use Rattle.tail_outside.specs.Outside.{OnlyRead, ReadHasFailed};
 ghost use Rattle.tail_outside.specs.inside.Outside.{OnlyWritten, WriteHasFailed};
 ghost use Rattle.plan_report.specs.PlanText.{plan_in};
@@ -73,7 +73,7 @@ pub fn save_report<F: Files>(
     requires named { IsTrue ((F.shows files).lets_write name.now) }
     requires plan { HasPlanFor book.now outcome.now }
     ensures saved { OnOk result.done ((F.shows result.files).ceased name.now ≡ false →
-        unwrap_or ((F.shows result.files).holds name.now) [] ≡ report book.now outcome.now) }
+        (F.shows result.files).holds name.now ≡ Some (report book.now outcome.now)) }
     ensures only_written { OnlyWritten name.now (F.shows files) (F.shows result.files) }
     ensures cause { IsErrOf result.done ReportFail.Write → WriteHasFailed (F.shows files) (F.shows result.files) }
 {

@@ -5,11 +5,8 @@ use Rattle.std.proofs.Common.{◌≡◌, ℕ, List, [], ◌∷◌, Option, Some,
 use Rattle.clap.proofs.OnLiterals.{clap_on_literals}
 use Rattle.small_texts.specs.inside.PlanWords.{ReadsPlans}
 use Rattle.tailcheck.specs.Texts.{CheckNamesSeen, PlanName, CertificateName}
+use Rattle.tailcheck.proofs.WordLaws.{named}
 use Rattle.tailcheck.specs.Words.{check_of}
-
--- the words name these tables and this plan
-abbrev named : List ℕ → List ℕ → List ℕ → List ℕ → Option CheckNamesSeen
-named timetable fleet rules plan = Some (record { tables = record { timetable = timetable; fleet = fleet; rules = rules }; subject = PlanName plan })
 
 -- a plan is named as by each program that judges one
 plans : ReadsPlans (codes "tailcheck") check_of named

@@ -19,7 +19,7 @@ use Rattle.plan_report.specs.AuditText.{broken_lines, legal_line}
 use Rattle.plan_report.specs.Lines.{text_of}
 use Rattle.run_frame.proofs.Ending as ending
 use Rattle.run_frame.proofs.Held.{OfHeld-map}
-use Rattle.run_frame.specs.inside.Answer.{IsPrintable, IsPrinted, status_of}
+use Rattle.run_frame.specs.inside.Answer.{IsPrintable, IsPrinted, audit_status, status_of}
 use Rattle.run_frame.specs.Answer.{IsUnlessStopped}
 use Rattle.run_frame.specs.declared.answer.Answer.TheVariants.{ReadFailed}
 use Rattle.tailcheck.specs.Answers.{Answer, AreJudged, AreRefused, IsJudgedSo, IsTrueAnswer, OfTexts, answer_text, found_lines}
@@ -31,7 +31,7 @@ use Rattle.tailcheck.specs.VerdictText.{no_line, too_long_line, yes_line}
 use Rattle.tailcheck.specs.Words.{check_of}
 use Rattle.tailcheck.specs.declared.answer.Found.{Found}
 use Rattle.tailcheck.specs.declared.answer.Found.TheVariants.{Plan, Certificate, TooLong}
-use Rattle.tailcheck.specs.inside.Findings.{IsFit, audit_status, found_status}
+use Rattle.tailcheck.specs.inside.Findings.{IsFit, found_status}
 
 -- a case is no refusal
 apart : (texts : TextsSeen) (case : Case) (refusal : Refusal) → case_of texts ≡ Ok case → AreRefused texts refusal → ⊥

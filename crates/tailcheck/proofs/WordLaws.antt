@@ -7,7 +7,7 @@ use Rattle.tailcheck.specs.Texts.{CheckNamesSeen, PlanName, CertificateName}
 use Rattle.tailcheck.specs.Words.{check_of}
 
 -- the words name these tables and this plan
-abbrev named : List ℕ → List ℕ → List ℕ → List ℕ → Option CheckNamesSeen
+abbrev pub named : List ℕ → List ℕ → List ℕ → List ℕ → Option CheckNamesSeen
 named timetable fleet rules plan = Some (record { tables = record { timetable = timetable; fleet = fleet; rules = rules }; subject = PlanName plan })
 
 -- a plan is named as by each program that judges one

@@ -1,12 +1,8 @@
 -- The reading of the words: the program's name, the names of three tables, and that of a plan's file or of a certificate's.
 use Rattle.std.specs.Prelude.{ℕ, List, codes, Option, Some, None, option_and_then, option_map}
-use Rattle.clap.specs.Words.{App, Row, Rule, first_of, new_rule, with_rule}
-use Rattle.run_frame.specs.Words.{matched, tables_command, tables_in}
+use Rattle.clap.specs.Words.{App, Row, first_of, with_rule}
+use Rattle.run_frame.specs.Words.{matched, optional, tables_command, tables_in}
 use Rattle.tailcheck.specs.Texts.{CheckNamesSeen, SubjectName, PlanName, CertificateName}
-
--- an option that may be given, once and with one value
-abbrev pub optional : List ℕ → Rule
-optional id = record (new_rule id) { long = Some id }
 
 -- the command: three places and two options
 abbrev pub command : App

@@ -9,7 +9,7 @@ use crate::verdict_text::{too_long_line, verdict_line};
 use cert_checker::Verdict;
 use plan_audit::Audit;
 use plan_report::{ReportFail, write_audit, write_lines};
-use run_frame::{Finding, Status};
+use run_frame::{Finding, Status, audit_status};
 use std::alloc::Global;
 use tail_book::Book;
 use tail_outside::Sink;
@@ -40,15 +40,12 @@ impl Finding for Found {
     ghost is_printable = { IsFit };
 
     fn status(&self) -> Status {
-        Status(match self {
-            Found::Plan(judged) => match &judged.found {
-                Audit::Legal(_) => 0,
-                Audit::Broken(_) => 1,
-            },
-            Found::Certificate(Verdict::Yes(_)) => 0,
-            Found::Certificate(Verdict::No { .. }) => 1,
-            Found::TooLong => 8,
-        })
+        match self {
+            Found::Plan(judged) => audit_status(&judged.found),
+            Found::Certificate(Verdict::Yes(_)) => Status(0),
+            Found::Certificate(Verdict::No { .. }) => Status(1),
+            Found::TooLong => Status(8),
+        }
     }
 
     fn write<S: Sink>(&self, alloc: Global, out: &mut S) -> Result<(), ReportFail> {

@@ -5,6 +5,7 @@ use Rattle.std.proofs.Common.{◌≡◌, ℕ, List, [], ◌∷◌, Option, Some,
 use Rattle.clap.proofs.OnLiterals.{clap_on_literals}
 use Rattle.branch_tree.specs.declared.limit.Limit.TheVariants.{Free, Nodes}
 use Rattle.run_frame.specs.Tables.{NamesSeen}
+use Rattle.tailplan.proofs.WordLaws.{named}
 use Rattle.tailplan.specs.Tasks.{TaskNamesSeen}
 use Rattle.tailplan.specs.Words.{run_of, seed_of}
 
@@ -15,10 +16,6 @@ after_name words = run_of (codes "tailplan" ∷ words)
 -- the tables `t`, `f` and `r`
 abbrev t_f_r : NamesSeen
 t_f_r = record { timetable = codes "t"; fleet = codes "f"; rules = codes "r" }
-
--- the words name these tables, and no limit
-abbrev named : List ℕ → List ℕ → List ℕ → Option TaskNamesSeen
-named timetable fleet rules = Some (record { tables = record { timetable = timetable; fleet = fleet; rules = rules }; limit = Free; cert = None })
 
 -- they name the tables `t`, `f` and `r`, and this limit
 abbrev limited : ℕ → Option TaskNamesSeen

@@ -10,7 +10,7 @@ use Rattle.tailplan.specs.Tasks.{TaskNamesSeen}
 use Rattle.tailplan.specs.Words.{command, is_trial, names_in, run_of}
 
 -- the words name these files, no limit, and no certificate's file
-abbrev named : List ℕ → List ℕ → List ℕ → Option TaskNamesSeen
+abbrev pub named : List ℕ → List ℕ → List ℕ → Option TaskNamesSeen
 named timetable fleet rules = Some (record { tables = record { timetable = timetable; fleet = fleet; rules = rules }; limit = Free; cert = None })
 
 -- the program's name does not matter

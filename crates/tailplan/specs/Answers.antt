@@ -64,7 +64,8 @@ IsCertified files task book outcome = IfSome task.cert (HoldsCertificate files b
 -- they are left
 abbrev pub AreSolved : FilesShown → TaskSeen → Solved → Type 0
 AreSolved later task solved =
-    IsBookOf task solved.book × IsTrueOutcome solved.book solved.outcome × HasTree solved.book task.limit solved.outcome × IsCertified later task solved.book solved.outcome
+    IsBookOf task solved.book × IsTrueOutcome solved.book solved.outcome × HasTree solved.book task.limit solved.outcome
+    × IsCertified later task solved.book solved.outcome
 
 -- the answer is true of these words and files, and of what the files are left with
 abbrev pub IsTrueAnswer : List (List ℕ) → FilesShown → FilesShown → Answer → Type 0

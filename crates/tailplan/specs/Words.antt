@@ -1,19 +1,15 @@
 -- The reading of the words: the program's name, and then the names of three tables, how many nodes may be counted, and the
 -- name of the certificate's file; or the word `trial` and a seed.
 use Rattle.std.specs.Prelude.{ℕ, Bool, false, List, [], ◌∷◌, bytes_eq, codes, Option, Some, None, Result, Ok, Err, if◌then◌else◌, option_and_then, option_map}
-use Rattle.clap.specs.Words.{App, Row, Rule, first_of, new_rule, with_rule}
+use Rattle.clap.specs.Words.{App, Row, first_of, with_rule}
 use Rattle.tail_text.specs.Number.{number_of}
 use Rattle.tail_text.specs.declared.bad.Bad.{Bad}
 use Rattle.branch_tree.specs.declared.limit.Limit.{Limit}
 use Rattle.branch_tree.specs.declared.limit.Limit.TheVariants.{Free, Nodes}
-use Rattle.run_frame.specs.Words.{matched, tables_command, tables_in}
+use Rattle.run_frame.specs.Words.{matched, optional, tables_command, tables_in}
 use Rattle.seed_tables.specs.declared.trial.TheConstants.{SEED_LIMIT}
 use Rattle.tailplan.specs.Tasks.{TaskNamesSeen}
 use Rattle.tailplan.specs.declared.words.TheConstants.{NODE_LIMIT}
-
--- an option that may be given, once and with one value
-abbrev pub optional : List ℕ → Rule
-optional id = record (new_rule id) { long = Some id }
 
 -- the command: three places and two options
 abbrev pub command : App
@@ -32,7 +28,9 @@ limit_of (Some text) = limited (number_of NODE_LIMIT text)
 -- the names and the limit among what the command matched; any text is the name of a certificate's file
 abbrev pub names_in : List Row → Option TaskNamesSeen
 names_in rows =
-    option_and_then (λ tables. option_map (λ limit. record { tables = tables; limit = limit; cert = first_of (codes "cert") rows }) (limit_of (first_of (codes "nodes") rows)))
+    option_and_then (λ tables. option_map (λ limit.
+    record { tables = tables; limit = limit; cert = first_of (codes "cert") rows })
+    (limit_of (first_of (codes "nodes") rows)))
     (tables_in rows)
 
 -- the word behind the program's name asks for a trial; a timetable of that name is written as a path

@@ -12,6 +12,18 @@ use std::alloc::Global;
 use tail_book::{Book, Outcome};
 use tail_outside::Sink;
 
+/// The status of a run that printed this outcome.
+pub fn outcome_status(outcome: &Outcome) -> Status
+    ensures { result.0 ≡ outcome_status outcome.now }
+{
+    Status(match outcome {
+        Outcome::Optimal(_, _) => 0,
+        Outcome::Infeasible => 1,
+        Outcome::Between { .. } => 4,
+        Outcome::Above { .. } => 4,
+    })
+}
+
 /// What a run finds: the book of the tables, and what is true of it.
 #[derive(Debug, Drop)]
 pub struct Solved {
@@ -29,12 +41,7 @@ impl Finding for Solved {
     ghost is_printable = { λ s. HasPlanFor s.book s.outcome };
 
     fn status(&self) -> Status {
-        Status(match &self.outcome {
-            Outcome::Optimal(_, _) => 0,
-            Outcome::Infeasible => 1,
-            Outcome::Between { .. } => 4,
-            Outcome::Above { .. } => 4,
-        })
+        outcome_status(&self.outcome)
     }
 
     fn write<S: Sink>(&self, alloc: Global, out: &mut S) -> Result<(), ReportFail> {

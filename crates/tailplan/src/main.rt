@@ -3,7 +3,7 @@
 
 mod answer;
 mod answered;
-mod planning;
+mod book_plan;
 mod run;
 mod trial;
 mod usage;

@@ -18,7 +18,7 @@ ghost use Rattle.tailplan.specs.inside.Ending.{KeepsFiles, LeavesFile};
 
 use crate::answer::Solved;
 use crate::answered::{Answered, report};
-use crate::planning::planned;
+use crate::book_plan::planned;
 use crate::trial::{Checker, run_trial};
 use crate::words::{run_of, seed_of};
 use book_maker::read_book;
@@ -99,7 +99,8 @@ fn answer_of<F: Files>(alloc: Global, words: &[String], files: F) -> Answered<F>
     ensures same { cert_of (spelled words.now) ≡ None → OnlyRead (F.shows files) (F.shows result.files) }
     ensures left { LeavesCertificate (spelled words.now) (F.shows files) (F.shows result.files) }
     ensures read_cause { result.answer ≡ Ok ReadFailed → ReadHasFailed (F.shows files) (F.shows result.files) }
-    ensures write_cause { IsErr result.answer → AreGiven (cert_of (spelled words.now)) × HasRisen (F.shows files).write_faults (F.shows result.files).write_faults }
+    ensures write_cause { IsErr result.answer → AreGiven (cert_of (spelled words.now))
+        × HasRisen (F.shows files).write_faults (F.shows result.files).write_faults }
 {
     let mut files = files;
     let names = match run_of(alloc, words) {
@@ -139,13 +140,16 @@ fn solved<F: Files>(
     files: F,
 ) -> Answered<F>
     requires { IfSome (option_map (λ s. s.now) cert) (λ name. IsTrue ((F.shows files).lets_write name)) }
-    ensures answer { IfOk result.answer (IsAnswerTo AreRefused (AreSolved (F.shows result.files)) (record { tables = tables.now; limit = limit; cert = option_map (λ s. s.now) cert.entry })) }
+    ensures answer { IfOk result.answer (IsAnswerTo AreRefused (AreSolved (F.shows result.files))
+        (record { tables = tables.now; limit = limit; cert = option_map (λ s. s.now) cert.entry })) }
     ensures printable { IfOk result.answer (IsPrintableBy (λ solved. HasPlanFor solved.book solved.outcome)) }
     ensures others { OnlyCertificate (option_map (λ s. s.now) cert.entry) (F.shows files) (F.shows result.files) }
     ensures kept { IfOk result.answer (KeepsFiles (F.shows files) (F.shows result.files)) }
     ensures same { option_map (λ s. s.now) cert.entry ≡ None → OnlyRead (F.shows files) (F.shows result.files) }
-    ensures left { LeavesFile (record { tables = tables.now; limit = limit; cert = option_map (λ s. s.now) cert.entry }) (F.shows files) (F.shows result.files) }
-    ensures cause { IsErr result.answer → AreGiven (option_map (λ s. s.now) cert.entry) × HasRisen (F.shows files).write_faults (F.shows result.files).write_faults }
+    ensures left { LeavesFile
+        (record { tables = tables.now; limit = limit; cert = option_map (λ s. s.now) cert.entry }) (F.shows files) (F.shows result.files) }
+    ensures cause { IsErr result.answer → AreGiven (option_map (λ s. s.now) cert.entry)
+        × HasRisen (F.shows files).write_faults (F.shows result.files).write_faults }
 {
     match read_book(alloc, &tables.timetable, &tables.fleet, &tables.rules) {
         Ok(book) => planned(alloc, book, limit, cert, files),

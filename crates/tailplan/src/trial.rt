@@ -10,6 +10,7 @@ ghost use Rattle.tailplan.specs.inside.Trials.{IsYes};
 ghost use Rattle.seed_tables.specs.Making.{IsBookOfTrial};
 ghost use Rattle.seed_tables.specs.Trial.{trial_of};
 
+use crate::answer::outcome_status;
 use crate::usage::usage_line;
 use book_maker::read_book;
 use branch_tree::Limit;
@@ -63,12 +64,7 @@ impl Finding for Tried {
     ghost is_printable = { λ t. ⊤ };
 
     fn status(&self) -> Status {
-        Status(match &self.outcome {
-            Outcome::Optimal(_, _) => 0,
-            Outcome::Infeasible => 1,
-            Outcome::Between { .. } => 4,
-            Outcome::Above { .. } => 4,
-        })
+        outcome_status(&self.outcome)
     }
 
     fn write<S: Sink>(&self, alloc: Global, out: &mut S) -> Result<(), ReportFail> {

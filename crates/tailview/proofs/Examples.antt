@@ -5,11 +5,8 @@ use Rattle.std.proofs.Common.{◌≡◌, ℕ, true, false, List, [], ◌∷◌, 
 use Rattle.clap.proofs.OnLiterals.{clap_on_literals}
 use Rattle.small_texts.specs.inside.PlanWords.{ReadsPlans}
 use Rattle.tailview.specs.Texts.{ViewNamesSeen}
+use Rattle.tailview.proofs.WordLaws.{named}
 use Rattle.tailview.specs.Words.{names_of}
-
--- the words name these tables and this plan
-abbrev named : List ℕ → List ℕ → List ℕ → List ℕ → Option ViewNamesSeen
-named timetable fleet rules plan = Some (record { tables = record { timetable = timetable; fleet = fleet; rules = rules }; plan = plan; airport = None; html = false })
 
 -- a plan is named as by each program that judges one
 plans : ReadsPlans (codes "tailview") names_of named

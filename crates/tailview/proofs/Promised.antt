@@ -25,13 +25,12 @@ use Rattle.book_maker.specs.Made.{book_of}
 use Rattle.run_frame.proofs.Ending as ending
 use Rattle.run_frame.proofs.Fronts.{book_of-fronts, front-limited}
 use Rattle.run_frame.proofs.Held.{OfHeld-map}
-use Rattle.run_frame.specs.inside.Answer.{IsAnswerTo, IsPrintable, IsPrinted, status_of}
+use Rattle.run_frame.specs.inside.Answer.{IsAnswerTo, IsPrintable, IsPrinted, audit_status, status_of}
 use Rattle.run_frame.specs.Answer.{IsUnlessStopped}
 use Rattle.run_frame.specs.inside.TableFiles.{front}
 use Rattle.run_frame.specs.declared.answer.Answer.TheVariants.{ReadFailed}
-use Rattle.tailview.specs.Answers.{Answer, AreJudged, AreRefused, IsTrueAnswer, OfTexts, answer_text, view_in}
-use Rattle.tailview.specs.Drawn.{drawn_cost, drawn_rules}
-use Rattle.tailview.specs.inside.Audits.{audit_status}
+use Rattle.tailview.specs.Answers.{Answer, AreJudged, AreRefused, IsTrueAnswer, OfTexts, answer_text, drawn_lines, view_in}
+use Rattle.tailview.specs.Drawn.{drawn_rules}
 use Rattle.tailview.specs.Cases.{Case, case_of}
 use Rattle.tailview.specs.Promises.{IsVerdict, JudgesPlan, Promise, RefusesTexts}
 use Rattle.tailview.specs.inside.Texts.{text_fronts}
@@ -81,10 +80,7 @@ decides : (book : BookSeen) (plan : RawPlanSeen) (found : Audit) (status : ℕ) 
 decides book plan (Legal cost) status own is = inl (is, own.0)
 decides book plan (Broken rules) status own is = inr (is, own.0)
 
--- the lines of what was found, and when they can be drawn
-abbrev drawn_lines : Judged → List (List ℕ)
-drawn_lines judged = page_lines judged.view judged.book judged.plan (drawn_cost judged.found) (drawn_rules judged.found)
-
+-- the lines of what was found can be drawn
 abbrev IsDrawn : Judged → Type 0
 IsDrawn judged = IsDrawable judged.book judged.plan (drawn_rules judged.found)
 

@@ -7,7 +7,7 @@ use Rattle.tailview.specs.Texts.{ViewNamesSeen}
 use Rattle.tailview.specs.Words.{names_of}
 
 -- the words name these files
-abbrev named : List ℕ → List ℕ → List ℕ → List ℕ → Option ViewNamesSeen
+abbrev pub named : List ℕ → List ℕ → List ℕ → List ℕ → Option ViewNamesSeen
 named timetable fleet rules plan = Some (record { tables = record { timetable = timetable; fleet = fleet; rules = rules }; plan = plan; airport = None; html = false })
 
 -- a plan is named as by each program that judges one

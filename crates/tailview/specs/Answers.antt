@@ -48,6 +48,10 @@ AreJudged texts judged = (plan : RawPlanSeen) × (case_of texts ≡ Ok (record {
 abbrev pub IsTrueAnswer : List (List ℕ) → FilesShown → Answer → Type 0
 IsTrueAnswer words files answer = IsTrueOf (names_of words) (texts_held files) AreRefused AreJudged answer
 
+-- the lines of the picture of what was found
+abbrev pub drawn_lines : Judged → List (List ℕ)
+drawn_lines judged = page_lines judged.view judged.book judged.plan (drawn_cost judged.found) (drawn_rules judged.found)
+
 -- what is printed for an answer: of what was found, its picture
 abbrev pub answer_text : Answer → List ℕ
-answer_text answer = text_of (lines_of usage_line (λ judged. page_lines judged.view judged.book judged.plan (drawn_cost judged.found) (drawn_rules judged.found)) answer)
+answer_text answer = text_of (lines_of usage_line drawn_lines answer)

@@ -25,5 +25,7 @@ MayReadTexts files names = MayReadTables files names.tables × IsTrue (files.let
 -- the tables and the plan's file that files hold under these names, where each of them is told
 abbrev pub texts_held : FilesShown → ViewNamesSeen → Option TextsSeen
 texts_held files names =
-    option_and_then (λ tables. option_map (λ plan. record { tables = tables; plan = plan; airport = names.airport; html = names.html }) (files.holds names.plan))
+    option_and_then (λ tables. option_map (λ plan.
+    record { tables = tables; plan = plan; airport = names.airport; html = names.html })
+    (files.holds names.plan))
     (tables_held files names.tables)

@@ -2,13 +2,10 @@
 use Rattle.std.specs.Prelude.{ℕ, List, codes, nat_lt, Option, Some, option_and_then, option_map}
 use Rattle.clap.specs.Words.{App, Row, Rule, count_of, first_of, new_rule, with_rule}
 use Rattle.clap.specs.declared.builder.action.ArgAction.TheVariants.{Count}
-use Rattle.run_frame.specs.Words.{matched, required_option, tables_command, tables_in}
+use Rattle.run_frame.specs.Words.{matched, optional, required_option, tables_command, tables_in}
 use Rattle.tailview.specs.Texts.{ViewNamesSeen}
 
--- an option that may be given, once and with one value, and one that may be given without a value
-abbrev pub free_option : List ℕ → Rule
-free_option id = record (new_rule id) { long = Some id }
-
+-- an option that may be given, without a value
 abbrev pub flag : List ℕ → Rule
 flag id = record (new_rule id) { long = Some id; action = Some Count }
 
@@ -18,7 +15,7 @@ with_plan = with_rule (tables_command (codes "tailview")) (required_option (code
 
 -- and one that may be
 abbrev pub with_curfews : App
-with_curfews = with_rule with_plan (free_option (codes "curfews"))
+with_curfews = with_rule with_plan (optional (codes "curfews"))
 
 -- the command: these, and a flag
 abbrev pub command : App

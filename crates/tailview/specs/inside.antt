@@ -1,3 +1,2 @@
 -- What only proofs, and calls further in, cite.
 pub mod Texts
-pub mod Audits

@@ -2,15 +2,15 @@
 //! what is kept of it.
 
 ghost use Rattle.std.specs.Prelude.{◌≡◌, ◌≤◌, ℕ, [], false, List, OnErr, OnOk, IsErrOf};
-ghost use Rattle.plan_picture.specs.Picture.{page_lines};
 ghost use Rattle.plan_picture.specs.inside.Drawable.{IsDrawable};
+ghost use Rattle.run_frame.specs.inside.Answer.{audit_status};
+ghost use Rattle.tailview.specs.Answers.{drawn_lines};
 ghost use Rattle.tailview.specs.Drawn.{drawn_cost, drawn_rules};
-ghost use Rattle.tailview.specs.inside.Audits.{audit_status};
 
 use plan_audit::{Audit, Broken};
 use plan_picture::{View, write_picture};
 use plan_report::ReportFail;
-use run_frame::{Finding, Status};
+use run_frame::{Finding, Status, audit_status};
 use std::alloc::Global;
 use tail_book::{Book, Plan};
 use tail_outside::Sink;
@@ -46,17 +46,14 @@ fn drawn_rules(found: &Audit) -> &[Broken]
 }
 
 impl Finding for Judged {
-    ghost lines = { λ j. page_lines j.view j.book j.plan (drawn_cost j.found) (drawn_rules j.found) };
+    ghost lines = { drawn_lines };
 
     ghost code = { λ j. audit_status j.found };
 
     ghost is_printable = { λ j. IsDrawable j.book j.plan (drawn_rules j.found) };
 
     fn status(&self) -> Status {
-        Status(match &self.found {
-            Audit::Legal(_) => 0,
-            Audit::Broken(_) => 1,
-        })
+        audit_status(&self.found)
     }
 
     fn write<S: Sink>(&self, alloc: Global, out: &mut S) -> Result<(), ReportFail> {

@@ -1,8 +1,10 @@
--- The status of an answer, when it can be printed, and what printing it leaves.
+-- The status of an answer, and of an audit that is found; when an answer can be printed, and what printing it leaves.
 use Rattle.std.specs.Prelude.{ℕ, ◌≡◌, ◌⊎◌, ⊤, List}
 use Rattle.tail_outside.specs.Outside.{PieceHasFailed, Takes, TakesFront}
 use Rattle.tail_outside.specs.Shown.{SinkShown}
 use Rattle.tail_text.specs.declared.refusal.Refusal.{Refusal}
+use Rattle.plan_audit.specs.declared.broken.Audit.{Audit}
+use Rattle.plan_audit.specs.declared.broken.Audit.TheVariants.{Legal, Broken}
 use Rattle.run_frame.specs.declared.answer.Answer.{Answer}
 use Rattle.run_frame.specs.declared.answer.Answer.TheVariants.{Usage, Refused, Found, ReadFailed, Memory}
 
@@ -13,6 +15,11 @@ status_of code (Refused refusal) = 3
 status_of code (Found found) = code found
 status_of code ReadFailed = 5
 status_of code Memory = 7
+
+-- the status of an audit that was printed or drawn
+abbrev pub audit_status : Audit → ℕ
+audit_status (Legal cost) = 0
+audit_status (Broken rules) = 1
 
 -- what was found can be printed
 abbrev pub IsPrintable : {T : Type 0} → (T → Type 0) → Answer T → Type 0

@@ -6,10 +6,9 @@ use Rattle.tail_outside.specs.Shown.{FilesShown}
 use Rattle.cert_checker.specs.Verdict.{verdict}
 use Rattle.cert_checker.specs.declared.verdict.Verdict.{Verdict}
 use Rattle.cert_checker.specs.declared.verdict.Verdict.TheVariants.{Yes, No}
-use Rattle.plan_audit.specs.declared.broken.Audit.{Audit}
-use Rattle.plan_audit.specs.declared.broken.Audit.TheVariants.{Legal, Broken}
 use Rattle.plan_report.specs.inside.AuditText.{AreOfBook}
 use Rattle.run_frame.specs.Tables.{TablesSeen}
+use Rattle.run_frame.specs.inside.Answer.{audit_status}
 use Rattle.run_frame.specs.declared.answer.Answer.TheVariants.{Usage, Refused, Found as WasFound, ReadFailed, Memory}
 use Rattle.tailcheck.specs.Answers.{Answer, AreJudged, AreRefused, IsTrueVerdict}
 use Rattle.tailcheck.specs.Texts.{SubjectName, subject_held}
@@ -17,12 +16,7 @@ use Rattle.tailcheck.specs.declared.answer.Found.{Found}
 use Rattle.tailcheck.specs.declared.answer.Found.TheVariants.{Plan, Certificate, TooLong}
 use Rattle.tailcheck.specs.inside.Texts.{subject_front}
 
--- the status of an audit that was printed
-abbrev pub audit_status : Audit → ℕ
-audit_status (Legal cost) = 0
-audit_status (Broken rules) = 1
-
--- that of a verdict
+-- the status of a verdict that was printed
 abbrev pub verdict_status : Verdict → ℕ
 verdict_status (Yes claim) = 0
 verdict_status (No line reason) = 1
@@ -42,8 +36,10 @@ IsFit TooLong = ⊤
 -- the answer is true of the tables that were read, and of what is judged as far as it is read of the files
 abbrev pub IsAnswerOver : FilesShown → TablesSeen → SubjectName → Answer → Type 0
 IsAnswerOver files tables name Usage = ⊥
-IsAnswerOver files tables name (Refused refusal) = IfSome (subject_held files name) (λ subject. AreRefused (record { tables = tables; subject = subject_front subject }) refusal)
-IsAnswerOver files tables name (WasFound found) = IfSome (subject_held files name) (λ subject. AreJudged (record { tables = tables; subject = subject_front subject }) found)
+IsAnswerOver files tables name (Refused refusal) =
+    IfSome (subject_held files name) (λ subject. AreRefused (record { tables = tables; subject = subject_front subject }) refusal)
+IsAnswerOver files tables name (WasFound found) =
+    IfSome (subject_held files name) (λ subject. AreJudged (record { tables = tables; subject = subject_front subject }) found)
 IsAnswerOver files tables name ReadFailed = ⊤
 IsAnswerOver files tables name Memory = ⊤
 

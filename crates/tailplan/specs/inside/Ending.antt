@@ -30,7 +30,8 @@ KeepsFiles old new Memory = ⊤
 
 -- where the task names a certificate's file, it holds what it held or a front of what was due
 abbrev pub LeavesFile : TaskSeen → FilesShown → FilesShown → Type 0
-LeavesFile task old new = IfSome task.cert (λ name. new.ceased name ≡ false → (new.holds name ≡ old.holds name) ⊎ HoldsText new name (HasFrontOfDue task))
+LeavesFile task old new =
+    IfSome task.cert (λ name. new.ceased name ≡ false → (new.holds name ≡ old.holds name) ⊎ HoldsText new name (HasFrontOfDue task))
 
 -- what is planned: a book, under a limit, with or without a certificate
 pub record Planned : Type 0 where
@@ -51,4 +52,5 @@ IsPlanned later planned solved =
 -- the file holds what it held, or a front of what was due of the book
 abbrev pub LeavesPlanned : Planned → FilesShown → FilesShown → Type 0
 LeavesPlanned planned old new =
-    IfSome planned.cert (λ name. new.ceased name ≡ false → (new.holds name ≡ old.holds name) ⊎ HoldsText new name (IsFrontOfDue planned.book planned.limit))
+    IfSome planned.cert (λ name. new.ceased name ≡ false
+    → (new.holds name ≡ old.holds name) ⊎ HoldsText new name (IsFrontOfDue planned.book planned.limit))

@@ -1,8 +1,7 @@
 use Rattle.tail_outside.specs.Outside.{ReadHasFailed}
-use Rattle.run_frame.specs.inside.Answer.{IsPrinted, status_of}
+use Rattle.run_frame.specs.inside.Answer.{IsPrinted, audit_status, status_of}
 use Rattle.run_frame.specs.Spelled.{spelled}
 use Rattle.tailview.specs.Answers.{answer_text}
-use Rattle.tailview.specs.inside.Audits.{audit_status}
 use Rattle.tailview.proofs.Promised.{judged, piece_failed, promise, read_failed, texts_refused, words_refused}
 use Rattle.tailview.proofs.run.view_run.Goals as goal
 

@@ -2,7 +2,7 @@ use Rattle.std.proofs.Common.{sym, subst}
 use Rattle.std.specs.Prelude.{option_map}
 use Rattle.run_frame.specs.inside.Answer.{IsAnswerTo}
 use Rattle.tailplan.specs.inside.Ending.{IsPlanned, NeverRefused}
-use Rattle.tailplan.proofs.planning.planned.Goals as goal
+use Rattle.tailplan.proofs.book_plan.planned.Goals as goal
 
 -- no certificate was asked for
 pub returns-in-None-clause-answer : goal.returns-in-None-clause-answer

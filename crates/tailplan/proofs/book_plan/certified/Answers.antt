@@ -7,7 +7,7 @@ use Rattle.branch_tree.specs.SearchTree.{IsSearchTree, SearchTree}
 use Rattle.node_leaves.specs.declared.stop.Stop.{Stop}
 use Rattle.certified_search.specs.Written.{IsCertificateOf, LeavesText}
 use Rattle.tailplan.proofs.Holding.{certificate_front, held_by}
-use Rattle.tailplan.proofs.planning.certified.Goals as goal
+use Rattle.tailplan.proofs.book_plan.certified.Goals as goal
 
 -- the file holds the certificate of the outcome
 pub returns-in-Ok-found-clause-answer : goal.returns-in-Ok-found-clause-answer

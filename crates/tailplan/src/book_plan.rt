@@ -33,11 +33,13 @@ pub fn planned<F: Files>(
     files: F,
 ) -> Answered<F>
     requires { IfSome (option_map (λ s. s.now) cert) (λ name. IsTrue ((F.shows files).lets_write name)) }
-    ensures answer { IfOk result.answer (IsAnswerTo NeverRefused (IsPlanned (F.shows result.files)) (record { book = book; limit = limit; cert = option_map (λ s. s.now) cert.entry })) }
+    ensures answer { IfOk result.answer (IsAnswerTo NeverRefused (IsPlanned (F.shows result.files))
+        (record { book = book; limit = limit; cert = option_map (λ s. s.now) cert.entry })) }
     ensures printable { IfOk result.answer (IsPrintableBy (λ solved. HasPlanFor solved.book solved.outcome)) }
     ensures left { LeavesPlanned (record { book = book; limit = limit; cert = option_map (λ s. s.now) cert.entry }) (F.shows files) (F.shows result.files) }
     ensures others { OnlyCertificate (option_map (λ s. s.now) cert.entry) (F.shows files) (F.shows result.files) }
-    ensures cause { IsErr result.answer → AreGiven (option_map (λ s. s.now) cert.entry) × HasRisen (F.shows files).write_faults (F.shows result.files).write_faults }
+    ensures cause { IsErr result.answer → AreGiven (option_map (λ s. s.now) cert.entry)
+        × HasRisen (F.shows files).write_faults (F.shows result.files).write_faults }
     ensures same { option_map (λ s. s.now) cert.entry ≡ None → OnlyRead (F.shows files) (F.shows result.files) }
 {
     let table = match CostTable::of(alloc, &book) {
@@ -85,7 +87,8 @@ fn certified<F: Files>(
 ) -> Answered<F>
     requires lets { IsTrue ((F.shows files).lets_write name.now) }
     requires own { table.now ≡ costs_of book }
-    ensures answer { IfOk result.answer (IsAnswerTo NeverRefused (IsPlanned (F.shows result.files)) (record { book = book; limit = limit; cert = Some name.now })) }
+    ensures answer { IfOk result.answer (IsAnswerTo NeverRefused (IsPlanned (F.shows result.files))
+        (record { book = book; limit = limit; cert = Some name.now })) }
     ensures printable { IfOk result.answer (IsPrintableBy (λ solved. HasPlanFor solved.book solved.outcome)) }
     ensures left { LeavesPlanned (record { book = book; limit = limit; cert = Some name.now }) (F.shows files) (F.shows result.files) }
     ensures others { OnlyCertificate (Some name.now) (F.shows files) (F.shows result.files) }
