@@ -18,14 +18,9 @@ use Rattle.branch_marks.specs.Labels.{Label, label_after}
 use Rattle.branch_marks.specs.FamilyTests.{goes_on, is_covered_by}
 use Rattle.branch_marks.specs.MarkTests.{is_usable}
 use Rattle.branch_marks.specs.inside.MarkTests.{UsableDecides}
+use Rattle.cert_checker.specs.inside.Leaf.{met}
 use Rattle.cert_checker.specs.inside.Ways.{WaysAreAll, ways_of}
 use Rattle.cert_checker.proofs.FollowingTold.{all_pass, one_fails}
-
--- a link is not to be gone over, or some member covers what it comes to
-abbrev pub met : BookSeen → List Fact → ℕ → List ℤ → List Label → Place → ℤ → List ℤ → ℕ → Bool
-met book marks k duals family x weight values b =
-    not (is_usable book marks k x b && within_limits book.rules.counters (step book k x b values))
-    || is_covered_by family (label_after (costs_of book) book k duals x weight values b)
 
 pub of_book : RowsAreTheirPlaces → ((book : BookSeen) → RowsRise book) → (book : BookSeen) (k : ℕ) (x : Place) (i d : ℕ) → i < length (ways_of book k x)
     → get_or (ways_of book k x) i d < activities book

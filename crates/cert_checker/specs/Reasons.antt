@@ -1,6 +1,7 @@
--- The reasons for which a certificate fails: the number of each, and a test for each that looks at the book. The others follow
--- from what stands before a line alone.
-use Rattle.std.specs.Prelude.{ℕ, ℤ, List, Bool, true, false, ◌&&◌, nat_le, ◌==◌, Option, Some, None}
+-- The reasons for which a certificate fails: the number and the name of each, and a test for each that looks at the book. The
+-- others follow from what stands before a line alone.
+use Rattle.std.specs.Prelude.{ℕ, ℤ, List, [], codes, find, Bool, true, false, ◌&&◌, nat_le, ◌==◌, Option, Some, None}
+use Rattle.std.specs.Option.{option_map_or}
 use Rattle.tail_book.specs.Cost.{plan_cost}
 use Rattle.tail_book.specs.Lookup.{aircraft}
 use Rattle.tail_book.specs.Seen.{BookSeen}
@@ -12,6 +13,7 @@ use Rattle.branch_marks.specs.Labels.{Label}
 use Rattle.branch_marks.specs.TreeTests.{is_shown_cover, is_shown_stuck}
 use Rattle.cert_checker.specs.declared.verdict.Reason.{Reason}
 use Rattle.cert_checker.specs.declared.verdict.Reason.TheVariants.{BadLine, OutOfPlace, KnownFact, NotFollowing, NotAlive, OpenCover, OutOfBox, BadPlan, WeakBound, Unfinished}
+use Rattle.cert_checker.specs.declared.verdict.TheConstants.{REASONS}
 use Rattle.cert_checker.specs.State.{OpenLeaf}
 
 -- the number of a reason
@@ -26,6 +28,23 @@ number_of_reason OutOfBox = 7
 number_of_reason BadPlan = 8
 number_of_reason WeakBound = 9
 number_of_reason Unfinished = 10
+
+-- its name
+abbrev pub name_of_reason : Reason → List ℕ
+name_of_reason BadLine = codes "BadLine"
+name_of_reason OutOfPlace = codes "OutOfPlace"
+name_of_reason KnownFact = codes "KnownFact"
+name_of_reason NotFollowing = codes "NotFollowing"
+name_of_reason NotAlive = codes "NotAlive"
+name_of_reason OpenCover = codes "OpenCover"
+name_of_reason OutOfBox = codes "OutOfBox"
+name_of_reason BadPlan = codes "BadPlan"
+name_of_reason WeakBound = codes "WeakBound"
+name_of_reason Unfinished = codes "Unfinished"
+
+-- the name of the reason that has this number
+abbrev pub reason_name : ℕ → List ℕ
+reason_name number = option_map_or name_of_reason (find (λ reason. number_of_reason reason == number) REASONS) []
 
 -- the labels of an open leaf show what its line claims: a value that no route of the aircraft undercuts, or that it has no route
 abbrev pub shows : BookSeen → List Fact → ℕ → List ℤ → Option ℤ → List Label → Bool

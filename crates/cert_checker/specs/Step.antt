@@ -97,7 +97,10 @@ take_hole book state a = at_node book state (λ here marks owed.
 abbrev pub take_stuck : BookSeen → State → ℕ → Step
 take_stuck book state k = at_node book state (λ here marks owed.
     must (nat_lt k (aircraft book)) OutOfPlace (
-    Ok (record here { owed = owed; leaf = Some (record { line = here.lines + 1; k = k; marks = marks; duals = zero_duals book; value = None; next = 0; family = [] }) })))
+    Ok (record here {
+      owed = owed;
+      leaf = Some (record { line = here.lines + 1; k = k; marks = marks; duals = zero_duals book; value = None; next = 0; family = [] });
+    })))
 
 -- what is owed once so many covers of a bound leaf were begun: the leaf itself until its last
 abbrev pub owed_with : BookSeen → ℕ → List Fact → List (List Fact) → List (List Fact)

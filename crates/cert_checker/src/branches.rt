@@ -20,14 +20,14 @@ use std::alloc::Global;
 use tail_book::{Book, Memory};
 
 /// A branch that is owed: how many facts of the marks it begins with, and the fact that comes behind them.
-#[derive(Clone, Copy, Debug)]
+#[derive(Clone, Copy)]
 pub struct Owed {
     pub count: usize,
     pub fact: Fact,
 }
 
 /// The marks of a node, the branches that are owed behind it, the next one last, and whether the node itself is owed still.
-#[derive(Debug, Drop)]
+#[derive(Drop)]
 pub struct Branches {
     pub marks: Marks,
     pub behind: Vec<Owed>,

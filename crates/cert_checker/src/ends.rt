@@ -1,14 +1,12 @@
 //! The first line of a certificate, and those behind its tree: the header, the plan, and the claim. Behind the tree
 //! means that no place is owed; once the last leaf is closed, all bounds are known that the claim is judged by.
 
-ghost use Rattle.std.specs.Prelude.{◌≡◌, ◌==◌, ◌&&◌, nat_lt, IfOk, Option, List, ℕ, length};
+ghost use Rattle.std.specs.Prelude.{◌≡◌, ◌==◌, ◌&&◌, nat_lt, IfOk, length};
 ghost use Rattle.tail_book.specs.Lookup.{activities, aircraft};
 ghost use Rattle.tail_book.specs.Seen.{BookSeen};
-ghost use Rattle.cert_checker.specs.Certificate.{claimed_cost};
-ghost use Rattle.cert_checker.specs.Step.{judge_claim, take_claim, take_claim_in, take_fly_in, take_header_in, take_plan};
-ghost use Rattle.cert_checker.specs.Reasons.{has_claimed_plan};
+ghost use Rattle.cert_checker.specs.Step.{take_claim, take_claim_in, take_fly_in, take_header_in, take_plan};
 ghost use Rattle.cert_checker.specs.declared.state.Part.TheVariants.{InPlan};
-ghost use Rattle.cert_checker.specs.inside.Kept.{Gives, IsJudging, section_in, state_of};
+ghost use Rattle.cert_checker.specs.inside.Kept.{Gives, GivesClaim, IsJudging, section_in, state_of};
 ghost use Rattle.cert_checker.specs.inside.Means.{AreMeansOf};
 
 use crate::claim::{asked_of, claimed_cost, has_plan, reaches};
@@ -90,7 +88,7 @@ impl Judging {
     // Takes the claim, where it has no plan or the fliers make its plan, or says why not.
     fn judge_claim(&mut self, means: &Means, has_plan: bool, claim: Claim) -> Option<Reason>
         ensures judging { (book : BookSeen) → AreMeansOf book means.now → IsJudging book self.old → IsJudging book self.new }
-        ensures step { (book : BookSeen) (fliers : Option (List ℕ)) → AreMeansOf book means.now → has_plan ≡ has_claimed_plan book fliers (claimed_cost claim) → Gives (judge_claim book (state_of self.old) fliers claim) self.new result }
+        ensures step { GivesClaim self.old means.now has_plan claim self.new result }
     {
         if !has_plan {
             return Some(Reason::BadPlan);

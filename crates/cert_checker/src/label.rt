@@ -5,7 +5,7 @@ use branch_marks::Row;
 use std::marker::Model;
 
 /// A label: its activity, its weight in thousandths of a cost unit, and its counters. Contracts see the record of these.
-#[derive(Debug, Drop)]
+#[derive(Drop)]
 pub struct Label {
     pub at: u32,
     pub weight: i64,

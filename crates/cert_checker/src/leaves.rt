@@ -14,8 +14,10 @@ ghost use Rattle.cert_checker.specs.inside.Kept.{Gives, IsJudging, state_of};
 ghost use Rattle.cert_checker.specs.inside.Means.{AreMeansOf};
 
 use crate::bound::added;
+use crate::buckets::put_starts;
 use crate::cover::{is_shown_cover, is_shown_stuck};
 use crate::label::Label;
+use crate::leaf::Leaf;
 use crate::means::Means;
 use crate::numbers::{is_activity, is_aircraft};
 use crate::state::{Judging, OpenLeaf, Part};
@@ -144,13 +146,19 @@ impl Judging {
         ensures state { state_of self.new ≡ state_of self.old }
         ensures shows { result ≡ shows book.now self.old.branches.marks.facts leaf.k self.old.duals.items leaf.value self.old.family.items }
     {
-        let (marks, duals, family) = (&self.branches.marks, &self.duals, &self.family);
-        let (starts, counters) = (&mut self.starts, &mut self.counters);
+        put_starts(book, &self.family, &mut self.starts);
+        let here = Leaf {
+            book,
+            means,
+            marks: &self.branches.marks,
+            duals: &self.duals,
+            family: &self.family,
+            starts: &self.starts,
+            k: leaf.k,
+        };
         match leaf.value {
-            Some(value) => is_shown_cover(
-                book, means, marks, leaf.k, duals, value, family, starts, counters,
-            ),
-            None => is_shown_stuck(book, means, marks, leaf.k, duals, family, starts, counters),
+            Some(value) => is_shown_cover(&here, value, &mut self.counters),
+            None => is_shown_stuck(&here, &mut self.counters),
         }
     }
 

@@ -10,7 +10,7 @@ use std::alloc::Global;
 use tail_book::{Book, CostTable, Memory};
 
 /// What judging reads of a book.
-#[derive(Debug, Drop)]
+#[derive(Drop)]
 pub struct Means {
     pub costs: CostTable,
     pub steps: StepTable,

@@ -6,8 +6,8 @@ ghost use Rattle.cert_checker.specs.Step.{is_pair_of, take_bound, take_fact, tak
 ghost use Rattle.cert_checker.specs.inside.Kept.{Gives, IsJudging, state_of};
 ghost use Rattle.cert_checker.specs.inside.Means.{AreMeansOf};
 
-use crate::following::{follows, hole, undecided};
 use crate::means::Means;
+use crate::node_tests::{follows, hole, undecided};
 use crate::numbers::{is_activity, is_aircraft};
 use crate::state::{Judging, OpenLeaf, Part};
 use crate::verdict::Reason;

@@ -19,7 +19,7 @@ use tail_book::{Book, Claim, Memory};
 
 /// What stands before the next line: nothing; the header, a step, a split, or a leaf other than a bound; a bound leaf; a plan's
 /// lines; or the claim.
-#[derive(Clone, Copy, Debug)]
+#[derive(Clone, Copy)]
 pub enum Part {
     Start,
     InTree,
@@ -30,7 +30,7 @@ pub enum Part {
 
 /// An open cover of an aircraft, or an open stuck leaf, which claims no value: the number of its line, and the least activity
 /// whose labels may still come.
-#[derive(Clone, Copy, Debug)]
+#[derive(Clone, Copy)]
 pub struct OpenLeaf {
     pub line: u64,
     pub k: u32,
@@ -40,7 +40,7 @@ pub struct OpenLeaf {
 }
 
 /// What is kept of the lines that were taken.
-#[derive(Debug, Drop)]
+#[derive(Drop)]
 pub struct Judging {
     pub lines: u64,
     pub part: Part,

@@ -7,7 +7,6 @@ ghost use Rattle.std.specs.Prelude.{◌≡◌, ◌<◌, ◌≤◌, ◌+◌, ◌^
 ghost use Rattle.branch_marks.specs.Events.{IsNotable};
 ghost use Rattle.cert_lines.specs.Grammar.{IsLine};
 ghost use Rattle.cert_checker.specs.Step.{take_event, take_line};
-ghost use Rattle.cert_checker.specs.Reasons.{number_of_reason};
 ghost use Rattle.cert_checker.specs.Verdict.{end_with, failed, is_label, take_read, take_text, verdict};
 ghost use Rattle.cert_checker.specs.inside.Kept.{Answers, Gives, IsJudging, state_of};
 ghost use Rattle.cert_checker.specs.inside.Means.{AreMeansOf};
@@ -21,31 +20,13 @@ use std::alloc::Global;
 use tail_book::{Book, Memory};
 use tail_text::Parts;
 
-// The number of a reason.
-fn number_of_reason(reason: Reason) -> u8
-    ensures { result ≡ number_of_reason reason }
-{
-    match reason {
-        Reason::BadLine => 1,
-        Reason::OutOfPlace => 2,
-        Reason::KnownFact => 3,
-        Reason::NotFollowing => 4,
-        Reason::NotAlive => 5,
-        Reason::OpenCover => 6,
-        Reason::OutOfBox => 7,
-        Reason::BadPlan => 8,
-        Reason::WeakBound => 9,
-        Reason::Unfinished => 10,
-    }
-}
-
 // A failure of a line.
 fn failed(line: u64, reason: Reason) -> Verdict
     ensures { result ≡ failed line reason }
 {
     Verdict::No {
         line,
-        reason: number_of_reason(reason),
+        reason: reason.number(),
     }
 }
 

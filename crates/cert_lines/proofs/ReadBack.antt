@@ -30,7 +30,7 @@ use Rattle.cert_lines.specs.declared.cert_line.CertLine.TheVariants as lines
 use Rattle.cert_lines.specs.Grammar.{IsLine, IsLineClaim}
 use Rattle.cert_lines.specs.OneSpelling.{SpelledLinesAreRead, SpelledLinesAreShort}
 use Rattle.cert_lines.specs.Reading.{line_in}
-use Rattle.cert_lines.specs.Spelling.{behind, claim_words, event_words, spaced, words_of}
+use Rattle.cert_lines.specs.Spelling.{behind, claim_line_words, event_words, spaced, words_of}
 use Rattle.cert_lines.specs.Words.{counters_of, number_and_value, two_numbers}
 use Rattle.cert_lines.proofs.Numerals.{decimal_digits}
 use Rattle.cert_lines.proofs.Values.{amount_read, large_read, small_read, value_read}
@@ -103,7 +103,7 @@ event_good (events.Label a v counters) h =
     let rest = counter_words counters h.each in
     record { each = (text_word (codes "label") refl, (small_word a h.activity, (value_word v h.value, rest.0))); some = omega arith; most = omega (arith, rest.1, h.count) }
 
-claim_good : (claim : Claim) → IsLineClaim claim → AreWords (claim_words claim)
+claim_good : (claim : Claim) → IsLineClaim claim → AreWords (claim_line_words claim)
 claim_good (Optimal cost) h = record { each = (text_word (codes "claim") refl, (text_word (codes "optimal") refl, (number_word cost h, tt))); some = omega arith; most = omega arith }
 claim_good Infeasible h = record { each = (text_word (codes "claim") refl, (text_word (codes "infeasible") refl, tt)); some = omega arith; most = omega arith }
 claim_good (Limit low None) h = record { each = (text_word (codes "claim") refl, (text_word (codes "limit") refl, (number_word low h, (text_word (codes "-") refl, tt)))); some = omega arith; most = omega arith }
@@ -189,7 +189,7 @@ event_read (events.Label a v counters) h =
     let many = (counter_words counters h.each).1 in
     rw (small_read a h.activity, value_read v h.value, many, few_counters (length counters) h.count, counters_read counters h.each) refl
 
-claim_read : (claim : Claim) → IsLineClaim claim → line_in (claim_words claim) ≡ Some (lines.Claim claim)
+claim_read : (claim : Claim) → IsLineClaim claim → line_in (claim_line_words claim) ≡ Some (lines.Claim claim)
 claim_read (Optimal cost) h = rw (large_read cost h) refl
 claim_read Infeasible h = refl
 claim_read (Limit low None) h = rw (large_read low h) refl

@@ -29,7 +29,7 @@ use Rattle.cert_lines.specs.Grammar.{IsLine, IsLineClaim, IsLineCost}
 use Rattle.cert_lines.specs.Keyword.{key_text, keyword_among, keyword_of, seldom_keyword_of}
 use Rattle.cert_lines.specs.OneSpelling.{ReadLinesAreSpelled}
 use Rattle.cert_lines.specs.Reading.{bounds_in, claim_in, cost_in, dual_in, event_with, header_in, label_in, limit_of, line_in, line_with, split_in, where_done}
-use Rattle.cert_lines.specs.Spelling.{claim_words, event_words, words_of}
+use Rattle.cert_lines.specs.Spelling.{claim_line_words, event_words, words_of}
 use Rattle.cert_lines.specs.Words.{amount, counters_in, counters_of, large, number_and_value, one_number, small, two_numbers, value}
 use Rattle.cert_lines.proofs.ReadBack.{spaced_joined}
 use Rattle.cert_lines.proofs.Steps.{through_either, through_if, through_map, through_then}
@@ -224,7 +224,7 @@ header_written (v ∷ n ∷ m ∷ c ∷ []) line e =
     one_is = sym (decimal_digit 1 (omega arith))
 
 abbrev WritesClaim : List (List ℕ) → Claim → Type 0
-WritesClaim words claim = (words ≡ claim_words claim) × IsLineClaim claim
+WritesClaim words claim = (words ≡ claim_line_words claim) × IsLineClaim claim
 
 cost_written : (words : List (List ℕ)) (cost : ℕ) → cost_in words ≡ Some cost → (words ≡ decimal cost ∷ []) × IsLineCost cost
 cost_written [] cost e = absurd (cc e)

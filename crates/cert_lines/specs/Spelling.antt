@@ -1,8 +1,8 @@
 -- How a line is spelled: its words, with a space between each two, and no newline.
-use Rattle.std.specs.Prelude.{ℕ, ℤ, List, [], ◌∷◌, ◌++◌, map, Option, Some, None, decimal, codes}
+use Rattle.std.specs.Prelude.{ℕ, ℤ, List, [], ◌∷◌, ◌++◌, map, decimal, codes}
 use Rattle.std.specs.Fmt.{signed_decimal}
 use Rattle.tail_book.specs.declared.claim.Claim.{Claim}
-use Rattle.tail_book.specs.declared.claim.Claim.TheVariants.{Optimal, Infeasible, Limit}
+use Rattle.tail_text.specs.ClaimWords.{claim_words}
 use Rattle.tail_text.specs.Parts.{space}
 use Rattle.branch_marks.specs.declared.event.Event.{Event}
 use Rattle.branch_marks.specs.declared.event.Event.TheVariants as event
@@ -40,16 +40,9 @@ event_words (event.Dual a v) = codes "dual" ∷ decimal a ∷ signed_decimal v �
 event_words (event.Cover k v) = codes "cover" ∷ decimal k ∷ signed_decimal v ∷ []
 event_words (event.Label a v counters) = label_words a v counters
 
--- the cost of the best plan, or a hyphen where there is none
-abbrev pub high_word : Option ℕ → List ℕ
-high_word None = codes "-"
-high_word (Some high) = decimal high
-
 -- what is claimed
-abbrev pub claim_words : Claim → List (List ℕ)
-claim_words (Optimal cost) = codes "claim" ∷ codes "optimal" ∷ decimal cost ∷ []
-claim_words Infeasible = codes "claim" ∷ codes "infeasible" ∷ []
-claim_words (Limit low high) = codes "claim" ∷ codes "limit" ∷ decimal low ∷ high_word high ∷ []
+abbrev pub claim_line_words : Claim → List (List ℕ)
+claim_line_words claim = codes "claim" ∷ claim_words claim
 
 -- the words of a line
 abbrev pub words_of : CertLine → List (List ℕ)
@@ -57,7 +50,7 @@ words_of (line.Header version n m c) = codes "tailcert" ∷ decimal version ∷ 
 words_of (line.Event event) = event_words event
 words_of line.Plan = codes "plan" ∷ []
 words_of (line.Fly a k) = codes "fly" ∷ decimal a ∷ decimal k ∷ []
-words_of (line.Claim claim) = claim_words claim
+words_of (line.Claim claim) = claim_line_words claim
 
 -- a space before each word
 abbrev pub behind : List (List ℕ) → List ℕ

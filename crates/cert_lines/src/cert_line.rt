@@ -12,7 +12,7 @@ pub const VALUE_LIMIT: u64 = 2_305_843_009_213_693_952;
 pub const LENGTH_LIMIT: usize = 200;
 
 /// A line of a certificate.
-#[derive(Clone, Copy, PartialEq, Eq, Debug)]
+#[derive(Clone, Copy, PartialEq, Eq)]
 pub enum CertLine {
     /// The first line: the version, and how many activities, aircraft and counters the book has.
     Header { version: u8, n: u32, m: u32, c: u32 },
@@ -27,5 +27,5 @@ pub enum CertLine {
 }
 
 /// The text is no line of a certificate.
-#[derive(Clone, Copy, PartialEq, Eq, Debug)]
+#[derive(Clone, Copy, PartialEq, Eq)]
 pub struct BadLine;

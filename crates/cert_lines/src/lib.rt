@@ -4,10 +4,10 @@
 mod cert_line;
 mod keyword;
 pub mod laws;
-mod reading;
+mod line_reader;
 mod spelling;
 mod words;
 
 pub use cert_line::{BadLine, CertLine, LENGTH_LIMIT, VALUE_LIMIT};
-pub use reading::read_line;
+pub use line_reader::read_line;
 pub use spelling::write_line;

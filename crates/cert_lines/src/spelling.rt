@@ -8,7 +8,7 @@ ghost use Rattle.std.specs.Fmt.{signed_decimal};
 ghost use Rattle.tail_text.specs.Parts.{space};
 ghost use Rattle.branch_marks.specs.Events.{IsNotable, IsLineFact};
 ghost use Rattle.cert_lines.specs.Grammar.{IsLine};
-ghost use Rattle.cert_lines.specs.Spelling.{behind, spaced, spelling, event_words, label_words, fact_words, claim_words};
+ghost use Rattle.cert_lines.specs.Spelling.{behind, spaced, spelling, event_words, label_words, fact_words, claim_line_words};
 ghost use Rattle.cert_lines.specs.inside.Writing.{AddsFront, word_text};
 
 use crate::cert_line::CertLine;
@@ -17,7 +17,7 @@ use tail_book::{Claim, Memory};
 use tail_text::Line;
 
 /// A word that stands behind others: a number, a value that may be negative, or a hyphen for a cost that is not there.
-#[derive(Clone, Copy, Debug)]
+#[derive(Clone, Copy)]
 enum Word {
     Number(u64),
     Value(i64),
@@ -93,8 +93,8 @@ fn write_fact(fact: &Fact, line: &mut Line) -> Result<(), Memory>
 }
 
 fn write_claim(claim: &Claim, line: &mut Line) -> Result<(), Memory>
-    ensures ok { OnOk result (line.new ≡ line.old ++ spaced (claim_words claim.now)) }
-    ensures memory { OnErr result (AddsFront line.old line.new (spaced (claim_words claim.now))) }
+    ensures ok { OnOk result (line.new ≡ line.old ++ spaced (claim_line_words claim.now)) }
+    ensures memory { OnErr result (AddsFront line.old line.new (spaced (claim_line_words claim.now))) }
 {
     match claim {
         Claim::Optimal(cost) => write_words(b"claim optimal", &[Word::Number(*cost)], line),

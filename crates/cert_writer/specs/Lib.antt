@@ -1,3 +1,4 @@
 pub mod CertText
+pub mod LogText
 pub mod Trailer
 pub mod inside

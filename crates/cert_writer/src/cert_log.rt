@@ -4,12 +4,12 @@
 //! tells a list where what the sink took and the lines that wait are together the header's line and the lines of the list.
 //! It is torn where a piece failed: then the sink took a front of these lines and the next.
 
-ghost use Rattle.std.specs.Prelude.{◌≡◌, ◌≤◌, ◌∷◌, ◌++◌, [], false, OnOk, OnErr, IsErrOf, length};
+ghost use Rattle.std.specs.Prelude.{◌≡◌, ◌≤◌, [], false, OnOk, OnErr, IsErrOf, length};
 ghost use Rattle.tail_book.specs.Lookup.{activities, aircraft};
 ghost use Rattle.tail_outside.specs.Outside.{PieceHasFailed, Takes, TakesFront};
-ghost use Rattle.cert_lines.specs.Text.{text_of};
 ghost use Rattle.cert_lines.specs.Grammar.{IsLine};
-ghost use Rattle.cert_writer.specs.Trailer.{trailer_lines, IsSpelled};
+ghost use Rattle.cert_writer.specs.LogText.{end_text, header_text};
+ghost use Rattle.cert_writer.specs.Trailer.{IsSpelled};
 ghost use Rattle.cert_lines.specs.declared.cert_line.CertLine.TheVariants.{Header as HeaderLine};
 
 use crate::trailer::{add_line, add_trailer};
@@ -60,8 +60,8 @@ impl<S: Sink> CertLog<S> {
 
     /// Writes the header at once.
     pub fn begin(&mut self) -> Result<(), LogFail>
-        ensures taken { OnOk result (Takes (S.shows self.old.sink) (S.shows self.new.sink) (text_of (HeaderLine 1 self.old.activities self.old.aircraft self.old.counters ∷ []))) }
-        ensures front { OnErr result (TakesFront (S.shows self.old.sink) (S.shows self.new.sink) (text_of (HeaderLine 1 self.old.activities self.old.aircraft self.old.counters ∷ []))) }
+        ensures taken { OnOk result (Takes (S.shows self.old.sink) (S.shows self.new.sink) (header_text self.old)) }
+        ensures front { OnErr result (TakesFront (S.shows self.old.sink) (S.shows self.new.sink) (header_text self.old)) }
         ensures none_wait { OnOk result (self.new.waiting ≡ []) }
         ensures beside { S.beside self.old.sink self.new.sink }
         ensures activities { self.new.activities ≡ self.old.activities }
@@ -82,8 +82,8 @@ impl<S: Sink> CertLog<S> {
     /// Writes what waits, and behind it the plan of an outcome, where it has one, and its claim. All of it is one piece.
     pub fn finish(&mut self, alloc: Global, outcome: &Outcome) -> Result<(), LogFail>
         requires { IsSpelled self.old.aircraft outcome.now }
-        ensures taken { OnOk result (Takes (S.shows self.old.sink) (S.shows self.new.sink) (self.old.waiting ++ text_of (trailer_lines self.old.activities outcome.now))) }
-        ensures front { OnErr result (TakesFront (S.shows self.old.sink) (S.shows self.new.sink) (self.old.waiting ++ text_of (trailer_lines self.old.activities outcome.now))) }
+        ensures taken { OnOk result (Takes (S.shows self.old.sink) (S.shows self.new.sink) (end_text self.old outcome.now)) }
+        ensures front { OnErr result (TakesFront (S.shows self.old.sink) (S.shows self.new.sink) (end_text self.old outcome.now)) }
         ensures beside { S.beside self.old.sink self.new.sink }
         ensures activities { self.new.activities ≡ self.old.activities }
         ensures aircraft { self.new.aircraft ≡ self.old.aircraft }

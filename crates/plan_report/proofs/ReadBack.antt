@@ -1,6 +1,6 @@
 -- The report of a plan is read as the names of the plan: it is small enough, it begins with no byte order mark, its first
 -- line says what was found, and each later line is read as the names of one route.
-use Rattle.std.proofs.Common.{◌≡◌, ◌∙◌, ℕ, ◌+◌, ◌*◌, ◌^◌, ◌<◌, ◌≤◌, true, List, [], ◌∷◌, ◌++◌, Ok, false, length, length-append, refl, ap, map, arith, nat_le, not, append_assoc}
+use Rattle.std.proofs.Common.{◌≡◌, ◌∙◌, ℕ, ◌+◌, ◌*◌, ◌^◌, ◌<◌, ◌≤◌, true, List, [], ◌∷◌, ◌++◌, Ok, false, length, length-append, refl, ap, map, arith, nat_le, not}
 use Rattle.std.proofs.lemmas.Bool.Decides.{nat_tests}
 use Rattle.std.proofs.lemmas.Fmt.{length-decimal-le}
 use Rattle.std.proofs.lemmas.List.Elements.{All-append, All-head, All-tail}
@@ -86,10 +86,10 @@ optimal_parts : (cost : ℕ) → cost < 2 ^ 64 → is_heading (parts_of 32 (code
 optimal_parts cost small =
     rw (slice_split_none (λ b. b == 32) (decimal cost) (decimal_lacks 32 cost refl small), number_of-decimal 18_446_744_073_709_551_615 cost small (omega (arith, small))) refl
 
-costs_parts : (low high : ℕ) → low < 2 ^ 64 → high < 2 ^ 64 → parts_of 32 (decimal low ++ codes " " ++ decimal high) ≡ decimal low ∷ decimal high ∷ []
+costs_parts : (low high : ℕ) → low < 2 ^ 64 → high < 2 ^ 64 → parts_of 32 (decimal low ++ 32 ∷ decimal high) ≡ decimal low ∷ decimal high ∷ []
 costs_parts low high small_low small_high =
-    rw append_assoc (slice_split_at (λ b. b == 32) (decimal low) 32 (decimal high) (decimal_lacks 32 low refl small_low) refl
-    ∙ ap (λ (parts : List (List ℕ)). decimal low ∷ parts) (slice_split_none (λ b. b == 32) (decimal high) (decimal_lacks 32 high refl small_high)))
+    slice_split_at (λ b. b == 32) (decimal low) 32 (decimal high) (decimal_lacks 32 low refl small_low) refl
+    ∙ ap (λ (parts : List (List ℕ)). decimal low ∷ parts) (slice_split_none (λ b. b == 32) (decimal high) (decimal_lacks 32 high refl small_high))
 
 -- `limit` and two costs; the parts of what stands behind `limit` are the costs
 limit_then : (costs : List ℕ) (low high : ℕ) → parts_of 32 costs ≡ decimal low ∷ decimal high ∷ [] → is_cost (decimal low) ≡ true → is_cost (decimal high) ≡ true
@@ -108,15 +108,16 @@ joined_lack xs ys = All-append (λ c. (c == 10) ≡ false) xs ys
 
 -- what stands in the first line of a limit, behind its first part
 abbrev costs : ℕ → ℕ → List ℕ
-costs low high = decimal low ++ codes " " ++ decimal high
+costs low high = decimal low ++ 32 ∷ decimal high
 
 costs_lack : (low high : ℕ) → low < 2 ^ 64 → high < 2 ^ 64 → Lacks 10 (costs low high)
 costs_lack low high small_low small_high =
-    joined_lack (decimal low ++ codes " ") (decimal high) (joined_lack (decimal low) (codes " ") (decimal_lacks 10 low refl small_low) (text_lacks (codes " ") refl)) (decimal_lacks 10 high refl small_high)
+    joined_lack (decimal low) (32 ∷ decimal high) (decimal_lacks 10 low refl small_low)
+    (joined_lack (codes " ") (decimal high) (text_lacks (codes " ") refl) (decimal_lacks 10 high refl small_high))
 
 costs_short : (low high : ℕ) → low < 2 ^ 64 → high < 2 ^ 64 → length (costs low high) ≤ 41
 costs_short low high small_low small_high =
-    omega (arith, length-append (decimal low ++ codes " ") (decimal high), length-append (decimal low) (codes " "), decimal_short low small_low, decimal_short high small_high)
+    omega (arith, length-append (decimal low) (32 ∷ decimal high), decimal_short low small_low, decimal_short high small_high)
 
 pub read_back : ReportIsReadBack
 read_back book sound (outcome.Optimal plan cost) known = λ once small.

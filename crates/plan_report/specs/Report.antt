@@ -1,9 +1,11 @@
 -- What is printed for an outcome: its first line, and with a plan a line for each aircraft in the book's order.
-use Rattle.std.specs.Prelude.{ℕ, ◌+◌, List, [], ◌∷◌, ◌++◌, codes, decimal}
+use Rattle.std.specs.Prelude.{ℕ, ◌+◌, List, [], ◌∷◌, ◌++◌, codes}
 use Rattle.tail_book.specs.Seen.{BookSeen}
 use Rattle.tail_book.specs.Lookup.{activity_of, tail_of}
+use Rattle.tail_book.specs.Truth.{claim_of}
 use Rattle.tail_book.specs.declared.outcome.Outcome.{Outcome}
 use Rattle.tail_book.specs.declared.outcome.Outcome.TheVariants.{Optimal, Infeasible, Between, Above}
+use Rattle.tail_text.specs.ClaimWords.{claim_text}
 use Rattle.plan_report.specs.Lines.{newline, text_of}
 
 -- a space and its id, for each activity
@@ -20,12 +22,9 @@ abbrev pub aircraft_lines : BookSeen → ℕ → List (List ℕ) → List (List 
 aircraft_lines book k [] = []
 aircraft_lines book k (route ∷ routes) = aircraft_line book k route ∷ aircraft_lines book (k + 1) routes
 
--- what was found: the least cost, that no plan is legal, or the bound and the cost of the best plan found
+-- what was found, as a claim: the least cost, that no plan is legal, or the bound and the cost of the best plan found
 abbrev pub first_line : Outcome → List ℕ
-first_line (Optimal plan cost) = codes "optimal " ++ decimal cost ++ newline
-first_line Infeasible = codes "infeasible" ++ newline
-first_line (Between plan low high nodes) = codes "limit " ++ decimal low ++ codes " " ++ decimal high ++ newline
-first_line (Above low nodes) = codes "limit " ++ decimal low ++ codes " -" ++ newline
+first_line outcome = claim_text (claim_of outcome) ++ newline
 
 -- the plan of an outcome, where it has one
 abbrev pub routes_of : Outcome → List (List ℕ)

@@ -11,9 +11,9 @@ ghost use Rattle.plan_report.specs.Report.{aircraft_line, aircraft_lines, first_
 
 use crate::writing::{ReportFail, write_lines};
 use std::alloc::Global;
-use tail_book::{Book, Memory, Outcome, Route};
+use tail_book::{Book, Memory, Outcome, Route, claim_of};
 use tail_outside::Sink;
-use tail_text::Line;
+use tail_text::{Line, add_claim};
 
 /// Writes the report of an outcome, one put a line: what was found, and with a plan a line for each aircraft.
 /// All lines are made before the first is put.
@@ -57,24 +57,7 @@ pub fn first_line(alloc: Global, outcome: &Outcome) -> Result<Line, Memory>
     ensures { IfOk result (λ line. line ≡ first_line outcome.now) }
 {
     let mut line = Line::new(alloc)?;
-    match outcome {
-        Outcome::Optimal(_, cost) => {
-            line.text(b"optimal ")?;
-            line.unsigned(*cost)?;
-        }
-        Outcome::Infeasible => line.text(b"infeasible")?,
-        Outcome::Between { low, high, .. } => {
-            line.text(b"limit ")?;
-            line.unsigned(*low)?;
-            line.text(b" ")?;
-            line.unsigned(*high)?;
-        }
-        Outcome::Above { low, .. } => {
-            line.text(b"limit ")?;
-            line.unsigned(*low)?;
-            line.text(b" -")?;
-        }
-    }
+    add_claim(&claim_of(outcome), &mut line)?;
     line.text(b"\n")?;
     Ok(line)
 }

@@ -1,5 +1,6 @@
 pub mod Bad
 pub mod Checks
+pub mod ClaimWords
 pub mod Clock
 pub mod NameText
 pub mod Number

@@ -1,7 +1,8 @@
-//! Texts: stamps, numbers, names and times of day read exactly, the parts of a text, lines of text, and the refusals of tables.
+//! Texts: stamps, numbers, names and times of day read exactly, the parts of a text, lines of text, claims, and the refusals of tables.
 #![tactic(auto)]
 
 mod bad;
+mod claims;
 mod clocks;
 pub mod codes;
 mod line;
@@ -13,6 +14,7 @@ mod refusal;
 mod stamps;
 
 pub use bad::Bad;
+pub use claims::add_claim;
 pub use clocks::clock;
 pub use line::Line;
 pub use names::name;

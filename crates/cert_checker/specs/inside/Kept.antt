@@ -1,15 +1,19 @@
 -- What the code keeps of the lines that it took, as the state that the definition keeps.
-use Rattle.std.specs.Prelude.{ℤ, pos, ◌≡◌, ◌<◌, ◌≤◌, ◌*◌, ◌^◌, ◌-ℤ◌, ⊤, List, [], Bool, true, false, not, ◌==◌, Option, Some, None, Result, Ok, Err, All, length}
+use Rattle.std.specs.Prelude.{ℕ, ℤ, pos, ◌≡◌, ◌<◌, ◌≤◌, ◌*◌, ◌^◌, ◌-ℤ◌, ⊤, List, [], Bool, true, false, not, ◌==◌, Option, Some, None, Result, Ok, Err, All, length}
 use Rattle.tail_book.specs.Seen.{BookSeen}
 use Rattle.tail_book.specs.Lookup.{activities, aircraft}
 use Rattle.tail_book.specs.Ranges.{IsWithin}
+use Rattle.tail_book.specs.declared.claim.Claim.{Claim}
 use Rattle.branch_marks.specs.declared.fact.Fact.{Fact}
 use Rattle.branch_marks.specs.Labels.{Label}
 use Rattle.branch_marks.specs.ProofTree.{zero_duals}
 use Rattle.floor_rows.specs.inside.FloorRow.{IsRowOf}
-use Rattle.cert_checker.specs.Step.{Step, after_leaf, at_node}
+use Rattle.cert_checker.specs.Certificate.{claimed_cost}
+use Rattle.cert_checker.specs.Reasons.{has_claimed_plan}
+use Rattle.cert_checker.specs.Step.{Step, after_leaf, at_node, judge_claim}
 use Rattle.cert_checker.specs.State.{State, OpenLeaf, BoundLeaf, Section}
 use Rattle.cert_checker.specs.State as section
+use Rattle.cert_checker.specs.declared.means.Means.{Means}
 use Rattle.cert_checker.specs.declared.state.Judging.{Judging}
 use Rattle.cert_checker.specs.declared.state.OpenLeaf.{OpenLeaf as KeptLeaf}
 use Rattle.cert_checker.specs.declared.state.Part.{Part}
@@ -18,11 +22,18 @@ use Rattle.cert_checker.specs.declared.verdict.Reason.{Reason}
 use Rattle.cert_checker.specs.declared.verdict.Verdict.{Verdict}
 use Rattle.cert_checker.specs.declared.verdict.Reason.TheVariants.{OutOfPlace}
 use Rattle.cert_checker.specs.inside.Buckets.{IsFamilyOf}
+use Rattle.cert_checker.specs.inside.Means.{AreMeansOf}
 use Rattle.cert_checker.specs.inside.OpenBranches.{AreBranchesOf, owed_of}
 
 -- the bound leaf that is here
 abbrev pub bound_leaf : Judging → BoundLeaf
-bound_leaf judging = record { marks = judging.branches.marks.facts; duals = judging.duals.items; next = judging.next; covers = judging.covers; values = judging.values }
+bound_leaf judging = record {
+  marks = judging.branches.marks.facts;
+  duals = judging.duals.items;
+  next = judging.next;
+  covers = judging.covers;
+  values = judging.values;
+}
 
 -- what stands before the next line
 abbrev pub section_in : Judging → Part → Section
@@ -91,6 +102,12 @@ pub record IsJudging (book : BookSeen) (judging : Judging) : Type 0 where
 abbrev pub Gives : Step → Judging → Option Reason → Type 0
 Gives step judging None = step ≡ Ok (state_of judging)
 Gives step judging (Some reason) = step ≡ Err reason
+
+-- a claim is judged as its step is, for each book of these means, and each plan that is the claim's where it was said to be
+abbrev pub GivesClaim : Judging → Means → Bool → Claim → Judging → Option Reason → Type 0
+GivesClaim old means has_plan claim new answer =
+    (book : BookSeen) (fliers : Option (List ℕ)) → AreMeansOf book means → has_plan ≡ has_claimed_plan book fliers (claimed_cost claim)
+    → Gives (judge_claim book (state_of old) fliers claim) new answer
 
 -- a node may stand here: nothing of a leaf is kept, and its subtree is owed; or there is no place for one
 pub record IsAtNode (book : BookSeen) (state : State) (judging : Judging) : Type 0 where

@@ -9,5 +9,5 @@ use Rattle.cert_checker.proofs.cover.ends_at_least.Given as goal
 -- the labels from i on decide
 abbrev pub invariant-loop-i : goal.invariant-loop-i
 invariant-loop-i l =
-    list_all (λ member. not (may_end l.marks.facts l.k (After member.at)) || int_le l.low member.weight) l.family
-    ≡ list_all (λ member. not (may_end l.marks.facts l.k (After member.at)) || int_le l.low member.weight) (drop l.i l.family)
+    list_all (λ member. not (may_end l.leaf.marks.now.facts l.leaf.k (After member.at)) || int_le l.low member.weight) l.leaf.family.now
+    ≡ list_all (λ member. not (may_end l.leaf.marks.now.facts l.leaf.k (After member.at)) || int_le l.low member.weight) (drop l.i l.leaf.family.now)

@@ -2,7 +2,8 @@ use Rattle.std.specs.Prelude.{slice_index_or}
 use Rattle.std.proofs.Common.{◌≡◌, ◌<◌, ℕ, ℤ, true, false, List, arith, length, sym, subst}
 use Rattle.std.proofs.lemmas.Int.{to_z-of_z}
 use Rattle.tail_book.specs.Lookup.{activities}
-use Rattle.cert_checker.proofs.MetWays.{goes_on_by, goes_on_not, met}
+use Rattle.cert_checker.specs.inside.Leaf.{met}
+use Rattle.cert_checker.proofs.MetWays.{goes_on_by, goes_on_not}
 use Rattle.cert_checker.proofs.cover.goes_on.Goals as goal
 
 pub returns-then-not-is_met : goal.returns-then-not-is_met

@@ -8,5 +8,5 @@ use Rattle.cert_checker.proofs.cover.has_no_end.Given as goal
 -- the labels from i on decide
 abbrev pub invariant-loop-i : goal.invariant-loop-i
 invariant-loop-i l =
-    list_all (λ member. not (may_end l.marks.facts l.k (After member.at))) l.family
-    ≡ list_all (λ member. not (may_end l.marks.facts l.k (After member.at))) (drop l.i l.family)
+    list_all (λ member. not (may_end l.leaf.marks.now.facts l.leaf.k (After member.at))) l.leaf.family.now
+    ≡ list_all (λ member. not (may_end l.leaf.marks.now.facts l.leaf.k (After member.at))) (drop l.i l.leaf.family.now)

@@ -10,7 +10,6 @@ ghost use Rattle.branch_marks.specs.Branches.{IsPairOf};
 ghost use Rattle.branch_marks.specs.Facts.{IsFactOf};
 ghost use Rattle.branch_marks.specs.Following.{CannotGoBy, IsDead, IsDeadConnection, IsOnlyCarrier};
 ghost use Rattle.branch_marks.specs.Marks.{IsUsable};
-ghost use Rattle.branch_marks.specs.declared.fact.Fact.TheVariants.{Bar as FactBar, Cut as FactCut, Must as FactMust};
 ghost use Rattle.branch_marks.specs.Below.{some_below};
 ghost use Rattle.branch_marks.specs.Undecided.{is_undecided};
 ghost use Rattle.branch_marks.specs.FollowingTests.{follows};
@@ -133,62 +132,6 @@ fn is_dead_connection(
     used
 }
 
-// Whether a Bar follows.
-fn bar_follows(
-    book: &Book,
-    means: &Means,
-    marks: &Marks,
-    k: u32,
-    a: u32,
-    row: &mut FloorRow,
-    values: &mut [i64],
-) -> bool
-    requires means { AreMeansOf book.now means.now }
-    requires marks { AreMarksOf book.now marks.now }
-    requires aircraft { k < aircraft book.now }
-    requires activity { a < activities book.now }
-    requires row { IsRowOf book.now row.old }
-    requires width { length values.old ≡ length book.now.rules.counters }
-    ensures tests { result ≡ follows book.now marks.now.facts (FactBar k a) }
-    ensures row { IsRowOf book.now row.new }
-{
-    follows_decides();
-    is_dead(book, means, marks, k, a, row, values)
-}
-
-// Whether a Must follows.
-fn must_follows(book: &Book, marks: &Marks, k: u32, a: u32) -> bool
-    requires marks { AreMarksOf book.now marks.now }
-    requires activity { a < activities book.now }
-    ensures { result ≡ follows book.now marks.now.facts (FactMust k a) }
-{
-    follows_decides();
-    is_only_carrier(book, marks, k, a)
-}
-
-// Whether a Cut follows.
-fn cut_follows(
-    book: &Book,
-    means: &Means,
-    marks: &Marks,
-    a: u32,
-    b: u32,
-    row: &mut FloorRow,
-    values: &mut [i64],
-) -> bool
-    requires means { AreMeansOf book.now means.now }
-    requires marks { AreMarksOf book.now marks.now }
-    requires from { a < activities book.now }
-    requires to { b < activities book.now }
-    requires row { IsRowOf book.now row.old }
-    requires width { length values.old ≡ length book.now.rules.counters }
-    ensures tests { result ≡ follows book.now marks.now.facts (FactCut a b) }
-    ensures row { IsRowOf book.now row.new }
-{
-    follows_decides();
-    is_dead_connection(book, means, marks, a, b, row, values)
-}
-
 /// Whether a fact of the book follows from the marks.
 pub fn follows(
     book: &Book,
@@ -206,10 +149,11 @@ pub fn follows(
     ensures tests { result ≡ follows book.now marks.now.facts fact }
     ensures row { IsRowOf book.now row.new }
 {
+    follows_decides();
     match fact {
-        Fact::Bar(k, a) => bar_follows(book, means, marks, k, a, row, values),
-        Fact::Must(k, a) => must_follows(book, marks, k, a),
-        Fact::Cut(a, b) => cut_follows(book, means, marks, a, b, row, values),
+        Fact::Bar(k, a) => is_dead(book, means, marks, k, a, row, values),
+        Fact::Must(k, a) => is_only_carrier(book, marks, k, a),
+        Fact::Cut(a, b) => is_dead_connection(book, means, marks, a, b, row, values),
         Fact::Tie(_, _) => false,
     }
 }

@@ -4,8 +4,8 @@ use Rattle.tail_book.specs.Seen.{BookSeen}
 use Rattle.tail_book.specs.Lookup.{aircraft}
 use Rattle.floor_rows.specs.inside.FloorRow.{FloorRowSeen, IsRowOf}
 use Rattle.cert_checker.proofs.FollowingTold.{asked_used, asked_unused}
-use Rattle.cert_checker.proofs.following.is_dead_connection.Goals as goal
-use Rattle.cert_checker.proofs.following.is_dead_connection.Goals.{then-usable+else-goes_over, else-usable}
+use Rattle.cert_checker.proofs.node_tests.is_dead_connection.Goals as goal
+use Rattle.cert_checker.proofs.node_tests.is_dead_connection.Goals.{then-usable+else-goes_over, else-usable}
 
 pub loop-k-init : goal.loop-k-init
 loop-k-init c =

@@ -2,7 +2,7 @@ use Rattle.std.proofs.Common.{◌-◌}
 use Rattle.tail_book.specs.Lookup.{aircraft}
 use Rattle.floor_rows.specs.inside.FloorRow.{IsRowOf}
 use Rattle.floor_rows.specs.inside.AskedLinks.{AreAsked}
-use Rattle.cert_checker.proofs.following.is_dead_connection.Given as goal
+use Rattle.cert_checker.proofs.node_tests.is_dead_connection.Given as goal
 
 -- the aircraft below k are asked, and the row is of the book
 abbrev pub invariant-loop-k : goal.invariant-loop-k

@@ -2,7 +2,7 @@ use Rattle.std.proofs.Common.{◌≡◌, ap, arith, length}
 use Rattle.tail_book.specs.Lookup.{aircraft}
 use Rattle.tail_book.specs.Seen.{BookSeen}
 use Rattle.cert_checker.proofs.FollowingTold.{hole_tells}
-use Rattle.cert_checker.proofs.following.hole.Goals as goal
+use Rattle.cert_checker.proofs.node_tests.hole.Goals as goal
 
 pub returns : goal.returns
 returns c =
