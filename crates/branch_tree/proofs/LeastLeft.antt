@@ -28,7 +28,7 @@ use Rattle.branch_tree.specs.Search.{EndsUnder}
 use Rattle.branch_tree.specs.SearchTree.{HasReached, IsWithin, IsOutcomeOf, IsSearchTree}
 use Rattle.node_leaves.specs.Target.{no_target, IsBest, FallsTo, Passes}
 use Rattle.node_leaves.specs.inside.Leaf.{AnswersLeaf}
-use Rattle.branch_tree.specs.inside.Searching.{Counts, HasStopped, outcome_for}
+use Rattle.branch_tree.specs.inside.SearchParts.{Counts, HasStopped, outcome_for}
 
 -- one that does not is left
 pub bound_left : (final units : ℕ) (sum : ℤ) (ending : Ending) → AnswersLeaf ending (leaf.Bounded sum) → ¬ Passes (bound_of sum) final → units ≡ rounded_up sum

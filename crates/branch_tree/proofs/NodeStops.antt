@@ -17,7 +17,7 @@ use Rattle.node_leaves.specs.NodeEvents.{events_of, node_events, step_events, en
 use Rattle.node_leaves.specs.Stops.{StopsIn}
 use Rattle.node_leaves.specs.inside.Leaf.{Leaf, IsShownLeaf, leaf_events, IsCutAtLeaf}
 use Rattle.node_leaves.specs.inside.Leaf as part
-use Rattle.branch_tree.specs.inside.Stepping.{IsCutAtSteps, IsShutAndTold}
+use Rattle.branch_tree.specs.inside.StepParts.{IsCutAtSteps, IsShutAndTold}
 use Rattle.node_leaves.proofs.Cuts.{front_then, front_whole}
 use Rattle.node_leaves.proofs.LeafStops.{stops_in}
 use Rattle.node_leaves.proofs.Runs.{grows_none, grows_one, events_one}

@@ -17,7 +17,7 @@ use Rattle.node_leaves.specs.Place.{Open}
 use Rattle.branch_tree.specs.Step.{IsVisit}
 use Rattle.node_leaves.specs.Stops.{StopsIn}
 use Rattle.node_leaves.specs.inside.Leaf.{AnswersLeaf, IsLeafPriced}
-use Rattle.branch_tree.specs.inside.Searching.{IsVisited, IsOneClosed}
+use Rattle.branch_tree.specs.inside.SearchParts.{IsVisited, IsOneClosed}
 use Rattle.branch_tree.proofs.LeastLeft.{closing_node, closing_events, is_closing}
 use Rattle.node_leaves.proofs.Runs.{grows_one, events_one}
 use Rattle.branch_tree.proofs.Stopping.{stops_between}

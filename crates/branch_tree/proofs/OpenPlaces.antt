@@ -17,7 +17,7 @@ use Rattle.node_leaves.specs.Growth.{Grows}
 use Rattle.node_leaves.specs.Node.{Ending, Hole, Stuck, Bounded, Split, Node, branches, closed_marks, IsShownEnding}
 use Rattle.node_leaves.specs.Place.{Open, root}
 use Rattle.node_leaves.specs.inside.Leaf.{ZerosAreDuals}
-use Rattle.branch_tree.specs.inside.Searching.{IsPlace, ArePlaces}
+use Rattle.branch_tree.specs.inside.SearchParts.{IsPlace, ArePlaces}
 use Rattle.node_leaves.specs.inside.NewFacts.{AreNewFacts}
 
 new_then : (book : BookSeen) (marks facts more : List Fact) → AreNewFacts book marks facts → AreNewFacts book (marks ++ facts) more

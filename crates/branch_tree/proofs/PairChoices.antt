@@ -26,7 +26,7 @@ use Rattle.dive_heuristic.specs.Choice.{IsCarrierOf}
 use Rattle.dive_heuristic.specs.LeastRoutes.{AreLeastRoutes, IsInOne, IsEachInOne}
 use Rattle.branch_tree.specs.Choice.{IsPairAt}
 use Rattle.node_leaves.specs.Target.{Passes}
-use Rattle.branch_tree.specs.inside.Weighing.{IsUsedPlan}
+use Rattle.branch_tree.specs.inside.NodeBound.{IsUsedPlan}
 
 -- the activity behind a place of a route comes directly after the one at it
 pub directly_at : (route : List ℕ) (i : ℕ) → suc i < length route → directly route (slice_index_or route i 0) (slice_index_or route (suc i) 0) ≡ true

@@ -20,11 +20,11 @@ use Rattle.restricted_master.specs.Keeping.{fits_entry, KeepsFitting}
 use Rattle.restricted_master.specs.Pool.{HasRoutes}
 use Rattle.restricted_master.specs.Seen.{PoolSeen}
 use Rattle.branch_tree.specs.Step.{IsLegalPool}
-use Rattle.branch_tree.specs.declared.weighing.LeastRoutes.{LeastRoutes}
-use Rattle.branch_tree.specs.declared.weighing.Weighed.{Weighed}
-use Rattle.branch_tree.specs.declared.weighing.Weighed.TheVariants as weighed
-use Rattle.branch_tree.specs.inside.Weighing.{IsOpen, IsWeighed}
-use Rattle.branch_tree.specs.inside.Pooling.{entry_of, AddsRoute, HasAll, HasGrown, AreFittingRoutes}
+use Rattle.branch_tree.specs.declared.node_bound.LeastRoutes.{LeastRoutes}
+use Rattle.branch_tree.specs.declared.node_bound.Weighed.{Weighed}
+use Rattle.branch_tree.specs.declared.node_bound.Weighed.TheVariants as weighed
+use Rattle.branch_tree.specs.inside.NodeBound.{IsOpen, IsWeighed}
+use Rattle.branch_tree.specs.inside.NewRoutes.{entry_of, AddsRoute, HasAll, HasGrown, AreFittingRoutes}
 use Rattle.node_leaves.specs.inside.FittingPool.{IsFittingPool}
 
 -- what is kept is what was legal and fits

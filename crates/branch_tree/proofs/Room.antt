@@ -8,7 +8,7 @@ use Rattle.branch_marks.specs.Branches.{first_branch, second_branch}
 use Rattle.branch_marks.specs.inside.BranchTests.{undecided, FactsLeaveNoMore, BranchesLeaveFewer}
 use Rattle.node_leaves.specs.Node.{Ending, Hole, Stuck, Bounded, Split, Node, branches, closed_marks, IsShownEnding, IsShownNode}
 use Rattle.node_leaves.specs.Place.{Open}
-use Rattle.branch_tree.specs.inside.Searching.{tripled, room}
+use Rattle.branch_tree.specs.inside.SearchParts.{tripled, room}
 
 tripled-le : (n m : ℕ) → n ≤ m → tripled n ≤ tripled m
 tripled-le zero zero le = omega arith

@@ -11,7 +11,7 @@ use Rattle.tail_book.specs.inside.TableLaws.{LegalPlansCostAtMostIn}
 use Rattle.tail_book.specs.declared.outcome.Outcome.{Outcome}
 use Rattle.branch_tree.specs.Search.{HasPlanWithin}
 use Rattle.node_leaves.specs.Target.{IsBest}
-use Rattle.branch_tree.specs.inside.Searching.{outcome_for}
+use Rattle.branch_tree.specs.inside.SearchParts.{outcome_for}
 
 module _ (table : CostTableSeen) (book : BookSeen) where
   plan_within : (plan : Option (List (List ℕ))) (target most : ℕ) (low : Option ℕ) (counter : ℕ) → IsBest table book plan target → target ≤ most

@@ -16,7 +16,7 @@ use Rattle.node_leaves.specs.NodeEvents.{node_events, step_events, ending_events
 use Rattle.node_leaves.specs.Place.{Open}
 use Rattle.branch_tree.specs.Step.{IsVisit}
 use Rattle.node_leaves.specs.Target.{IsTarget, IsBest}
-use Rattle.branch_tree.specs.inside.Stepping.{IsShutAndTold, IsEndNoted}
+use Rattle.branch_tree.specs.inside.StepParts.{IsShutAndTold, IsEndNoted}
 use Rattle.node_leaves.proofs.Cuts.{notes_then}
 
 -- the target of a valid best is one

@@ -19,7 +19,8 @@ use Rattle.node_leaves.specs.Target.{IsTarget, Passes, bound_under, HasUsed}
 -- a node is split only under settled duals, with routes out of the pool counted too, and where their bound still lies below
 -- the target; on the pair that routes of least weight choose, and after a dive from its marks under its duals, whose plan is
 -- legal, has the cost that is told, and counts
-pub record IsSplitOf (table : CostTableSeen) (book : BookSeen) (marks : List Fact) (target : ℕ) (pair : Pair) (duals : List ℤ) (routes : List (List ℕ)) (dive : Dive) : Type 0 where
+pub record IsSplitOf (table : CostTableSeen) (book : BookSeen) (marks : List Fact) (target : ℕ) (pair : Pair) (duals : List ℤ)
+    (routes : List (List ℕ)) (dive : Dive) : Type 0 where
   pub settled : IsSettled table book marks duals
   pub values : List ℤ
   pub least : AreLeastWeights table book marks duals values

@@ -1,5 +1,5 @@
 -- What only proofs, and calls further in, cite.
-pub mod Stepping
-pub mod Pooling
-pub mod Weighing
-pub mod Searching
+pub mod StepParts
+pub mod NewRoutes
+pub mod NodeBound
+pub mod SearchParts

@@ -1,27 +1,27 @@
 //! The search tree: its nodes, depth first, with what each of them shows, its open places, and the truth of its outcome.
 #![tactic(auto)]
 
-mod adding;
-mod choosing;
-mod closing;
-mod ending;
-mod growing;
+mod cheaper_plans;
+mod first_pass;
 pub mod laws;
 mod limit;
+mod new_routes;
 mod node;
+mod node_bound;
 mod open_nodes;
-mod planning;
+mod optimum;
 mod rounds;
 mod search_state;
-mod searching;
-mod seeking;
+mod second_pass;
 mod settled;
-mod shutting;
-mod splitting;
+mod split;
+mod split_pair;
 mod step;
+mod step_end;
+mod step_start;
 mod tools;
-mod visiting;
-mod weighing;
+mod tree_search;
+mod visit;
 
 pub use limit::Limit;
 pub use node::{node_step, node_step_with};
@@ -30,7 +30,7 @@ pub use node_leaves::{
     passes, price_leaf,
 };
 pub use open_nodes::{OpenNode, OpenNodes};
-pub use planning::least_plan;
-pub use searching::{search, search_from};
+pub use optimum::least_plan;
 pub use step::Step;
 pub use tools::NodeTools;
+pub use tree_search::{search, search_from};

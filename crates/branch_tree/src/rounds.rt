@@ -9,13 +9,13 @@ ghost use Rattle.tail_book.specs.CostTable.{IsTableFor};
 ghost use Rattle.branch_marks.specs.Settled.{AreDuals};
 ghost use Rattle.node_leaves.specs.Target.{IsBest};
 ghost use Rattle.node_leaves.specs.inside.Leaf.{IsReady};
-ghost use Rattle.branch_tree.specs.inside.Stepping.{IsEndFound};
+ghost use Rattle.branch_tree.specs.inside.StepParts.{IsEndFound};
 ghost use Rattle.node_leaves.specs.inside.FittingPool.{IsFittingPool};
-ghost use Rattle.branch_tree.specs.inside.Weighing.{IsWeighed};
+ghost use Rattle.branch_tree.specs.inside.NodeBound.{IsWeighed};
 
-use crate::adding::add_routes;
+use crate::new_routes::add_routes;
+use crate::node_bound::{Weighed, weigh};
 use crate::step::End;
-use crate::weighing::{Weighed, weigh};
 use crate::{Best, NodePricer};
 use branch_marks::Marks;
 use connection_net::Net;

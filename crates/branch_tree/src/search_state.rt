@@ -6,7 +6,7 @@ ghost use Rattle.tail_book.specs.Plan.{IsLegalPlan};
 ghost use Rattle.tail_book.specs.CostTable.{IsTableFor, plan_cost_in};
 ghost use Rattle.node_leaves.specs.Place.{root};
 ghost use Rattle.node_leaves.specs.Target.{no_target};
-ghost use Rattle.branch_tree.specs.inside.Searching.{IsStateFor};
+ghost use Rattle.branch_tree.specs.inside.SearchParts.{IsStateFor};
 
 use crate::{Best, NodeTools, OpenNodes};
 use connection_net::Net;

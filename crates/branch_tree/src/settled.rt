@@ -11,13 +11,13 @@ ghost use Rattle.dive_heuristic.specs.Divers.{IsDiverOf};
 ghost use Rattle.restricted_master.specs.Pool.{HasRoutes};
 ghost use Rattle.node_leaves.specs.Target.{IsBest};
 ghost use Rattle.node_leaves.specs.inside.Leaf.{IsReady};
-ghost use Rattle.branch_tree.specs.inside.Stepping.{AreToolsFor, IsEndFound};
+ghost use Rattle.branch_tree.specs.inside.StepParts.{AreToolsFor, IsEndFound};
 ghost use Rattle.node_leaves.specs.inside.FittingPool.{IsFittingPool};
 
-use crate::adding::add_routes;
-use crate::splitting::split;
+use crate::new_routes::add_routes;
+use crate::node_bound::{Weighed, weigh};
+use crate::split::split;
 use crate::step::End;
-use crate::weighing::{Weighed, weigh};
 use crate::{Best, NodePricer, NodeTools};
 use branch_marks::Marks;
 use branch_marks::laws::{least_in_is_least, settled_over_pool_is_settled};

@@ -12,7 +12,7 @@ use Rattle.branch_marks.specs.Events.{IsNotable}
 use Rattle.branch_marks.specs.Labels.{Label}
 use Rattle.branch_marks.specs.ProofTree.{Cover}
 use Rattle.branch_marks.specs.TreeEvents.{label_events, dual_event, dual_events, cover_event, cover_events}
-use Rattle.node_leaves.specs.inside.Listing.{Lists}
+use Rattle.node_leaves.specs.inside.EventLists.{Lists}
 
 -- a list is what stands before place i, there, and behind it
 pub whole_at : {X : Type 0} → (xs : List X) (i : ℕ) (x : X) → i < length xs → x ≡ get_or xs i x → (take i xs ++ x ∷ []) ++ drop (i + 1) xs ≡ xs

@@ -19,7 +19,7 @@ use Rattle.label_store.specs.Seen.{StoreSeen}
 use Rattle.label_store.specs.Buckets.{row_at}
 use Rattle.label_store.specs.Store.{IsStore}
 use Rattle.pricing.specs.Rows.{weight_of, counters_of, route_to}
-use Rattle.node_leaves.specs.inside.Listing.{AreSpelledLabels}
+use Rattle.node_leaves.specs.inside.EventLists.{AreSpelledLabels}
 use Rattle.node_leaves.specs.inside.PricedStore.{IsPricedStore}
 use Rattle.node_leaves.proofs.Countings.{counters_spelled}
 use Rattle.node_leaves.proofs.PricedLabels.{counters_length}

@@ -9,6 +9,10 @@ pub record Open : Type 0 where
   pub marks : List Fact
   pub duals : List ℤ
 
+-- the place of these marks, under these duals
+abbrev pub place_of : List Fact → List ℤ → Open
+place_of marks duals = record { marks = marks; duals = duals }
+
 -- the root has no facts, and duals that are all 0
 abbrev pub root : BookSeen → Open
 root book = record { marks = []; duals = zero_duals book }

@@ -1,5 +1,5 @@
 -- What only proofs, and calls further in, cite.
-pub mod Listing
+pub mod EventLists
 pub mod PricedStore
 pub mod Leaf
 pub mod FittingPool

@@ -6,23 +6,22 @@
 //! A log that wants no events is told none, and then no aircraft is priced again: that covers with these values are there
 //! is a law of `branch_marks`, and nobody reads them.
 
-ghost use Rattle.std.specs.Prelude.{◌≡◌, ◌<◌, ◌∷◌, All, IfOk, OnOk, OnErr, IsErrOf, List};
+ghost use Rattle.std.specs.Prelude.{◌≡◌, ◌<◌, ◌∷◌, All, IfOk, OnOk, OnErr, IsErrOf};
 ghost use Rattle.tail_book.specs.Lookup.{aircraft};
 ghost use Rattle.tail_book.specs.CostTable.{IsTableFor};
 ghost use Rattle.branch_marks.specs.Bound.{AreLeastWeights};
 ghost use Rattle.branch_marks.specs.DeadEnds.{IsStuck};
 ghost use Rattle.branch_marks.specs.Events.{IsNotable};
-ghost use Rattle.branch_marks.specs.Labels.{Label};
 ghost use Rattle.branch_marks.specs.ProofTree.{IsShownCover, IsShownStuck, zero_duals};
 ghost use Rattle.branch_marks.specs.Settled.{AreDuals};
-ghost use Rattle.branch_marks.specs.TreeLog.{Notes, IsLater, WriteHasFailed};
+ghost use Rattle.branch_marks.specs.TreeLog.{IsLater, WriteHasFailed};
 ghost use Rattle.branch_marks.specs.Weights.{IsLeastWeight};
 ghost use Rattle.pricing.specs.Rows.{labels_of};
 ghost use Rattle.branch_marks.specs.TreeEvents.{cover_event, dual_events, stuck_events};
-ghost use Rattle.node_leaves.specs.inside.Leaf.{IsReady, IsCutAtCover, IsCutAtCovers, IsCutAtLeaf, AreCoversOf, IsBoundNoted};
+ghost use Rattle.node_leaves.specs.inside.Leaf.{priced_cover, IsReady, IsCoverNoted, IsStuckNoted, IsCutAtCover, IsCutAtCovers, IsCutAtLeaf, AreCoversOf, IsBoundNoted};
 
-use crate::listing::{list_duals, list_labels, list_one, list_value};
-use crate::telling::note_all;
+use crate::node_events::{list_duals, list_labels, list_one, list_value};
+use crate::notes::note_all;
 use crate::{NodePricer, Stop, laws};
 use branch_marks::laws::{low_bounds_are_shown, stuck_is_shown};
 use branch_marks::{Event, Marks, TreeLog};
@@ -48,8 +47,8 @@ fn cover_of(
     requires duals { AreDuals table.now book.now duals.now.values }
     requires aircraft { k < aircraft book.now }
     requires least { IsLeastWeight table.now book.now marks.now.facts k duals.now.values value.now }
-    ensures shown { IfOk result (λ _. IsShownCover table.now book.now marks.now.facts k duals.now.values (record { value = value.now; family = labels_of prices.new.store })) }
-    ensures events { IfOk result (λ events. events.items ≡ cover_event k (record { value = value.now; family = labels_of prices.new.store })) }
+    ensures shown { IfOk result (λ _. IsShownCover table.now book.now marks.now.facts k duals.now.values (priced_cover value.now prices.new.store)) }
+    ensures events { IfOk result (λ events. events.items ≡ cover_event k (priced_cover value.now prices.new.store)) }
     ensures notable { IfOk result (λ events. All IsNotable events.items) }
     ensures ready { IsReady table.now book.now net.now marks.now prices.new }
 {
@@ -118,8 +117,7 @@ fn note_cover<L: TreeLog>(
     requires duals { AreDuals table.now book.now duals.now.values }
     requires aircraft { k < aircraft book.now }
     requires least { IsLeastWeight table.now book.now marks.now.facts k duals.now.values value.now }
-    ensures noted { OnOk result ((family : List Label) × IsShownCover table.now book.now marks.now.facts k duals.now.values (record { value = value.now; family = family })
-        × Notes (L.shows log.old) (L.shows log.new) (cover_event k (record { value = value.now; family = family }))) }
+    ensures noted { OnOk result (IsCoverNoted table.now book.now marks.now.facts k duals.now.values value.now (L.shows log.old) (L.shows log.new)) }
     ensures cut { OnErr result (IsCutAtCover table.now book.now marks.now.facts k duals.now.values (L.shows log.old) (L.shows log.new)) }
     ensures later { IsLater (L.shows log.old) (L.shows log.new) }
     ensures beside { L.beside log.old log.new }
@@ -270,8 +268,7 @@ fn tell_stuck<L: TreeLog>(
     requires ready { IsReady table.now book.now net.now marks.now prices.old }
     requires aircraft { k < aircraft book.now }
     requires stuck { IsStuck book.now marks.now.facts k }
-    ensures noted { OnOk result ((family : List Label) × IsShownStuck table.now book.now marks.now.facts k family
-        × Notes (L.shows log.old) (L.shows log.new) (stuck_events k family)) }
+    ensures noted { OnOk result (IsStuckNoted table.now book.now marks.now.facts k (L.shows log.old) (L.shows log.new)) }
     ensures cut { OnErr result (IsCutAtLeaf table.now book.now marks.now.facts (L.shows log.old) (L.shows log.new)) }
     ensures later { IsLater (L.shows log.old) (L.shows log.new) }
     ensures beside { L.beside log.old log.new }
@@ -307,8 +304,7 @@ pub fn note_stuck<L: TreeLog>(
     requires ready { IsReady table.now book.now net.now marks.now prices.old }
     requires aircraft { k < aircraft book.now }
     requires stuck { IsStuck book.now marks.now.facts k }
-    ensures noted { OnOk result ((family : List Label) × IsShownStuck table.now book.now marks.now.facts k family
-        × Notes (L.shows log.old) (L.shows log.new) (stuck_events k family)) }
+    ensures noted { OnOk result (IsStuckNoted table.now book.now marks.now.facts k (L.shows log.old) (L.shows log.new)) }
     ensures cut { OnErr result (IsCutAtLeaf table.now book.now marks.now.facts (L.shows log.old) (L.shows log.new)) }
     ensures later { IsLater (L.shows log.old) (L.shows log.new) }
     ensures beside { L.beside log.old log.new }

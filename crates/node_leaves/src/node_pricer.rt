@@ -12,7 +12,7 @@ ghost use Rattle.pricing.specs.Price.{IsPriceOf};
 ghost use Rattle.node_leaves.specs.inside.Leaf.{IsNodePricerOf, IsReady, ArePrices};
 ghost use Rattle.node_leaves.specs.inside.PricedStore.{IsPricedStore};
 
-use crate::suggesting::no_suggestions;
+use crate::suggestions::no_suggestions;
 use branch_marks::Marks;
 use connection_net::Net;
 use label_store::Store;

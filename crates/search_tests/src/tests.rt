@@ -8,6 +8,7 @@ mod limits;
 mod logs;
 mod lone_flight;
 mod nodes;
+mod starts;
 mod worked;
 
 use crate::chance::tables_by_chance;

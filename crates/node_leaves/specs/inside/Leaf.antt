@@ -12,13 +12,16 @@ use Rattle.branch_marks.specs.declared.fact.Fact.{Fact}
 use Rattle.branch_marks.specs.Bound.{AreLeastWeights, lagrangian}
 use Rattle.branch_marks.specs.DeadEnds.{IsStuck}
 use Rattle.branch_marks.specs.Events.{IsLineValue}
+use Rattle.branch_marks.specs.Labels.{Label}
 use Rattle.branch_marks.specs.LogShown.{LogShown}
 use Rattle.branch_marks.specs.MarksSeen.{MarksSeen}
-use Rattle.branch_marks.specs.ProofTree.{Cover, IsShownCover, IsShownBound, zero_duals}
+use Rattle.branch_marks.specs.ProofTree.{Cover, IsShownCover, IsShownStuck, IsShownBound, zero_duals}
 use Rattle.branch_marks.specs.Settled.{AreDuals, AreRoutesOfWeights}
 use Rattle.branch_marks.specs.TreeLog.{Notes, NotesFront}
 use Rattle.branch_marks.specs.Weights.{IsLeastWeight}
 use Rattle.branch_marks.specs.inside.MarkTables.{AreMarksOf}
+use Rattle.label_store.specs.Seen.{StoreSeen}
+use Rattle.pricing.specs.Rows.{labels_of}
 use Rattle.pricing.specs.inside.Prepared.{IsPricerOf}
 use Rattle.route_search.specs.Search.{IsSearchOf}
 use Rattle.node_leaves.specs.declared.node_pricer.NodePricer.{NodePricer}
@@ -29,7 +32,7 @@ use Rattle.node_leaves.specs.declared.leaf.PricedLeaf.TheVariants as leaf
 use Rattle.node_leaves.specs.Priced.{IsPriced}
 use Rattle.node_leaves.specs.Place.{Open}
 use Rattle.node_leaves.specs.Node.{Ending, Stuck, Bounded, IsShownEnding, AreFirstCovers}
-use Rattle.branch_marks.specs.TreeEvents.{cover_events, bound_events}
+use Rattle.branch_marks.specs.TreeEvents.{cover_event, cover_events, bound_events, stuck_events}
 use Rattle.node_leaves.specs.NodeEvents.{ending_events}
 
 -- the node pricer is of the book and the table: what it reads of them, a store that has room for the labels, and a search
@@ -51,6 +54,20 @@ abbrev pub ArePrices : CostTableSeen → BookSeen → List Fact → List ℤ →
 ArePrices table book marks duals (all.Least values routes) =
     AreLeastWeights table book marks duals values.items × AreRoutesOfWeights table book marks duals values.items routes.items
 ArePrices table book marks duals (all.Stuck k) = (k < aircraft book) × IsStuck book marks k
+
+-- the cover with this value that the labels of a priced store make
+abbrev pub priced_cover : ℤ → StoreSeen → Cover
+priced_cover value store = record { value = value; family = labels_of store }
+
+-- a cover of aircraft k with this value is shown and told
+abbrev pub IsCoverNoted : CostTableSeen → BookSeen → List Fact → ℕ → List ℤ → ℤ → LogShown → LogShown → Type 0
+IsCoverNoted table book marks k duals value old new =
+    (family : List Label) × IsShownCover table book marks k duals (record { value = value; family = family })
+    × Notes old new (cover_event k (record { value = value; family = family }))
+
+-- that aircraft k is stuck is shown and told
+abbrev pub IsStuckNoted : CostTableSeen → BookSeen → List Fact → ℕ → LogShown → LogShown → Type 0
+IsStuckNoted table book marks k old new = (family : List Label) × IsShownStuck table book marks k family × Notes old new (stuck_events k family)
 
 -- a log was told a front of the cover of aircraft k, which is shown; or nothing
 pub record IsCutAtCover (table : CostTableSeen) (book : BookSeen) (marks : List Fact) (k : ℕ) (duals : List ℤ) (old new : LogShown) : Type 0 where

@@ -14,7 +14,7 @@ use Rattle.branch_marks.specs.Weights.{WeighsAtLeast}
 use Rattle.label_store.specs.Seen.{StoreSeen}
 use Rattle.label_store.specs.Store.{IsStore}
 use Rattle.pricing.specs.Rows.{labels_of, AreSpelled}
-use Rattle.node_leaves.specs.inside.Listing.{AreSpelledLabels}
+use Rattle.node_leaves.specs.inside.EventLists.{AreSpelledLabels}
 
 -- the store is that of a pricing of aircraft k: its labels are a closed family, and each row is what its route comes to
 pub record IsPricedStore (table : CostTableSeen) (book : BookSeen) (marks : List Fact) (k : ℕ) (duals : List ℤ) (store : StoreSeen) : Type 0 where

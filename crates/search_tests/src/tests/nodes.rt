@@ -3,10 +3,11 @@
 
 mod answers;
 mod memory;
+mod splits;
 mod steps;
 
 use super::{Failing, label};
-use answers::{Answer, Asked, End, ask, two_flights};
+use answers::{Answer, Asked, End, ask, ask_of, two_flights};
 use branch_marks::{Event, Fact, MemTree, Pair};
 use branch_tree::{Best, OpenNode, OpenNodes, Stop, bound_below, passes};
 use std::alloc::Global;
@@ -14,6 +15,20 @@ use std::test::Fail;
 use tail_book::*;
 
 // What a node of these facts answers under duals of this value, and whether exactly these events were told.
+fn told_of(
+    alloc: Global,
+    book: &Book,
+    facts: &[Fact],
+    dual: i64,
+    asked: Asked,
+    due: &[Event],
+) -> Result<(Answer, bool), Fail> {
+    let mut log = MemTree::new(alloc)?;
+    let answer = ask_of(alloc, book, facts, dual, asked, &mut log)?;
+    Ok((answer, log.events() == due))
+}
+
+// The same of the book of two flights.
 fn told(
     alloc: Global,
     facts: &[Fact],
@@ -21,9 +36,8 @@ fn told(
     asked: Asked,
     due: &[Event],
 ) -> Result<(Answer, bool), Fail> {
-    let mut log = MemTree::new(alloc)?;
-    let answer = ask(alloc, facts, dual, asked, &mut log)?;
-    Ok((answer, log.events() == due))
+    let book = two_flights(alloc)?;
+    told_of(alloc, &book, facts, dual, asked, due)
 }
 
 // Whether a log that fails behind so many of these events stops it there, and was told those before.

@@ -13,16 +13,16 @@ const ONE_FLIGHT: &str = "id,kind,from,to,start,end,types,tags,tail,resets\n\
 F1,flight,ARN,OSL,2025-03-03T06:00,2025-03-03T07:00,,,,\n";
 
 // Two flights at once, of an hour and of two.
-const AT_ONCE: &str = "id,kind,from,to,start,end,types,tags,tail,resets\n\
+pub const AT_ONCE: &str = "id,kind,from,to,start,end,types,tags,tail,resets\n\
 F1,flight,ARN,OSL,2025-03-03T06:00,2025-03-03T07:00,,,,\n\
 F2,flight,ARN,OSL,2025-03-03T06:00,2025-03-03T08:00,,,,\n";
 
 const NOBODY: &str = "tail,type,at,ready,fixed,tags,avoid,carry\n";
 
-const CHEAP_AND_DEAR: &str = "tail,type,at,ready,fixed,tags,avoid,carry\n\
+pub const CHEAP_AND_DEAR: &str = "tail,type,at,ready,fixed,tags,avoid,carry\n\
 A1,P,ARN,2025-03-03T05:00,0,,,\nA2,Q,ARN,2025-03-03T05:00,0,,,\n";
 
-const RULES: &str = "[[type]]\nname = \"P\"\nrate = 1\nturn = 30\n\
+pub const RULES: &str = "[[type]]\nname = \"P\"\nrate = 1\nturn = 30\n\
 [[type]]\nname = \"Q\"\nrate = 2\nturn = 30\n\
 [[airport]]\nname = \"ARN\"\noffset = 60\nturn = 20\n\
 [[airport]]\nname = \"OSL\"\noffset = 60\nturn = 20\n";

@@ -2,7 +2,7 @@ use Rattle.std.proofs.Common.{◌≤◌, ◌-◌, ◌^◌, length}
 use Rattle.branch_marks.specs.Settled.{AreDuals}
 use Rattle.restricted_master.specs.Pool.{HasRoutes}
 use Rattle.node_leaves.specs.Target.{IsBest}
-use Rattle.branch_tree.specs.inside.Stepping.{AreToolsFor}
+use Rattle.branch_tree.specs.inside.StepParts.{AreToolsFor}
 use Rattle.node_leaves.specs.inside.FittingPool.{IsFittingPool}
 use Rattle.branch_tree.proofs.settled.settle_node.Given as goal
 

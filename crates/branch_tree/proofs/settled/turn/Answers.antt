@@ -1,6 +1,6 @@
 use Rattle.std.proofs.Common.{◌≡◌, rules, subst, length}
 use Rattle.restricted_master.specs.Seen.{PoolSeen}
-use Rattle.branch_tree.specs.inside.Pooling.{HasAll}
+use Rattle.branch_tree.specs.inside.NewRoutes.{HasAll}
 use Rattle.branch_tree.proofs.Pools.{all_routes, open_attained, open_counts, open_fits, open_found, settled_by_pool}
 use Rattle.branch_tree.proofs.settled.turn.Goals as goal
 

@@ -212,7 +212,20 @@ fn answer_under<L: TreeLog>(
     }
 }
 
-/// What a node of the book of two flights answers, by its own costs.
+/// What a node of a book of two flights answers, by its own costs.
+pub fn ask_of<L: TreeLog>(
+    alloc: Global,
+    book: &Book,
+    facts: &[Fact],
+    dual: i64,
+    asked: Asked,
+    log: &mut L,
+) -> Result<Answer, Fail> {
+    let table = costs(alloc, book)?;
+    answer_under(alloc, book, &table, facts, dual, asked, log)
+}
+
+/// The same of the book of two flights.
 pub fn ask<L: TreeLog>(
     alloc: Global,
     facts: &[Fact],
@@ -221,6 +234,5 @@ pub fn ask<L: TreeLog>(
     log: &mut L,
 ) -> Result<Answer, Fail> {
     let book = two_flights(alloc)?;
-    let table = costs(alloc, &book)?;
-    answer_under(alloc, &book, &table, facts, dual, asked, log)
+    ask_of(alloc, &book, facts, dual, asked, log)
 }

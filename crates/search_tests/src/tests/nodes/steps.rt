@@ -1,8 +1,9 @@
 //! Steps on nodes of the book of two flights, worked by hand: what they answer, the target they leave, and what is told.
 
 use super::answers::{Asked, End, ask};
-use super::{first_passed, told};
+use super::{first_passed, told, told_of};
 use branch_marks::{Event, Fact, NoLog};
+use small_books::there_and_back;
 use std::alloc::Global;
 use std::test::Fail;
 
@@ -44,5 +45,21 @@ fn hole_is_told_after_its_steps(rt: HostRuntime) -> Result<(), Fail> {
 fn failing_steps_have_a_front(rt: HostRuntime) -> Result<(), Fail> {
     let passed = first_passed(rt.alloc(), &NOBODY_OUT, 0, Asked::Step, &HOLE)?;
     assert!(rt; passed.is_none(), "at event {passed:?}");
+    Ok(())
+}
+
+// The way back leaves a minute before the turn ends, so nobody can fly it, and the only aircraft is given the way out.
+const LATE: [Event; 3] = [
+    Event::Fact(Fact::Bar(0, 1)),
+    Event::Fact(Fact::Must(0, 0)),
+    Event::Hole(1),
+];
+
+#[test]
+fn late_flight_is_a_hole(rt: HostRuntime) -> Result<(), Fail> {
+    let book = there_and_back(rt.alloc(), &[0], 31)?;
+    let (answer, is_told) = told_of(rt.alloc(), &book, &[], 0, Asked::Step, &LATE)?;
+    assert!(rt; matches!(answer.first, End::Hole(1)));
+    assert!(rt; is_told);
     Ok(())
 }

@@ -1,7 +1,0 @@
-use Rattle.branch_tree.proofs.Pools.{kept_fitting}
-use Rattle.branch_tree.proofs.shutting.keep_fitting.Goals as goal
-
--- what is kept was legal, and fits
-pub returns : goal.returns
-returns c = λ table legal.
-    kept_fitting c.fits_decides.ensures table c.args.book.now c.args.marks.now.facts c.args.pool.now c.keep_fitting.new.self c.keep_fitting.ensures legal
