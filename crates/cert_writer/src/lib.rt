@@ -5,6 +5,3 @@ mod cert_log;
 mod trailer;
 
 pub use cert_log::CertLog;
-
-#[cfg(test)]
-mod tests;

@@ -2,6 +2,7 @@
 
 mod audits;
 mod books;
+mod cert_logs;
 mod certificates;
 mod enumeration;
 mod lines;

@@ -23,6 +23,3 @@ pub use made_books::{plain_flight, with_aircraft};
 pub use printing::{print_audit, print_least_plan};
 pub use routes::{is_flyable, legal_front};
 pub use texts::{delayed, ground_line};
-
-#[cfg(test)]
-mod tests;

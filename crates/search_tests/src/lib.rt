@@ -1,5 +1,5 @@
 //! Trials of the search: small books of every kind by chance, as the texts of three tables, are searched beside the
-//! enumeration, and so are books that make the search branch. It has nothing but tests.
+//! enumeration, and so are books that make the search branch; and callers are called. It has nothing but tests.
 #![tactic(auto)]
 
 #[cfg(test)]

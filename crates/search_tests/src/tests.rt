@@ -1,8 +1,9 @@
-//! Searches of small books: beside the enumeration, at each number of nodes, and told to logs that fail; and what the nodes
-//! of a search come to.
+//! Searches of small books: beside the enumeration, at each number of nodes, and told to logs that fail; what the nodes of
+//! a search come to; and what callers answer.
 
 mod beside;
 mod branching;
+mod calls;
 mod certificates;
 mod limits;
 mod logs;

@@ -62,51 +62,81 @@ fn fleet(alloc: Global) -> Result<Vec<Tail>, Memory> {
     Ok(tails)
 }
 
-// Minutes flown up to a limit, between stops of so long at ARN; and landings, which no stop clears.
-fn counters(alloc: Global, limit: i64, stop: i64) -> Result<Vec<Counter>, Memory> {
-    let minutes = Counter {
+// Minutes flown up to a limit, between stops of so long at ARN.
+fn minutes(alloc: Global, limit: i64, stop: i64) -> Result<Counter, Memory> {
+    let bases = vec![in alloc; ARN]?;
+    Ok(Counter {
         name: Name::new(b"minutes".as_slice()),
         kind: CounterKind::Minutes,
         limit,
-        bases: vec![in alloc; ARN]?,
+        bases,
         stop,
-    };
-    let landings = Counter {
+    })
+}
+
+// Landings, which no stop clears.
+fn landings(alloc: Global) -> Counter {
+    Counter {
         name: Name::new(b"landings".as_slice()),
         kind: CounterKind::Landings,
         limit: 9,
         bases: Vec::new(alloc),
         stop: 60,
-    };
-    Ok(vec![in alloc; minutes, landings]?)
+    }
 }
 
-fn book(alloc: Global, limit: i64, stop: i64) -> Result<Book, Fail> {
-    let (kind, arn, osl) = (
-        Name::new(b"A320".as_slice()),
-        Name::new(b"ARN".as_slice()),
-        Name::new(b"OSL".as_slice()),
-    );
-    let airport = |name| Airport {
+fn counters(alloc: Global, limit: i64, stop: i64) -> Result<Vec<Counter>, Memory> {
+    let mut counters = Vec::new(alloc);
+    counters.push(minutes(alloc, limit, stop)?)?;
+    counters.push(landings(alloc))?;
+    Ok(counters)
+}
+
+fn kinds(alloc: Global) -> Result<Vec<AircraftType>, Memory> {
+    let kind = AircraftType {
+        name: Name::new(b"A320".as_slice()),
+        rate: 10,
+        turn: 30,
+    };
+    Ok(vec![in alloc; kind]?)
+}
+
+fn airport(name: Name) -> Airport {
+    Airport {
         name,
         offset: 0,
         turn: 0,
-    };
-    let kinds = vec![in alloc;
-        AircraftType {
-            name: kind,
-            rate: 10,
-            turn: 30
-        },
-    ]?;
-    let rules = Rules {
+    }
+}
+
+fn airports(alloc: Global) -> Result<Vec<Airport>, Memory> {
+    let (arn, osl) = (Name::new(b"ARN".as_slice()), Name::new(b"OSL".as_slice()));
+    Ok(vec![in alloc; airport(arn), airport(osl)]?)
+}
+
+fn rules(alloc: Global, counters: Vec<Counter>) -> Result<Rules, Memory> {
+    let (kinds, airports) = (kinds(alloc)?, airports(alloc)?);
+    Ok(Rules {
         kinds,
-        airports: vec![in alloc; airport(arn), airport(osl)]?,
+        airports,
         curfews: Vec::new(alloc),
-        counters: counters(alloc, limit, stop)?,
+        counters,
         bands: Vec::new(alloc),
-    };
-    Ok(Book::new(flights(alloc)?, fleet(alloc)?, rules).ok_or("no book")?)
+    })
+}
+
+// The book of these parts, or a failure.
+fn made(flights: Vec<Activity>, fleet: Vec<Tail>, rules: Rules) -> Result<Book, Fail> {
+    match Book::new(flights, fleet, rules) {
+        Some(book) => Ok(book),
+        None => Err(Fail::new("no book")),
+    }
+}
+
+fn book(alloc: Global, limit: i64, stop: i64) -> Result<Book, Fail> {
+    let rules = rules(alloc, counters(alloc, limit, stop)?)?;
+    let fleet = fleet(alloc)?;
+    made(flights(alloc)?, fleet, rules)
 }
 
 // Marks with a fact, where it is of the book.

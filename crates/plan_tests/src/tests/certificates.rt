@@ -5,7 +5,6 @@ ghost use Rattle.std.specs.Prelude.{◌≡◌, ◌<◌, length};
 use cert_checker::{Verdict, judge};
 use small_books::{named_flight, named_tail};
 use std::alloc::Global;
-use std::process::Abort;
 use std::test::Fail;
 use tail_book::*;
 
@@ -59,6 +58,22 @@ fn rates(alloc: Global) -> Result<Book, Fail> {
     Ok(Book::new(flights, tails, rules(alloc, (1, 30), (2, 30))?).ok_or("no book")?)
 }
 
+// A book of these.
+#[derive(Clone, Copy)]
+enum Kind {
+    Nobody,
+    Late,
+    Rates,
+}
+
+fn book_of(alloc: Global, kind: Kind) -> Result<Book, Fail> {
+    match kind {
+        Kind::Nobody => nobody(alloc),
+        Kind::Late => late(alloc),
+        Kind::Rates => rates(alloc),
+    }
+}
+
 // The claim that a certificate shows, or the line and the reason of its first failure.
 type Want = Result<Claim, (u64, u8)>;
 
@@ -75,123 +90,169 @@ fn verdict(want: Want) -> Verdict {
     }
 }
 
-// Asks that the texts have the verdicts beside them.
-fn each_is_judged(
-    rt: &impl Abort,
-    alloc: Global,
-    book: &Book,
-    rows: &[(&str, Want)],
-) -> Result<(), Fail> {
-    for &(text, want) in rows {
-        let told = judge(alloc, book, text.as_bytes())?;
-        assert!(rt; told == verdict(want), "{text}");
+// Whether a text has a verdict.
+fn is_judged(alloc: Global, book: &Book, text: &[u8], told: Verdict) -> bool {
+    judge(alloc, book, text) == Ok(told)
+}
+
+// A text, and the verdict on it.
+type Judged = (&'static str, Want);
+
+// The number of the first of these texts that has another verdict.
+fn first_wrong(alloc: Global, book: &Book, rows: &[Judged]) -> Option<usize> {
+    for (number, (text, want)) in rows.iter().enumerate() {
+        if !is_judged(alloc, book, text.as_bytes(), verdict(*want)) {
+            return Some(number);
+        }
     }
-    Ok(())
+    None
+}
+
+fn first_wrong_of(alloc: Global, kind: Kind, rows: &[Judged]) -> Result<Option<usize>, Fail> {
+    let book = book_of(alloc, kind)?;
+    Ok(first_wrong(alloc, &book, rows))
 }
 
 // Steps, splits, holes and stuck leaves, where two flights are a minute too close.
-#[test]
-fn trees_without_a_bound(rt: HostRuntime) -> Result<(), Fail> {
-    let book = late(rt.alloc())?;
-    let rows: &[(&str, Want)] = &[
-        (
-            "tailcert 1 2 1 0\nbar 0 1\nhole 1\nclaim infeasible\n",
-            Ok(Claim::Infeasible),
-        ),
-        (
-            "tailcert 1 2 1 0\nbar 0 0\nhole 1\nclaim infeasible\n",
-            Err((2, 4)),
-        ),
-        (
-            "tailcert 1 2 1 0\nbar 0 1\nbar 0 1\nclaim infeasible\n",
-            Err((3, 3)),
-        ),
-        (
-            "tailcert 1 2 1 0\nbar 0 1\nhole 0\nclaim infeasible\n",
-            Err((3, 5)),
-        ),
-        (
-            "tailcert 1 2 1 0\nbar 0 1\nmust 0 0\nhole 1\nclaim infeasible\n",
-            Ok(Claim::Infeasible),
-        ),
-        (
-            "tailcert 1 2 1 0\ncut 0 1\nhole 1\nclaim infeasible\n",
-            Err((2, 4)),
-        ),
-        (
-            "tailcert 1 2 1 0\nsplit fly 0 1\nstuck 0\nlabel 0 60000\nhole 1\nclaim infeasible\n",
-            Ok(Claim::Infeasible),
-        ),
-        (
-            "tailcert 1 2 1 0\nsplit fly 0 1\nstuck 0\nlabel 0 60001\nhole 1\nclaim infeasible\n",
-            Err((3, 6)),
-        ),
-        (
-            "tailcert 1 2 1 0\nsplit fly 0 1\nstuck 0\nhole 1\nclaim infeasible\n",
-            Err((3, 6)),
-        ),
-        (
-            "tailcert 1 2 1 0\nsplit fly 0 1\nstuck 0\nlabel 0 60000\nbar 0 1\n",
-            Err((5, 3)),
-        ),
-        (
-            "tailcert 1 2 1 0\nsplit fly 0 1\nstuck 0\nlabel 0 60000\nclaim infeasible\n",
-            Err((5, 10)),
-        ),
-        (
-            "tailcert 1 2 1 0\nsplit fly 0 1\nsplit fly 0 1\n",
-            Err((3, 5)),
-        ),
-        ("tailcert 1 2 1 0\nsplit link 0 1\n", Err((2, 5))),
-        (
-            "tailcert 1 2 1 0\nbar 0 1\nhole 1\nclaim optimal 60\n",
-            Err((4, 8)),
-        ),
-        (
-            "tailcert 1 2 1 0\nbar 0 1\nhole 1\nplan\nclaim infeasible\n",
-            Err((5, 2)),
-        ),
-        (
-            "tailcert 1 2 1 0\nbar 0 1\nhole 1\nplan\nfly 0 0\nfly 1 0\nclaim infeasible\n",
-            Err((7, 8)),
-        ),
-        ("claim infeasible\n", Err((1, 10))),
-        ("plan\n", Err((1, 10))),
-        ("bound\n", Err((1, 2))),
-        ("fly 0 0\n", Err((1, 2))),
-        ("tailcert 1 2 2 0\n", Err((1, 2))),
-        ("tailcert 1 2 1 0\ntailcert 1 2 1 0\n", Err((2, 2))),
-        ("tailcert 1 2 1 0\nbar 1 0\n", Err((2, 2))),
-        ("tailcert 1 2 1 0\nhole 2\n", Err((2, 2))),
-        ("tailcert 1 2 1 0\nstuck 1\n", Err((2, 2))),
-        ("tailcert 1 2 1 0\ndual 0 1\n", Err((2, 2))),
-        ("tailcert 1 2 1 0\nlabel 0 60000\n", Err((2, 2))),
-        ("tailcert 1 2 1 0\ncover 0 0\n", Err((2, 2))),
-        ("tailcert 1 2 1 0\r\n", Err((1, 1))),
-        ("tailcert 1 2 1 0", Err((1, 10))),
-        ("tailcert 1 2 1 0\n", Err((2, 10))),
-        ("", Err((1, 10))),
-        ("\n", Err((1, 1))),
-    ];
-    each_is_judged(&rt, rt.alloc(), &book, rows)
-}
+const WITHOUT_A_BOUND: &[Judged] = &[
+    (
+        "tailcert 1 2 1 0\nbar 0 1\nhole 1\nclaim infeasible\n",
+        Ok(Claim::Infeasible),
+    ),
+    (
+        "tailcert 1 2 1 0\nbar 0 0\nhole 1\nclaim infeasible\n",
+        Err((2, 4)),
+    ),
+    (
+        "tailcert 1 2 1 0\nbar 0 1\nbar 0 1\nclaim infeasible\n",
+        Err((3, 3)),
+    ),
+    (
+        "tailcert 1 2 1 0\nbar 0 1\nhole 0\nclaim infeasible\n",
+        Err((3, 5)),
+    ),
+    (
+        "tailcert 1 2 1 0\nbar 0 1\nmust 0 0\nhole 1\nclaim infeasible\n",
+        Ok(Claim::Infeasible),
+    ),
+    (
+        "tailcert 1 2 1 0\ncut 0 1\nhole 1\nclaim infeasible\n",
+        Err((2, 4)),
+    ),
+    (
+        "tailcert 1 2 1 0\nsplit fly 0 1\nstuck 0\nlabel 0 60000\nhole 1\nclaim infeasible\n",
+        Ok(Claim::Infeasible),
+    ),
+    (
+        "tailcert 1 2 1 0\nsplit fly 0 1\nstuck 0\nlabel 0 60001\nhole 1\nclaim infeasible\n",
+        Err((3, 6)),
+    ),
+    (
+        "tailcert 1 2 1 0\nsplit fly 0 1\nstuck 0\nhole 1\nclaim infeasible\n",
+        Err((3, 6)),
+    ),
+    (
+        "tailcert 1 2 1 0\nsplit fly 0 1\nstuck 0\nlabel 0 60000\nbar 0 1\n",
+        Err((5, 3)),
+    ),
+    (
+        "tailcert 1 2 1 0\nsplit fly 0 1\nstuck 0\nlabel 0 60000\nclaim infeasible\n",
+        Err((5, 10)),
+    ),
+    (
+        "tailcert 1 2 1 0\nsplit fly 0 1\nsplit fly 0 1\n",
+        Err((3, 5)),
+    ),
+    ("tailcert 1 2 1 0\nsplit link 0 1\n", Err((2, 5))),
+    (
+        "tailcert 1 2 1 0\nbar 0 1\nhole 1\nclaim optimal 60\n",
+        Err((4, 8)),
+    ),
+    (
+        "tailcert 1 2 1 0\nbar 0 1\nhole 1\nplan\nclaim infeasible\n",
+        Err((5, 2)),
+    ),
+    (
+        "tailcert 1 2 1 0\nbar 0 1\nhole 1\nplan\nfly 0 0\nfly 1 0\nclaim infeasible\n",
+        Err((7, 8)),
+    ),
+    ("claim infeasible\n", Err((1, 10))),
+    ("plan\n", Err((1, 10))),
+    ("bound\n", Err((1, 2))),
+    ("fly 0 0\n", Err((1, 2))),
+    ("tailcert 1 2 2 0\n", Err((1, 2))),
+    ("tailcert 1 2 1 0\ntailcert 1 2 1 0\n", Err((2, 2))),
+    ("tailcert 1 2 1 0\nbar 1 0\n", Err((2, 2))),
+    ("tailcert 1 2 1 0\nhole 2\n", Err((2, 2))),
+    ("tailcert 1 2 1 0\nstuck 1\n", Err((2, 2))),
+    ("tailcert 1 2 1 0\ndual 0 1\n", Err((2, 2))),
+    ("tailcert 1 2 1 0\nlabel 0 60000\n", Err((2, 2))),
+    ("tailcert 1 2 1 0\ncover 0 0\n", Err((2, 2))),
+    ("tailcert 1 2 1 0\r\n", Err((1, 1))),
+    ("tailcert 1 2 1 0", Err((1, 10))),
+    ("tailcert 1 2 1 0\n", Err((2, 10))),
+    ("", Err((1, 10))),
+    ("\n", Err((1, 1))),
+];
 
 // A hole, and a bound leaf without covers.
+const NOBODY_COVERS: &[Judged] = &[
+    (
+        "tailcert 1 1 0 0\nhole 0\nclaim infeasible\n",
+        Ok(Claim::Infeasible),
+    ),
+    (
+        "tailcert 1 1 0 0\nbound\ndual 0 1001\nclaim limit 2 -\n",
+        Ok(Claim::Limit { low: 2, high: None }),
+    ),
+];
+
+// Splits with a tree for each branch or for one alone, labels that are not alive, and sums below 0.
+const BRANCHES_AND_LOW_SUMS: &[Judged] = &[
+    (
+        "tailcert 1 2 2 0\nsplit fly 0 0\nbound\ndual 1 240000\ncover 0 60000\nlabel 0 60000\ncover 1 0\nlabel 1 0\nplan\n",
+        Err((9, 10)),
+    ),
+    (
+        "tailcert 1 2 2 0\nsplit fly 0 0\nbound\ncover 0 60000\nlabel 0 60000\ncover 1 0\nlabel 0 120000\n",
+        Err((7, 5)),
+    ),
+    (
+        "tailcert 1 2 2 0\nbound\ncover 0 0\nlabel 0 60000\nlabel 1 120000\ncover 1 0\nlabel 0 120000\nlabel 1 240000\nclaim limit 0 -\n",
+        Ok(Claim::Limit { low: 0, high: None }),
+    ),
+    (
+        "tailcert 1 2 2 0\nbound\ncover 0 -5\nlabel 0 60000\nlabel 1 120000\ncover 1 0\nlabel 0 120000\nlabel 1 240000\nclaim limit 0 -\n",
+        Ok(Claim::Limit { low: 0, high: None }),
+    ),
+    (
+        "tailcert 1 2 2 0\nbound\ncover 0 -5\nlabel 0 60000\nlabel 1 120000\ncover 1 0\nlabel 0 120000\nlabel 1 240000\nclaim limit 1 -\n",
+        Err((9, 9)),
+    ),
+    (
+        "tailcert 1 2 2 0\nsplit fly 0 0\nbound\ndual 1 240000\ncover 0 60000\nlabel 0 60000\ncover 1 0\nlabel 1 0\nmust 1 0\nbound\nclaim limit 0 -\n",
+        Err((11, 10)),
+    ),
+];
+
+// What the texts are about, their book, and their verdicts.
+const TEXTS: &[(&str, Kind, &[Judged])] = &[
+    ("trees without a bound", Kind::Late, WITHOUT_A_BOUND),
+    ("nobody covers", Kind::Nobody, NOBODY_COVERS),
+    ("branches and low sums", Kind::Rates, BRANCHES_AND_LOW_SUMS),
+];
+
+fn texts() -> &'static [(&'static str, Kind, &'static [Judged])] {
+    TEXTS
+}
+
 #[test]
-fn nobody_covers(rt: HostRuntime) -> Result<(), Fail> {
-    let book = nobody(rt.alloc())?;
-    let low = Claim::Limit { low: 2, high: None };
-    let rows: &[(&str, Want)] = &[
-        (
-            "tailcert 1 1 0 0\nhole 0\nclaim infeasible\n",
-            Ok(Claim::Infeasible),
-        ),
-        (
-            "tailcert 1 1 0 0\nbound\ndual 0 1001\nclaim limit 2 -\n",
-            Ok(low),
-        ),
-    ];
-    each_is_judged(&rt, rt.alloc(), &book, rows)
+fn texts_are_judged(rt: HostRuntime) -> Result<(), Fail> {
+    for &(about, kind, rows) in texts() {
+        let wrong = first_wrong_of(rt.alloc(), kind, rows)?;
+        assert!(rt; wrong.is_none(), "{about}, row {wrong:?}");
+    }
+    Ok(())
 }
 
 // Bytes that no newline ends.
@@ -199,33 +260,33 @@ fn nobody_covers(rt: HostRuntime) -> Result<(), Fail> {
 fn nothing_but_zeros(rt: HostRuntime) -> Result<(), Fail> {
     let book = nobody(rt.alloc())?;
     let zeros = [b'0'; 201];
-    let told = judge(rt.alloc(), &book, &zeros[..200])?;
-    assert!(rt; told == fails(1, 10));
-    let told = judge(rt.alloc(), &book, &zeros)?;
-    assert!(rt; told == fails(1, 1));
+    assert!(rt; is_judged(rt.alloc(), &book, &zeros[..200], fails(1, 10)));
+    assert!(rt; is_judged(rt.alloc(), &book, &zeros, fails(1, 1)));
     Ok(())
 }
 
-// The lines of a certificate of the least cost, with this text in place of those from one number up to another.
+// A certificate of the least cost.
+const LEAST: &[&str] = &[
+    "tailcert 1 2 2 0",
+    "bound",
+    "dual 0 120000",
+    "dual 1 180000",
+    "cover 0 -60000",
+    "label 0 -60000",
+    "label 1 -60000",
+    "cover 1 0",
+    "label 0 0",
+    "label 1 60000",
+    "plan",
+    "fly 0 1",
+    "fly 1 0",
+    "claim optimal 240",
+];
+
+// Its lines, with a text in place of those from one number up to another.
 fn with_lines(alloc: Global, from: usize, until: usize, put: &str) -> Result<String, Memory> {
     let mut text = String::new(alloc);
-    let lines = [
-        "tailcert 1 2 2 0",
-        "bound",
-        "dual 0 120000",
-        "dual 1 180000",
-        "cover 0 -60000",
-        "label 0 -60000",
-        "label 1 -60000",
-        "cover 1 0",
-        "label 0 0",
-        "label 1 60000",
-        "plan",
-        "fly 0 1",
-        "fly 1 0",
-        "claim optimal 240",
-    ];
-    for (i, line) in lines.iter().enumerate() {
+    for (i, line) in LEAST.iter().enumerate() {
         if i == from {
             text.push_str(put)?;
         }
@@ -237,112 +298,137 @@ fn with_lines(alloc: Global, from: usize, until: usize, put: &str) -> Result<Str
     Ok(text)
 }
 
-// Asks that a certificate of the least cost, with these texts in place of some of its lines, has the verdicts beside them.
-fn each_change_is_judged(
-    rt: &impl Abort,
-    alloc: Global,
-    book: &Book,
-    rows: &[(usize, usize, &str, Want)],
-) -> Result<(), Fail> {
-    for &(from, until, put, want) in rows {
-        let text = with_lines(alloc, from, until, put)?;
-        let told = judge(alloc, book, text.as_bytes())?;
-        assert!(rt; told == verdict(want), "{from}: {put}");
+// Lines of that certificate, a text in place of them, and the verdict.
+type Change = (usize, usize, &'static str, Want);
+
+fn is_judged_with(alloc: Global, book: &Book, change: &Change) -> bool {
+    let &(from, until, put, want) = change;
+    match with_lines(alloc, from, until, put) {
+        Ok(text) => is_judged(alloc, book, text.as_bytes(), verdict(want)),
+        Err(_) => false,
     }
+}
+
+// The number of the first of these changes that has another verdict.
+fn first_wrong_change(alloc: Global, book: &Book, rows: &[Change]) -> Option<usize> {
+    for (number, change) in rows.iter().enumerate() {
+        if !is_judged_with(alloc, book, change) {
+            return Some(number);
+        }
+    }
+    None
+}
+
+// It whole, and one line of it left out, or another.
+const ONE_LINE_AWAY: &[Change] = &[
+    (0, 0, "", Ok(Claim::Optimal(240))),
+    (0, 1, "", Err((1, 2))),
+    (1, 2, "", Err((2, 2))),
+    (2, 3, "", Err((13, 9))),
+    (3, 4, "", Err((13, 9))),
+    (4, 5, "", Err((5, 2))),
+    (5, 6, "", Err((5, 6))),
+    (6, 7, "", Err((5, 6))),
+    (7, 8, "", Err((8, 2))),
+    (8, 9, "", Err((8, 6))),
+    (9, 10, "", Err((8, 6))),
+    (10, 11, "", Err((11, 2))),
+    (11, 12, "", Err((12, 2))),
+    (12, 13, "", Err((13, 2))),
+    (13, 14, "", Err((14, 10))),
+    (3, 4, "dual 1 179999\n", Ok(Claim::Optimal(240))),
+    (3, 4, "dual 1 179000\n", Err((14, 9))),
+    (3, 4, "dual 1 180001\n", Err((5, 6))),
+    (3, 4, "dual 1 4000001001\n", Err((4, 7))),
+    (3, 4, "dual 1 0180000\n", Err((4, 1))),
+    (3, 4, "dual 0 180000\n", Err((4, 2))),
+    (4, 5, "cover 0 0\n", Err((5, 6))),
+    (4, 5, "cover 1 -60000\n", Err((5, 2))),
+    (5, 6, "label 0 -59999\n", Err((5, 6))),
+    (5, 6, "label 0 -60000 0\n", Err((6, 2))),
+    (5, 6, "label 2 -60000\n", Err((6, 2))),
+    (7, 8, "cover 0 0\n", Err((8, 2))),
+    (11, 12, "fly 1 0\n", Err((12, 2))),
+    (11, 12, "fly 0 0\n", Err((14, 8))),
+    (11, 13, "fly 0 0\nfly 1 1\n", Err((14, 8))),
+    (13, 14, "claim optimal 239\n", Err((14, 8))),
+    (13, 14, "claim infeasible\n", Err((14, 8))),
+    (
+        13,
+        14,
+        "claim limit 100 240\n",
+        Ok(Claim::Limit {
+            low: 100,
+            high: Some(240),
+        }),
+    ),
+    (13, 14, "claim limit 100 -\n", Err((14, 8))),
+    (13, 14, "claim optimal 240\nx", Err((15, 10))),
+];
+
+// Each of its lines twice, and before the one that it comes behind.
+const TWICE_AND_EARLY: &[Change] = &[
+    (1, 1, "tailcert 1 2 2 0\n", Err((2, 2))),
+    (2, 2, "bound\n", Err((3, 2))),
+    (3, 3, "dual 0 120000\n", Err((4, 2))),
+    (4, 4, "dual 1 180000\n", Err((5, 2))),
+    (5, 5, "cover 0 -60000\n", Err((5, 6))),
+    (6, 6, "label 0 -60000\n", Ok(Claim::Optimal(240))),
+    (7, 7, "label 1 -60000\n", Ok(Claim::Optimal(240))),
+    (8, 8, "cover 1 0\n", Err((8, 6))),
+    (9, 9, "label 0 0\n", Ok(Claim::Optimal(240))),
+    (10, 10, "label 1 60000\n", Ok(Claim::Optimal(240))),
+    (11, 11, "plan\n", Err((12, 2))),
+    (12, 12, "fly 0 1\n", Err((13, 2))),
+    (13, 13, "fly 1 0\n", Err((14, 2))),
+    (
+        13,
+        14,
+        "claim optimal 240\nclaim optimal 240\n",
+        Err((15, 2)),
+    ),
+    (0, 2, "bound\ntailcert 1 2 2 0\n", Err((1, 2))),
+    (1, 3, "dual 0 120000\nbound\n", Err((2, 2))),
+    (2, 4, "dual 1 180000\ndual 0 120000\n", Err((4, 2))),
+    (3, 5, "cover 0 -60000\ndual 1 180000\n", Err((4, 6))),
+    (4, 6, "label 0 -60000\ncover 0 -60000\n", Err((5, 2))),
+    (5, 7, "label 1 -60000\nlabel 0 -60000\n", Err((7, 2))),
+    (6, 8, "cover 1 0\nlabel 1 -60000\n", Err((5, 6))),
+    (7, 9, "label 0 0\ncover 1 0\n", Err((8, 2))),
+    (8, 10, "label 1 60000\nlabel 0 0\n", Err((10, 2))),
+    (9, 11, "plan\nlabel 1 60000\n", Err((8, 6))),
+    (10, 12, "fly 0 1\nplan\n", Err((11, 2))),
+    (11, 13, "fly 1 0\nfly 0 1\n", Err((12, 2))),
+    (12, 14, "claim optimal 240\nfly 1 0\n", Err((13, 2))),
+];
+
+fn changes() -> [&'static [Change]; 2] {
+    [ONE_LINE_AWAY, TWICE_AND_EARLY]
+}
+
+#[test]
+fn changes_are_judged(rt: HostRuntime) -> Result<(), Fail> {
+    let book = rates(rt.alloc())?;
+    let [away, twice] = changes();
+    let wrong = first_wrong_change(rt.alloc(), &book, away);
+    assert!(rt; wrong.is_none(), "one line away, row {wrong:?}");
+    let wrong = first_wrong_change(rt.alloc(), &book, twice);
+    assert!(rt; wrong.is_none(), "twice and early, row {wrong:?}");
     Ok(())
 }
 
-// A certificate of the least cost, and one line of it left out, or another.
-#[test]
-fn one_line_away(rt: HostRuntime) -> Result<(), Fail> {
-    let book = rates(rt.alloc())?;
-    let rows: &[(usize, usize, &str, Want)] = &[
-        (0, 0, "", Ok(Claim::Optimal(240))),
-        (0, 1, "", Err((1, 2))),
-        (1, 2, "", Err((2, 2))),
-        (2, 3, "", Err((13, 9))),
-        (3, 4, "", Err((13, 9))),
-        (4, 5, "", Err((5, 2))),
-        (5, 6, "", Err((5, 6))),
-        (6, 7, "", Err((5, 6))),
-        (7, 8, "", Err((8, 2))),
-        (8, 9, "", Err((8, 6))),
-        (9, 10, "", Err((8, 6))),
-        (10, 11, "", Err((11, 2))),
-        (11, 12, "", Err((12, 2))),
-        (12, 13, "", Err((13, 2))),
-        (13, 14, "", Err((14, 10))),
-        (3, 4, "dual 1 179999\n", Ok(Claim::Optimal(240))),
-        (3, 4, "dual 1 179000\n", Err((14, 9))),
-        (3, 4, "dual 1 180001\n", Err((5, 6))),
-        (3, 4, "dual 1 4000001001\n", Err((4, 7))),
-        (3, 4, "dual 1 0180000\n", Err((4, 1))),
-        (3, 4, "dual 0 180000\n", Err((4, 2))),
-        (4, 5, "cover 0 0\n", Err((5, 6))),
-        (4, 5, "cover 1 -60000\n", Err((5, 2))),
-        (5, 6, "label 0 -59999\n", Err((5, 6))),
-        (5, 6, "label 0 -60000 0\n", Err((6, 2))),
-        (5, 6, "label 2 -60000\n", Err((6, 2))),
-        (7, 8, "cover 0 0\n", Err((8, 2))),
-        (11, 12, "fly 1 0\n", Err((12, 2))),
-        (11, 12, "fly 0 0\n", Err((14, 8))),
-        (11, 13, "fly 0 0\nfly 1 1\n", Err((14, 8))),
-        (13, 14, "claim optimal 239\n", Err((14, 8))),
-        (13, 14, "claim infeasible\n", Err((14, 8))),
-        (
-            13,
-            14,
-            "claim limit 100 240\n",
-            Ok(Claim::Limit {
-                low: 100,
-                high: Some(240),
-            }),
-        ),
-        (13, 14, "claim limit 100 -\n", Err((14, 8))),
-        (13, 14, "claim optimal 240\nx", Err((15, 10))),
-    ];
-    each_change_is_judged(&rt, rt.alloc(), &book, rows)
-}
-
-// Each line of a certificate of the least cost twice, and before the one that it comes behind.
-#[test]
-fn lines_twice_and_early(rt: HostRuntime) -> Result<(), Fail> {
-    let book = rates(rt.alloc())?;
-    let rows: &[(usize, usize, &str, Want)] = &[
-        (1, 1, "tailcert 1 2 2 0\n", Err((2, 2))),
-        (2, 2, "bound\n", Err((3, 2))),
-        (3, 3, "dual 0 120000\n", Err((4, 2))),
-        (4, 4, "dual 1 180000\n", Err((5, 2))),
-        (5, 5, "cover 0 -60000\n", Err((5, 6))),
-        (6, 6, "label 0 -60000\n", Ok(Claim::Optimal(240))),
-        (7, 7, "label 1 -60000\n", Ok(Claim::Optimal(240))),
-        (8, 8, "cover 1 0\n", Err((8, 6))),
-        (9, 9, "label 0 0\n", Ok(Claim::Optimal(240))),
-        (10, 10, "label 1 60000\n", Ok(Claim::Optimal(240))),
-        (11, 11, "plan\n", Err((12, 2))),
-        (12, 12, "fly 0 1\n", Err((13, 2))),
-        (13, 13, "fly 1 0\n", Err((14, 2))),
-        (
-            13,
-            14,
-            "claim optimal 240\nclaim optimal 240\n",
-            Err((15, 2)),
-        ),
-        (0, 2, "bound\ntailcert 1 2 2 0\n", Err((1, 2))),
-        (1, 3, "dual 0 120000\nbound\n", Err((2, 2))),
-        (2, 4, "dual 1 180000\ndual 0 120000\n", Err((4, 2))),
-        (3, 5, "cover 0 -60000\ndual 1 180000\n", Err((4, 6))),
-        (4, 6, "label 0 -60000\ncover 0 -60000\n", Err((5, 2))),
-        (5, 7, "label 1 -60000\nlabel 0 -60000\n", Err((7, 2))),
-        (6, 8, "cover 1 0\nlabel 1 -60000\n", Err((5, 6))),
-        (7, 9, "label 0 0\ncover 1 0\n", Err((8, 2))),
-        (8, 10, "label 1 60000\nlabel 0 0\n", Err((10, 2))),
-        (9, 11, "plan\nlabel 1 60000\n", Err((8, 6))),
-        (10, 12, "fly 0 1\nplan\n", Err((11, 2))),
-        (11, 13, "fly 1 0\nfly 0 1\n", Err((12, 2))),
-        (12, 14, "claim optimal 240\nfly 1 0\n", Err((13, 2))),
-    ];
-    each_change_is_judged(&rt, rt.alloc(), &book, rows)
+// The first end of a text that is not unfinished in the line of the byte there.
+fn first_end(alloc: Global, book: &Book, bytes: &[u8]) -> Option<usize> {
+    let mut line = 1u64;
+    for end in 0..bytes.len() {
+        if !is_judged(alloc, book, &bytes[..end], fails(line, 10)) {
+            return Some(end);
+        }
+        if bytes[end] == b'\n' {
+            line = line.saturating_add(1);
+        }
+    }
+    None
 }
 
 // A certificate of the least cost that is cut before any of its bytes is unfinished in the line of that byte.
@@ -350,17 +436,8 @@ fn lines_twice_and_early(rt: HostRuntime) -> Result<(), Fail> {
 fn cut_at_every_byte(rt: HostRuntime) -> Result<(), Fail> {
     let book = rates(rt.alloc())?;
     let text = with_lines(rt.alloc(), 0, 0, "")?;
-    let bytes = text.as_bytes();
-    let mut line = 1u64;
-    for end in 0..bytes.len() {
-        assert!(rt;
-            judge(rt.alloc(), &book, &bytes[..end])? == fails(line, 10),
-            "{end}"
-        );
-        if bytes[end] == b'\n' {
-            line = line.saturating_add(1);
-        }
-    }
+    let end = first_end(rt.alloc(), &book, text.as_bytes());
+    assert!(rt; end.is_none(), "{end:?}");
     Ok(())
 }
 
@@ -396,8 +473,8 @@ fn is_safe_at(
     ensures { length bytes.new ≡ length bytes.old }
 {
     let known = bytes[at];
-    for byte in [b'0', b'1', b'9', b'-', b' ', b'\n'] {
-        bytes[at] = byte;
+    for byte in b"019- \n" {
+        bytes[at] = *byte;
         if !is_safe(costs, judge(alloc, book, bytes)?) {
             return Ok(false);
         }
@@ -423,65 +500,32 @@ fn unsafe_place(
     Ok(None)
 }
 
-// A certificate of a least cost with one byte changed, each in turn to six others, never claims what is not true.
-#[test]
-fn one_byte_from_a_least_cost(rt: HostRuntime) -> Result<(), Fail> {
-    let (book, text) = (rates(rt.alloc())?, with_lines(rt.alloc(), 0, 0, "")?);
-    let place = unsafe_place(rt.alloc(), &book, &[240, 300], &text)?;
-    assert!(rt; place.is_none());
-    Ok(())
+fn unsafe_place_of(
+    alloc: Global,
+    kind: Kind,
+    costs: &[u64],
+    text: &str,
+) -> Result<Option<usize>, Fail> {
+    let book = book_of(alloc, kind)?;
+    Ok(unsafe_place(alloc, &book, costs, text)?)
 }
 
-// Nor does one of a split.
-#[test]
-fn one_byte_from_a_split(rt: HostRuntime) -> Result<(), Fail> {
-    let book = late(rt.alloc())?;
-    let text =
-        "tailcert 1 2 1 0\nsplit fly 0 1\nstuck 0\nlabel 0 60000\nhole 1\nclaim infeasible\n";
-    let place = unsafe_place(rt.alloc(), &book, &[], text)?;
-    assert!(rt; place.is_none());
-    Ok(())
-}
+// A split, and a leaf without covers, in books that have no legal plan.
+const SPLIT: &str =
+    "tailcert 1 2 1 0\nsplit fly 0 1\nstuck 0\nlabel 0 60000\nhole 1\nclaim infeasible\n";
 
-// Nor does one of a leaf without covers.
-#[test]
-fn one_byte_from_a_bare_leaf(rt: HostRuntime) -> Result<(), Fail> {
-    let book = nobody(rt.alloc())?;
-    let text = "tailcert 1 1 0 0\nbound\ndual 0 1001\nclaim limit 2 -\n";
-    let place = unsafe_place(rt.alloc(), &book, &[], text)?;
-    assert!(rt; place.is_none());
-    Ok(())
-}
+const BARE_LEAF: &str = "tailcert 1 1 0 0\nbound\ndual 0 1001\nclaim limit 2 -\n";
 
-// Splits with a tree for each branch or for one alone, labels that are not alive, and sums below 0.
+// A certificate with one byte changed, each in turn to six others, never claims what is not true: one of a least cost, of
+// a split, and of a leaf without covers.
 #[test]
-fn branches_and_low_sums(rt: HostRuntime) -> Result<(), Fail> {
-    let book = rates(rt.alloc())?;
-    let rows: &[(&str, Want)] = &[
-        (
-            "tailcert 1 2 2 0\nsplit fly 0 0\nbound\ndual 1 240000\ncover 0 60000\nlabel 0 60000\ncover 1 0\nlabel 1 0\nplan\n",
-            Err((9, 10)),
-        ),
-        (
-            "tailcert 1 2 2 0\nsplit fly 0 0\nbound\ncover 0 60000\nlabel 0 60000\ncover 1 0\nlabel 0 120000\n",
-            Err((7, 5)),
-        ),
-        (
-            "tailcert 1 2 2 0\nbound\ncover 0 0\nlabel 0 60000\nlabel 1 120000\ncover 1 0\nlabel 0 120000\nlabel 1 240000\nclaim limit 0 -\n",
-            Ok(Claim::Limit { low: 0, high: None }),
-        ),
-        (
-            "tailcert 1 2 2 0\nbound\ncover 0 -5\nlabel 0 60000\nlabel 1 120000\ncover 1 0\nlabel 0 120000\nlabel 1 240000\nclaim limit 0 -\n",
-            Ok(Claim::Limit { low: 0, high: None }),
-        ),
-        (
-            "tailcert 1 2 2 0\nbound\ncover 0 -5\nlabel 0 60000\nlabel 1 120000\ncover 1 0\nlabel 0 120000\nlabel 1 240000\nclaim limit 1 -\n",
-            Err((9, 9)),
-        ),
-        (
-            "tailcert 1 2 2 0\nsplit fly 0 0\nbound\ndual 1 240000\ncover 0 60000\nlabel 0 60000\ncover 1 0\nlabel 1 0\nmust 1 0\nbound\nclaim limit 0 -\n",
-            Err((11, 10)),
-        ),
-    ];
-    each_is_judged(&rt, rt.alloc(), &book, rows)
+fn one_byte_away(rt: HostRuntime) -> Result<(), Fail> {
+    let least = with_lines(rt.alloc(), 0, 0, "")?;
+    let place = unsafe_place_of(rt.alloc(), Kind::Rates, &[240, 300], &least)?;
+    assert!(rt; place.is_none(), "a least cost, {place:?}");
+    let place = unsafe_place_of(rt.alloc(), Kind::Late, &[], SPLIT)?;
+    assert!(rt; place.is_none(), "a split, {place:?}");
+    let place = unsafe_place_of(rt.alloc(), Kind::Nobody, &[], BARE_LEAF)?;
+    assert!(rt; place.is_none(), "a bare leaf, {place:?}");
+    Ok(())
 }

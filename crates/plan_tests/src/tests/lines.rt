@@ -4,44 +4,50 @@ use cert_lines::{read_line, write_line};
 use std::test::Fail;
 use tail_text::Line;
 
-// What is read is written again, byte for byte; the numbers stand at their ends.
+// Whether a text is read as a line that is written so again, byte for byte.
+fn is_written_again(line: &mut Line, text: &str) -> bool {
+    match read_line(text.as_bytes()) {
+        Ok(read) => {
+            line.clear();
+            write_line(&read, line).is_ok() && line.bytes() == text.as_bytes()
+        }
+        Err(_) => false,
+    }
+}
+
+// Lines of each kind; the numbers stand at their ends.
+const SPELLED: &[&str] = &[
+    "tailcert 1 4000 200 6",
+    "tailcert 1 0 0 0",
+    "bar 0 1",
+    "must 4294967295 0",
+    "cut 0 4294967295",
+    "hole 1",
+    "stuck 199",
+    "bound",
+    "dual 0 -1",
+    "dual 3999 2305843009213693952",
+    "cover 0 -2305843009213693952",
+    "cover 1 0",
+    "label 0 -60000",
+    "label 4294967295 -2305843009213693952 0 1 2 3 4 2305843009213693952",
+    "split fly 0 1",
+    "split link 7 8",
+    "plan",
+    "fly 0 1",
+    "claim optimal 0",
+    "claim optimal 18446744073709551615",
+    "claim infeasible",
+    "claim limit 0 1",
+    "claim limit 18446744073709551614 18446744073709551615",
+    "claim limit 0 -",
+];
+
 #[test]
 fn lines_have_one_spelling(rt: HostRuntime) -> Result<(), Fail> {
     let mut line = Line::new(rt.alloc())?;
-    for &text in &[
-        "tailcert 1 4000 200 6",
-        "tailcert 1 0 0 0",
-        "bar 0 1",
-        "must 4294967295 0",
-        "cut 0 4294967295",
-        "hole 1",
-        "stuck 199",
-        "bound",
-        "dual 0 -1",
-        "dual 3999 2305843009213693952",
-        "cover 0 -2305843009213693952",
-        "cover 1 0",
-        "label 0 -60000",
-        "label 4294967295 -2305843009213693952 0 1 2 3 4 2305843009213693952",
-        "split fly 0 1",
-        "split link 7 8",
-        "plan",
-        "fly 0 1",
-        "claim optimal 0",
-        "claim optimal 18446744073709551615",
-        "claim infeasible",
-        "claim limit 0 1",
-        "claim limit 18446744073709551614 18446744073709551615",
-        "claim limit 0 -",
-    ] {
-        match read_line(text.as_bytes()) {
-            Ok(read) => {
-                line.clear();
-                write_line(&read, &mut line)?;
-                assert!(rt; line.bytes() == text.as_bytes(), "at {text}");
-            }
-            Err(_) => assert!(rt; false, "at {text}"),
-        }
+    for &text in SPELLED {
+        assert!(rt; is_written_again(&mut line, text), "at {text}");
     }
     Ok(())
 }

@@ -133,14 +133,14 @@ fn audited(
     Ok((ended, taken))
 }
 
-fn add_name(text: &mut Vec<u8>, name: &Name, end: &[u8]) -> Result<(), Fail> {
+fn add_name(text: &mut Vec<u8>, name: &Name, end: &[u8]) -> Result<(), Memory> {
     text.extend_from_slice(name.as_bytes())?;
     text.extend_from_slice(end)?;
     Ok(())
 }
 
 // The names of a plan that was read, each with a comma behind it, and a semicolon behind each line.
-fn names_of(alloc: Global, plan: &RawPlan) -> Result<Vec<u8>, Fail> {
+fn names_of(alloc: Global, plan: &RawPlan) -> Result<Vec<u8>, Memory> {
     let mut text = Vec::new(alloc);
     for line in plan.lines.iter() {
         add_name(&mut text, &line.tail, b",".as_slice())?;
@@ -153,7 +153,7 @@ fn names_of(alloc: Global, plan: &RawPlan) -> Result<Vec<u8>, Fail> {
 }
 
 // What the reading of a plan file answers: the names of the plan, or the line of the refusal.
-fn answered(alloc: Global, text: &[u8]) -> Result<Vec<u8>, Fail> {
+fn answered(alloc: Global, text: &[u8]) -> Result<Vec<u8>, Memory> {
     match read_plan(alloc, text) {
         Ok(plan) => names_of(alloc, &plan),
         Err(Stopped::Refused(refusal)) => {
@@ -165,13 +165,10 @@ fn answered(alloc: Global, text: &[u8]) -> Result<Vec<u8>, Fail> {
 }
 
 // A text of a front, a piece so many times, and an end.
-fn repeated(
-    alloc: Global,
-    front: &[u8],
-    piece: &[u8],
-    times: u32,
-    end: &[u8],
-) -> Result<Vec<u8>, Fail> {
+type Pieces = (&'static [u8], &'static [u8], u32, &'static [u8]);
+
+fn text_of(alloc: Global, pieces: &Pieces) -> Result<Vec<u8>, Memory> {
+    let &(front, piece, times, end) = pieces;
     let mut text = front.to_vec(alloc)?;
     for _ in 0..times {
         text.extend_from_slice(piece)?;
@@ -180,16 +177,19 @@ fn repeated(
     Ok(text)
 }
 
-// What the reading of such a text answers.
-fn answer_to(
-    alloc: Global,
-    front: &[u8],
-    piece: &[u8],
-    times: u32,
-    end: &[u8],
-) -> Result<Vec<u8>, Fail> {
-    let text = repeated(alloc, front, piece, times, end)?;
-    answered(alloc, &text)
+// Whether the reading of a text answers this.
+fn is_answered(alloc: Global, text: &[u8], want: &[u8]) -> bool {
+    match answered(alloc, text) {
+        Ok(told) => told.as_slice() == want,
+        Err(_) => false,
+    }
+}
+
+// The same of texts of pieces.
+fn are_answered(alloc: Global, text: &Pieces, want: &Pieces) -> Result<bool, Memory> {
+    let text = text_of(alloc, text)?;
+    let want = text_of(alloc, want)?;
+    Ok(is_answered(alloc, &text, &want))
 }
 
 // Whether what was taken is the front of a text, of so many bytes.
@@ -197,7 +197,29 @@ fn is_front(taken: &[u8], text: &str, length: usize) -> bool {
     taken.len() == length && text.as_bytes().starts_with(taken)
 }
 
-// Reports the outcome whole, and where each put fails in turn. What the sink took is the lines before it.
+// The put that fails, how the writing ends, and how many bytes were taken.
+type Failing = (u64, Result<(), ReportFail>, usize);
+
+fn ends_so(seen: &(Result<(), ReportFail>, Vec<u8>), whole: &str, row: &Failing) -> bool {
+    let &(_, ended, length) = row;
+    seen.0 == ended && is_front(&seen.1, whole, length)
+}
+
+// Whether the report of an outcome ends so. What the sink took is the lines before the put that fails.
+fn report_ends_so(
+    alloc: Global,
+    book: &Book,
+    outcome: &Outcome,
+    whole: &str,
+    row: &Failing,
+) -> Result<bool, Fail>
+    requires { HasPlanFor book.now outcome.now }
+{
+    let seen = reported(alloc, book, outcome, row.0)?;
+    Ok(ends_so(&seen, whole, row))
+}
+
+// Reports the outcome whole, and where each put fails in turn.
 fn fails_in_turn(
     rt: &impl Abort,
     alloc: Global,
@@ -207,16 +229,18 @@ fn fails_in_turn(
 ) -> Result<(), Fail>
     requires { HasPlanFor book.now outcome.now }
 {
-    for &(failing, ended, length) in &[
+    for row in &[
         (0, Ok(()), 29),
         (1, Err(ReportFail::Write), 0),
         (2, Err(ReportFail::Write), 12),
         (3, Err(ReportFail::Write), 22),
         (4, Ok(()), 29),
     ] {
-        let seen = reported(alloc, book, outcome, failing)?;
-        assert!(rt; seen.0 == ended, "at {failing}");
-        assert!(rt; is_front(&seen.1, whole, length), "at {failing}");
+        assert!(rt;
+            report_ends_so(alloc, book, outcome, whole, row)?,
+            "at {}",
+            row.0
+        );
     }
     Ok(())
 }
@@ -237,26 +261,40 @@ fn is_reported(alloc: Global, book: &Book, outcome: &Outcome, text: &str) -> Res
     Ok(seen.1.as_slice() == text.as_bytes())
 }
 
-// The other outcomes: no plan, a bound with a plan that leaves an aircraft at home, and a bound alone.
+// Whether a bound with a plan that leaves an aircraft at home is reported so.
+fn between_is_reported(alloc: Global, book: &Book, text: &str) -> Result<bool, Fail>
+    requires activities { activities book.now ≡ 3 }
+    requires aircraft { aircraft book.now ≡ 2 }
+{
+    let plan = plan(alloc, book, &[], &[F1, F2, F3])?;
+    let between = Outcome::Between {
+        plan,
+        low: 0,
+        high: 180,
+        nodes: 3,
+    };
+    is_reported(alloc, book, &between, text)
+}
+
+// The other outcomes: no plan, a bound with a plan, and a bound alone.
 #[test]
 fn each_outcome_is_reported(rt: HostRuntime) -> Result<(), Fail> {
     let book = book(rt.alloc())?;
-    let none = Outcome::Infeasible;
-    assert!(rt; is_reported(rt.alloc(), &book, &none, "infeasible\n")?);
     let (low, nodes) = (u64::MAX, 3);
-    let above = Outcome::Above { low, nodes };
-    assert!(rt; is_reported(rt.alloc(), &book, &above, "limit 18446744073709551615 -\n")?);
-    let plan = plan(rt.alloc(), &book, &[], &[F1, F2, F3])?;
-    let (low, high) = (0, 180);
-    let between = Outcome::Between {
-        plan,
-        low,
-        high,
-        nodes,
-    };
+    let (none, above) = (Outcome::Infeasible, Outcome::Above { low, nodes });
     let text = "limit 0 180\nA1:\nA2: F1 F2 F3\n";
-    assert!(rt; is_reported(rt.alloc(), &book, &between, text)?);
+    assert!(rt; is_reported(rt.alloc(), &book, &none, "infeasible\n")?);
+    assert!(rt; is_reported(rt.alloc(), &book, &above, "limit 18446744073709551615 -\n")?);
+    assert!(rt; between_is_reported(rt.alloc(), &book, text)?);
     Ok(())
+}
+
+// Whether what is written of an outcome is read as these names.
+fn is_read_back(alloc: Global, book: &Book, outcome: &Outcome, names: &[u8]) -> Result<bool, Fail>
+    requires { HasPlanFor book.now outcome.now }
+{
+    let seen = reported(alloc, book, outcome, 0)?;
+    Ok(is_answered(alloc, &seen.1, names))
 }
 
 // What was written is read as the plan's names.
@@ -264,152 +302,196 @@ fn each_outcome_is_reported(rt: HostRuntime) -> Result<(), Fail> {
 fn a_report_is_read_back(rt: HostRuntime) -> Result<(), Fail> {
     let book = book(rt.alloc())?;
     let outcome = Outcome::Optimal(plan(rt.alloc(), &book, &[F2, F1], &[])?, u64::MAX);
-    let seen = reported(rt.alloc(), &book, &outcome, 0)?;
-    let names = answered(rt.alloc(), &seen.1)?;
-    assert!(rt; names.as_slice() == b"A1,F2,F1,;A2,;".as_slice());
+    assert!(rt; is_read_back(rt.alloc(), &book, &outcome, b"A1,F2,F1,;A2,;".as_slice())?);
     Ok(())
 }
 
-// Asks that each text is answered with the one beside it.
-fn each_is_answered(rt: &impl Abort, alloc: Global, rows: &[(&[u8], &[u8])]) -> Result<(), Fail> {
-    for &(text, want) in rows {
-        let seen = answered(alloc, text)?;
-        assert!(rt; seen.as_slice() == want, "{text:?}");
-    }
-    Ok(())
-}
+// A text, and what its reading answers.
+type Answered = (&'static [u8], &'static [u8]);
 
 // First lines of each form, and near misses.
-#[test]
-fn first_lines(rt: HostRuntime) -> Result<(), Fail> {
-    let rows: &[(&[u8], &[u8])] = &[
-        (b"optimal 0\n", b""),
-        (b"optimal 18446744073709551615\n", b""),
-        (b"limit 0 18446744073709551615\n", b""),
-        (b"limit 7 7\n", b""),
-        (b"limit 8 7\n", b""),
-        (b"\xEF\xBB\xBFoptimal 1\n", b""),
-        (b"", b"refused 3 plan 1\n"),
-        (b"\n", b"refused 3 plan 1\n"),
-        (b"optimal 1", b"refused 3 plan 1\n"),
-        (b"optimal 1\r\n", b"refused 3 plan 1\n"),
-        (
-            b"\xEF\xBB\xBF\xEF\xBB\xBFoptimal 1\n",
-            b"refused 3 plan 1\n",
-        ),
-        (b"\xEF\xBBoptimal 1\n", b"refused 3 plan 1\n"),
-        (b"optimal 01\n", b"refused 3 plan 1\n"),
-        (b"optimal +1\n", b"refused 3 plan 1\n"),
-        (b"optimal 18446744073709551616\n", b"refused 3 plan 1\n"),
-        (b"optimal\n", b"refused 3 plan 1\n"),
-        (b"optimal \n", b"refused 3 plan 1\n"),
-        (b"optimal  1\n", b"refused 3 plan 1\n"),
-        (b"optimal 1 \n", b"refused 3 plan 1\n"),
-        (b"optimal 1 2\n", b"refused 3 plan 1\n"),
-        (b" optimal 1\n", b"refused 3 plan 1\n"),
-        (b"Optimal 1\n", b"refused 3 plan 1\n"),
-        (b"limit 1\n", b"refused 3 plan 1\n"),
-        (b"limit 1 -\n", b"refused 3 plan 1\n"),
-        (b"limit 1 02\n", b"refused 3 plan 1\n"),
-        (b"limit 01 2\n", b"refused 3 plan 1\n"),
-        (b"limit 1 2 3\n", b"refused 3 plan 1\n"),
-        (b"infeasible\n", b"refused 3 plan 1\n"),
-        (b"legal 1\n", b"refused 3 plan 1\n"),
-        (b"infeasible\nA1\n", b"refused 3 plan 1\n"),
-    ];
-    each_is_answered(&rt, rt.alloc(), rows)
-}
+const FIRST_LINES: &[Answered] = &[
+    (b"optimal 0\n", b""),
+    (b"optimal 18446744073709551615\n", b""),
+    (b"limit 0 18446744073709551615\n", b""),
+    (b"limit 7 7\n", b""),
+    (b"limit 8 7\n", b""),
+    (b"\xEF\xBB\xBFoptimal 1\n", b""),
+    (b"", b"refused 3 plan 1\n"),
+    (b"\n", b"refused 3 plan 1\n"),
+    (b"optimal 1", b"refused 3 plan 1\n"),
+    (b"optimal 1\r\n", b"refused 3 plan 1\n"),
+    (
+        b"\xEF\xBB\xBF\xEF\xBB\xBFoptimal 1\n",
+        b"refused 3 plan 1\n",
+    ),
+    (b"\xEF\xBBoptimal 1\n", b"refused 3 plan 1\n"),
+    (b"optimal 01\n", b"refused 3 plan 1\n"),
+    (b"optimal +1\n", b"refused 3 plan 1\n"),
+    (b"optimal 18446744073709551616\n", b"refused 3 plan 1\n"),
+    (b"optimal\n", b"refused 3 plan 1\n"),
+    (b"optimal \n", b"refused 3 plan 1\n"),
+    (b"optimal  1\n", b"refused 3 plan 1\n"),
+    (b"optimal 1 \n", b"refused 3 plan 1\n"),
+    (b"optimal 1 2\n", b"refused 3 plan 1\n"),
+    (b" optimal 1\n", b"refused 3 plan 1\n"),
+    (b"Optimal 1\n", b"refused 3 plan 1\n"),
+    (b"limit 1\n", b"refused 3 plan 1\n"),
+    (b"limit 1 -\n", b"refused 3 plan 1\n"),
+    (b"limit 1 02\n", b"refused 3 plan 1\n"),
+    (b"limit 01 2\n", b"refused 3 plan 1\n"),
+    (b"limit 1 2 3\n", b"refused 3 plan 1\n"),
+    (b"infeasible\n", b"refused 3 plan 1\n"),
+    (b"legal 1\n", b"refused 3 plan 1\n"),
+    (b"infeasible\nA1\n", b"refused 3 plan 1\n"),
+];
 
 // Later lines: names need not be of any book, and may be repeated. The first bad line decides.
-#[test]
-fn later_lines(rt: HostRuntime) -> Result<(), Fail> {
-    let rows: &[(&[u8], &[u8])] = &[
-        (b"optimal 1\nA1: F1 F2\nA2:\n", b"A1,F1,F2,;A2,;"),
-        (b"limit 2 1\nA1: F1 F1\nA1: F9\n", b"A1,F1,F1,;A1,F9,;"),
-        (b"optimal 1\n7-b_C: 0\n", b"7-b_C,0,;"),
-        (
-            b"optimal 1\nabcdefghij012345: abcdefghij012345\n",
-            b"abcdefghij012345,abcdefghij012345,;",
-        ),
-        (b"optimal 1\nA1:\nA2:", b"refused 4 plan 3\n"),
-        (b"optimal 1\nA1: F1", b"refused 4 plan 2\n"),
-        (b"optimal 1\n\n", b"refused 4 plan 2\n"),
-        (b"optimal 1\nA1:\n\nA2:\n", b"refused 4 plan 3\n"),
-        (b"optimal 1\nA1: F1\r\n", b"refused 4 plan 2\n"),
-        (b"optimal 1\nA1:  F1\n", b"refused 4 plan 2\n"),
-        (b"optimal 1\nA1: F1 \n", b"refused 4 plan 2\n"),
-        (b"optimal 1\nA1: \n", b"refused 4 plan 2\n"),
-        (b"optimal 1\nA1:F1\n", b"refused 4 plan 2\n"),
-        (b"optimal 1\nA1 : F1\n", b"refused 4 plan 2\n"),
-        (b"optimal 1\nA1 F1\n", b"refused 4 plan 2\n"),
-        (b"optimal 1\nA1:: F1\n", b"refused 4 plan 2\n"),
-        (b"optimal 1\n: F1\n", b"refused 4 plan 2\n"),
-        (b"optimal 1\n A1: F1\n", b"refused 4 plan 2\n"),
-        (b"optimal 1\nA1: F1 -F2\n", b"refused 4 plan 2\n"),
-        (b"optimal 1\nA1: F1 F2:\n", b"refused 4 plan 2\n"),
-        (b"optimal 1\nA1:\tF1\n", b"refused 4 plan 2\n"),
-        (b"optimal 1\nA1: abcdefghij0123456\n", b"refused 4 plan 2\n"),
-        (b"optimal 1\nA1: \xC3\x85\n", b"refused 4 plan 2\n"),
-        (b"optimal 1\nA1: F\xFF\n", b"refused 4 plan 2\n"),
-        (
-            b"optimal 1\nA1: F1\n\xEF\xBB\xBFA2:\n",
-            b"refused 4 plan 3\n",
-        ),
-        (b"optimal 1\noptimal 1\n", b"refused 4 plan 2\n"),
-    ];
-    each_is_answered(&rt, rt.alloc(), rows)
+const LATER_LINES: &[Answered] = &[
+    (b"optimal 1\nA1: F1 F2\nA2:\n", b"A1,F1,F2,;A2,;"),
+    (b"limit 2 1\nA1: F1 F1\nA1: F9\n", b"A1,F1,F1,;A1,F9,;"),
+    (b"optimal 1\n7-b_C: 0\n", b"7-b_C,0,;"),
+    (
+        b"optimal 1\nabcdefghij012345: abcdefghij012345\n",
+        b"abcdefghij012345,abcdefghij012345,;",
+    ),
+    (b"optimal 1\nA1:\nA2:", b"refused 4 plan 3\n"),
+    (b"optimal 1\nA1: F1", b"refused 4 plan 2\n"),
+    (b"optimal 1\n\n", b"refused 4 plan 2\n"),
+    (b"optimal 1\nA1:\n\nA2:\n", b"refused 4 plan 3\n"),
+    (b"optimal 1\nA1: F1\r\n", b"refused 4 plan 2\n"),
+    (b"optimal 1\nA1:  F1\n", b"refused 4 plan 2\n"),
+    (b"optimal 1\nA1: F1 \n", b"refused 4 plan 2\n"),
+    (b"optimal 1\nA1: \n", b"refused 4 plan 2\n"),
+    (b"optimal 1\nA1:F1\n", b"refused 4 plan 2\n"),
+    (b"optimal 1\nA1 : F1\n", b"refused 4 plan 2\n"),
+    (b"optimal 1\nA1 F1\n", b"refused 4 plan 2\n"),
+    (b"optimal 1\nA1:: F1\n", b"refused 4 plan 2\n"),
+    (b"optimal 1\n: F1\n", b"refused 4 plan 2\n"),
+    (b"optimal 1\n A1: F1\n", b"refused 4 plan 2\n"),
+    (b"optimal 1\nA1: F1 -F2\n", b"refused 4 plan 2\n"),
+    (b"optimal 1\nA1: F1 F2:\n", b"refused 4 plan 2\n"),
+    (b"optimal 1\nA1:\tF1\n", b"refused 4 plan 2\n"),
+    (b"optimal 1\nA1: abcdefghij0123456\n", b"refused 4 plan 2\n"),
+    (b"optimal 1\nA1: \xC3\x85\n", b"refused 4 plan 2\n"),
+    (b"optimal 1\nA1: F\xFF\n", b"refused 4 plan 2\n"),
+    (
+        b"optimal 1\nA1: F1\n\xEF\xBB\xBFA2:\n",
+        b"refused 4 plan 3\n",
+    ),
+    (b"optimal 1\noptimal 1\n", b"refused 4 plan 2\n"),
+];
+
+fn lines() -> [&'static [Answered]; 2] {
+    [FIRST_LINES, LATER_LINES]
 }
 
-// 200 later lines are taken, and one more is too many before it is looked at, but not before the lines above it.
+// The number of the first text that is answered otherwise.
+fn first_wrong(alloc: Global, rows: &[Answered]) -> Option<usize> {
+    for (number, (text, want)) in rows.iter().enumerate() {
+        if !is_answered(alloc, text, want) {
+            return Some(number);
+        }
+    }
+    None
+}
+
 #[test]
-fn lines_too_many(rt: HostRuntime) -> Result<(), Fail> {
-    let front = b"optimal 1\n".as_slice();
-    let most = answer_to(rt.alloc(), front, b"A:\n", 199, b"B: F\n")?;
-    let names = repeated(rt.alloc(), b"", b"A,;", 199, b"B,F,;")?;
-    assert!(rt; most.as_slice() == names.as_slice());
-    for &(times, end, want) in &[
-        (200, b"A:\n".as_slice(), b"refused 10 plan 202\n".as_slice()),
-        (200, b"not a line", b"refused 10 plan 202\n"),
-        (201, b"A:\n", b"refused 10 plan 202\n"),
-        (199, b"A\nA:\n", b"refused 4 plan 201\n"),
-    ] {
-        let seen = answer_to(rt.alloc(), front, b"A:\n", times, end)?;
-        assert!(rt; seen.as_slice() == want, "{times} lines");
+fn plan_files_are_read(rt: HostRuntime) {
+    let [first, later] = lines();
+    let wrong = first_wrong(rt.alloc(), first);
+    assert!(rt; wrong.is_none(), "first lines, row {wrong:?}");
+    let wrong = first_wrong(rt.alloc(), later);
+    assert!(rt; wrong.is_none(), "later lines, row {wrong:?}");
+}
+
+// Texts with many lines or ids, and what their reading answers.
+type Many = (Pieces, Pieces);
+
+const MANY: &[Many] = &[
+    // 200 later lines are taken, and one more is too many before it is looked at, but not before the lines above it.
+    (
+        (b"optimal 1\n", b"A:\n", 199, b"B: F\n"),
+        (b"", b"A,;", 199, b"B,F,;"),
+    ),
+    (
+        (b"optimal 1\n", b"A:\n", 200, b"A:\n"),
+        (b"refused 10 plan 202\n", b"", 0, b""),
+    ),
+    (
+        (b"optimal 1\n", b"A:\n", 200, b"not a line"),
+        (b"refused 10 plan 202\n", b"", 0, b""),
+    ),
+    (
+        (b"optimal 1\n", b"A:\n", 201, b"A:\n"),
+        (b"refused 10 plan 202\n", b"", 0, b""),
+    ),
+    (
+        (b"optimal 1\n", b"A:\n", 199, b"A\nA:\n"),
+        (b"refused 4 plan 201\n", b"", 0, b""),
+    ),
+    // 4,000 ids are taken, and one more is too many, but not before a bad one behind it.
+    (
+        (b"optimal 1\nA1:", b" F", 4000, b"\n"),
+        (b"A1,", b"F,", 4000, b";"),
+    ),
+    (
+        (b"optimal 1\nA1:", b" F", 4001, b"\n"),
+        (b"refused 10 plan 2\n", b"", 0, b""),
+    ),
+    (
+        (b"optimal 1\nA1:", b" F", 4001, b"\nA2\n"),
+        (b"refused 10 plan 2\n", b"", 0, b""),
+    ),
+    (
+        (b"optimal 1\nA1:", b" F", 4001, b" -\n"),
+        (b"refused 4 plan 2\n", b"", 0, b""),
+    ),
+    (
+        (b"optimal 1\nA1:", b" F", 4001, b""),
+        (b"refused 4 plan 2\n", b"", 0, b""),
+    ),
+];
+
+fn many() -> &'static [Many] {
+    MANY
+}
+
+#[test]
+fn lines_and_ids_too_many(rt: HostRuntime) -> Result<(), Fail> {
+    for (number, (text, want)) in many().iter().enumerate() {
+        assert!(rt; are_answered(rt.alloc(), text, want)?, "row {number}");
     }
     Ok(())
 }
 
-// 4,000 ids are taken, and one more is too many, but not before a bad one behind it.
-#[test]
-fn ids_too_many(rt: HostRuntime) -> Result<(), Fail> {
-    let front = b"optimal 1\nA1:".as_slice();
-    let most = answer_to(rt.alloc(), front, b" F", 4000, b"\n")?;
-    let names = repeated(rt.alloc(), b"A1,", b"F,", 4000, b";")?;
-    assert!(rt; most.as_slice() == names.as_slice());
-    for &(times, end, want) in &[
-        (4001, b"\n".as_slice(), b"refused 10 plan 2\n".as_slice()),
-        (4001, b"\nA2\n", b"refused 10 plan 2\n"),
-        (4001, b" -\n", b"refused 4 plan 2\n"),
-        (4001, b"", b"refused 4 plan 2\n"),
-    ] {
-        let seen = answer_to(rt.alloc(), front, b" F", times, end)?;
-        assert!(rt; seen.as_slice() == want, "{times} ids");
-    }
-    Ok(())
+// Whether so many newlines are answered so.
+fn are_newlines_answered(alloc: Global, size: usize, want: &[u8]) -> Result<bool, Memory> {
+    let text = vec![in alloc; b'\n'; size]?;
+    Ok(is_answered(alloc, &text, want))
 }
 
 // A file of the greatest size is looked at, and one of a byte more is not.
 #[test]
 fn files_too_big(rt: HostRuntime) -> Result<(), Fail> {
-    for &(size, want) in &[
-        (16_777_216, b"refused 3 plan 1\n".as_slice()),
-        (16_777_217, b"refused 1 plan 0\n".as_slice()),
-    ] {
-        let text = vec![in rt.alloc(); b'\n'; size]?;
-        let seen = answered(rt.alloc(), &text)?;
-        assert!(rt; seen.as_slice() == want, "{size} bytes");
-    }
+    let (looked_at, too_big) = (b"refused 3 plan 1\n", b"refused 1 plan 0\n");
+    assert!(rt; are_newlines_answered(rt.alloc(), 16_777_216, looked_at)?);
+    assert!(rt; are_newlines_answered(rt.alloc(), 16_777_217, too_big)?);
     Ok(())
+}
+
+// Whether the audit ends so where a put fails.
+fn audit_ends_so(
+    alloc: Global,
+    book: &Book,
+    audit: &Audit,
+    whole: &str,
+    row: &Failing,
+) -> Result<bool, Fail>
+    requires { AreOfBook book.now audit.now }
+{
+    let seen = audited(alloc, book, audit, row.0)?;
+    Ok(ends_so(&seen, whole, row))
 }
 
 // Writes the audit whole, and where one put or another fails.
@@ -422,16 +504,18 @@ fn audit_fails(
 ) -> Result<(), Fail>
     requires { AreOfBook book.now audit.now }
 {
-    for &(failing, ended, length) in &[
+    for row in &[
         (0, Ok(()), 102),
         (1, Err(ReportFail::Write), 0),
         (2, Err(ReportFail::Write), 9),
         (8, Err(ReportFail::Write), 85),
         (9, Ok(()), 102),
     ] {
-        let seen = audited(alloc, book, audit, failing)?;
-        assert!(rt; seen.0 == ended, "at {failing}");
-        assert!(rt; is_front(&seen.1, whole, length), "at {failing}");
+        assert!(rt;
+            audit_ends_so(alloc, book, audit, whole, row)?,
+            "at {}",
+            row.0
+        );
     }
     Ok(())
 }

@@ -128,7 +128,7 @@ const STUCK: &[Case<DiveEnds>] = &[(
 
 #[test]
 fn dives_by_hand(rt: HostRuntime) -> Result<(), Fail> {
-    for (name, cases) in [
+    for &(name, cases) in &[
         ("forced steps alone", FORCED_ALONE),
         ("plans after choices", AFTER_CHOICES),
         ("nothing to fly", NOTHING),

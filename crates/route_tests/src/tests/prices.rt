@@ -315,7 +315,7 @@ const ONE_AIRPORT_OF_TWO: &[Case<Weighs>] = &[
 
 #[test]
 fn weights_by_hand(rt: HostRuntime) -> Result<(), Fail> {
-    for (name, cases) in [
+    for &(name, cases) in &[
         ("one fact", ONE_FACT),
         ("two facts", TWO_FACTS),
         ("two types", TWO_TYPES),

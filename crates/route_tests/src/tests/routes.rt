@@ -240,7 +240,7 @@ const COUNTERS: &[Case<Least>] = &[
 
 #[test]
 fn least_routes_by_hand(rt: HostRuntime) -> Result<(), Fail> {
-    for (name, cases) in [
+    for &(name, cases) in &[
         ("one fact", ONE_FACT),
         ("stuck within any cut", STUCK),
         ("counters", COUNTERS),

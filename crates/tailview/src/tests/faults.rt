@@ -16,7 +16,7 @@ fn a_failed_write_ends_a_run(rt: HostRuntime) -> Result<(), Fail> {
         let seen = run_failing(rt.alloc(), &WORDS, files, &[], &[put])?;
         assert!(rt; seen.is(status, printed), "{put} {printed}");
     }
-    for (put, status) in [(2, 6), (10, 6), (1000, 1)] {
+    for &(put, status) in &[(2, 6), (10, 6), (1000, 1)] {
         let files = files_of(rt.alloc(), BROKEN)?;
         let seen = run_failing(rt.alloc(), &WORDS, files, &[], &[put])?;
         assert!(rt; seen.has(status, "<svg xmlns"), "{put}");
@@ -29,7 +29,7 @@ fn a_failed_write_ends_a_run(rt: HostRuntime) -> Result<(), Fail> {
 #[test]
 fn a_failed_read_ends_a_run(rt: HostRuntime) -> Result<(), Fail> {
     for call in 1..9 {
-        for typed in [LEGAL, NO_PLAN] {
+        for &typed in &[LEGAL, NO_PLAN] {
             let files = files_of(rt.alloc(), typed)?;
             let seen = run_failing(rt.alloc(), &WORDS, files, &[call], &[])?;
             assert!(rt; seen.is(5, ""), "{call}");
@@ -44,7 +44,7 @@ fn a_failed_read_ends_a_run(rt: HostRuntime) -> Result<(), Fail> {
 // A file that isn't there can't be read, even where a table is bad: the plan's file is no timetable.
 #[test]
 fn a_missing_file_ends_a_run(rt: HostRuntime) -> Result<(), Fail> {
-    for (timetable, fleet, rules, plan) in MISSING {
+    for &(timetable, fleet, rules, plan) in &MISSING {
         let words = ["tailview", timetable, fleet, rules, "--plan", plan];
         let files = files_of(rt.alloc(), LEGAL)?;
         let seen = run_failing(rt.alloc(), &words, files, &[], &[])?;

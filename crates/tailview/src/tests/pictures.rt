@@ -25,7 +25,7 @@ fn a_legal_plan_is_drawn(rt: HostRuntime) -> Result<(), Fail> {
     ] {
         assert!(rt; seen.has(0, piece), "{piece}");
     }
-    for piece in [
+    for &piece in &[
         " red'",
         "class='rule'",
         "class='stop'",
@@ -49,7 +49,7 @@ const FLIGHT_HOURS: &str =
 fn ground_time_and_stops_are_drawn(rt: HostRuntime) -> Result<(), Fail> {
     let plan = "optimal 120\nA1: F1 G1 F2\n";
     let seen = run_with(rt.alloc(), GROUND, ONE_AT_ARLANDA, FLIGHT_HOURS, plan)?;
-    for piece in [
+    for &piece in &[
         "<svg class='stop' x='760' y='160' width='120' height='20'><title>clears fh</title>",
         "<svg class='ground' x='880' y='154' width='90' height='60'><title>G1, OSL 2025-03-03 09:00, OSL 2025-03-03 10:30</title>",
         "<svg class='stop' x='970' y='160' width='1440' height='20'><title>clears fh</title>",
@@ -110,7 +110,7 @@ fn broken_rules_are_named_in_red(rt: HostRuntime) -> Result<(), Fail> {
 fn names_and_uncovered_activities_are_told(rt: HostRuntime) -> Result<(), Fail> {
     let plan = "optimal 120\nA1: F1 F9 F1\nA8:\n";
     let seen = run_with(rt.alloc(), THERE_AND_BACK, TWO_AT_ARLANDA, "", plan)?;
-    for piece in [
+    for &piece in &[
         "<text class='title broken' x='10' y='40'>broken rules 4, unknown F9, unknown A8, twice F1</text>\n",
         "<text class='name' x='10' y='34'>uncovered ",
         "<svg class='flight red' x='790' y='354' width='60' height='60'><title>F2, ",

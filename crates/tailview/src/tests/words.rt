@@ -50,7 +50,7 @@ fn names_are_taken_in_their_places(rt: HostRuntime) -> Result<(), Fail> {
         let seen = run_as(rt.alloc(), &words)?;
         assert!(rt; seen.has(0, ">cost 120<"), "{words:?}");
     }
-    for (timetable, fleet, rules, plan, printed) in MISPLACED {
+    for &(timetable, fleet, rules, plan, printed) in &MISPLACED {
         let words = ["tailview", timetable, fleet, rules, "--plan", plan];
         let seen = run_as(rt.alloc(), &words)?;
         assert!(rt; seen.is(3, printed), "{words:?}");

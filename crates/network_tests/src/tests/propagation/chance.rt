@@ -1,23 +1,19 @@
 //! Books and marks by chance, beside a plain and slow program: each fact that is added follows in its turn, those about all
 //! aircraft wait for the floors, nothing is left, and no legal plan that keeps the marks is lost.
 
-ghost use Rattle.std.specs.Prelude.{◌≡◌, ◌<◌, List};
-ghost use Rattle.connection_net.specs.Net.{net_of};
-ghost use Rattle.branch_marks.specs.inside.MarkTables.{AreMarksOf};
-ghost use Rattle.branch_marks.specs.declared.fact.Fact.{Fact as MarkFact};
-ghost use Rattle.propagator.specs.Keeping.{IsKeptFor, IsMadeFor};
+ghost use Rattle.std.specs.Prelude.{◌<◌};
 
 use super::{closed, made};
-use branch_marks::{Fact, Marks};
-use connection_net::Net;
+use branch_marks::Fact;
 use dice::Dice;
-use propagator::laws::kept_for_more;
-use propagator::{Closed, Propagator, close};
+use propagator::Closed;
 use small_books::{Row, activities, flight, rules, tails};
 use std::alloc::Global;
 use std::test::Fail;
 use tail_book::*;
 use turn_rules::{allowed, link};
+
+mod kept;
 
 // A fact, of which some are not of the book.
 fn fact_by(dice: &mut Dice) -> Fact {
@@ -562,11 +558,31 @@ fn judge(
     })
 }
 
+// The same of what follows from the facts.
+fn judge_closed(
+    alloc: Global,
+    book: &Book,
+    facts: &[Fact],
+    seen: &mut Seen,
+) -> Result<Judged, Fail> {
+    let (added, answer) = closed(alloc, book, facts)?;
+    Ok(judge(alloc, book, facts, &added, answer, seen)?)
+}
+
+fn judge_next(
+    alloc: Global,
+    book: &Book,
+    dice: &mut Dice,
+    seen: &mut Seen,
+) -> Result<Judged, Fail> {
+    let facts = facts_by(alloc, dice)?;
+    let facts = of_book(alloc, book, &facts)?;
+    judge_closed(alloc, book, &facts, seen)
+}
+
 fn judge_by_chance(alloc: Global, dice: &mut Dice, seen: &mut Seen) -> Result<Judged, Fail> {
     let book = book_by_chance(alloc, dice)?;
-    let facts = of_book(alloc, &book, &facts_by(alloc, dice)?)?;
-    let (added, answer) = closed(alloc, &book, &facts)?;
-    Ok(judge(alloc, &book, &facts, &added, answer, seen)?)
+    judge_next(alloc, &book, dice, seen)
 }
 
 // 300 books with up to three facts. Each kind of fact is added often, there are plans to be lost, and both answers come.
@@ -578,181 +594,5 @@ fn closed_as_the_rules_say(rt: HostRuntime) -> Result<(), Fail> {
         assert!(rt; judged == RIGHT, "{round}");
     }
     assert!(rt; seen.is_varied(), "{seen:?}");
-    Ok(())
-}
-
-// Adds a fact to marks, if it is of the book.
-fn add(book: &Book, marks: &mut Marks, kept: &Propagator, fact: Fact) -> Result<(), Memory>
-    requires marks { AreMarksOf book.now marks.old }
-    requires kept { IsKeptFor book.now marks.old.facts kept.now }
-    ensures marks { AreMarksOf book.now marks.new }
-    ensures kept { IsKeptFor book.now marks.new.facts kept.now }
-{
-    kept_for_more();
-    if fact.is_of(book) {
-        marks.add(book, fact)?;
-    }
-    Ok(())
-}
-
-// Whether just these facts follow from marks anew, with this answer, and as the rules say.
-fn follow_anew(
-    alloc: Global,
-    book: &Book,
-    net: &Net,
-    mut marks: Marks,
-    list: &[Fact],
-    answer: Closed,
-) -> Result<bool, Memory>
-    requires net { net.now ≡ net_of book.now }
-    requires marks { AreMarksOf book.now marks }
-{
-    let before = Vec::from_slice(alloc, marks.facts())?;
-    let mut anew = Vec::new(alloc);
-    let told = close(alloc, book, net, &mut marks, &mut anew)?;
-    Ok(answer == told && are_same(list, &anew) && is_closed(alloc, book, &before, list)?)
-}
-
-fn are_same(facts: &[Fact], others: &[Fact]) -> bool {
-    facts.len() == others.len() && facts.iter().all(|fact| others.contains(fact))
-}
-
-// How many facts follow by a propagator that is kept, and whether the same follow anew, and as the rules say.
-fn follow(
-    alloc: Global,
-    book: &Book,
-    net: &Net,
-    marks: &mut Marks,
-    kept: &mut Propagator,
-) -> Result<(usize, bool), Memory>
-    requires net { net.now ≡ net_of book.now }
-    requires marks { AreMarksOf book.now marks.old }
-    requires kept { IsKeptFor book.now marks.old.facts kept.old }
-    ensures marks { AreMarksOf book.now marks.new }
-    ensures kept { IsKeptFor book.now marks.new.facts kept.new }
-{
-    let (before, mut list) = (marks.copy()?, Vec::new(alloc));
-    let answer = kept.close(book, net, marks, &mut list)?;
-    let same = follow_anew(alloc, book, net, before, &list, answer)?;
-    Ok((list.len(), same))
-}
-
-// The same for one fact more.
-fn follow_next(
-    alloc: Global,
-    book: &Book,
-    net: &Net,
-    marks: &mut Marks,
-    kept: &mut Propagator,
-    fact: Fact,
-) -> Result<(usize, bool), Memory>
-    requires net { net.now ≡ net_of book.now }
-    requires marks { AreMarksOf book.now marks.old }
-    requires kept { IsKeptFor book.now marks.old.facts kept.old }
-    ensures marks { AreMarksOf book.now marks.new }
-    ensures kept { IsKeptFor book.now marks.new.facts kept.new }
-{
-    add(book, marks, kept, fact)?;
-    follow(alloc, book, net, marks, kept)
-}
-
-// Facts that come one at a time: how many follow by a propagator that is kept, and whether always the same follow anew,
-// and as the rules say.
-fn follow_all(
-    alloc: Global,
-    book: &Book,
-    net: &Net,
-    marks: &mut Marks,
-    kept: &mut Propagator,
-    dice: &mut Dice,
-) -> Result<(usize, bool), Memory>
-    requires net { net.now ≡ net_of book.now }
-    requires marks { AreMarksOf book.now marks.old }
-    requires kept { IsKeptFor book.now marks.old.facts kept.old }
-{
-    let (mut many, mut same) = (0usize, true);
-    for _turn in 0..6 {
-        let (more, right) = follow_next(alloc, book, net, marks, kept, fact_by(dice))?;
-        many = many.saturating_add(more);
-        same &= right;
-    }
-    Ok((many, same))
-}
-
-fn follow_each(alloc: Global, book: &Book, dice: &mut Dice) -> Result<(usize, bool), Memory> {
-    let net = Net::new(alloc, book)?;
-    let mut marks = Marks::new(alloc, book)?;
-    let mut kept = Propagator::new(alloc, book)?;
-    follow_all(alloc, book, &net, &mut marks, &mut kept, dice)
-}
-
-// 200 books, with up to six facts that come one at a time: what follows is what follows anew, and what the rules say.
-#[test]
-fn kept_is_as_made_anew(rt: HostRuntime) -> Result<(), Fail> {
-    let (mut dice, mut many) = (Dice::new(11), 0usize);
-    for round in 0..200 {
-        let book = book_by_chance(rt.alloc(), &mut dice)?;
-        let (more, same) = follow_each(rt.alloc(), &book, &mut dice)?;
-        assert!(rt; same, "{round}");
-        many = many.saturating_add(more);
-    }
-    assert!(rt; many > 1000, "{many}");
-    Ok(())
-}
-
-// What follows from marks with one fact, by a propagator that forgets those before.
-fn follow_one(
-    alloc: Global,
-    book: &Book,
-    net: &Net,
-    kept: &mut Propagator,
-    fact: Fact,
-) -> Result<(usize, bool), Memory>
-    requires net { net.now ≡ net_of book.now }
-    requires made { IsMadeFor book.now kept.old }
-    ensures made { IsMadeFor book.now kept.new }
-{
-    let mut marks = Marks::new(alloc, book)?;
-    kept.forget();
-    follow_next(alloc, book, net, &mut marks, kept, fact)
-}
-
-// How many facts follow from marks with one fact each, and whether always the same follow anew, and as the rules say.
-fn follow_three(
-    alloc: Global,
-    book: &Book,
-    net: &Net,
-    kept: &mut Propagator,
-    dice: &mut Dice,
-) -> Result<(usize, bool), Memory>
-    requires net { net.now ≡ net_of book.now }
-    requires kept { (facts : List MarkFact) → IsKeptFor book.now facts kept.old }
-{
-    let (mut many, mut same) = (0usize, true);
-    for _turn in 0..3 {
-        let (more, right) = follow_one(alloc, book, net, kept, fact_by(dice))?;
-        many = many.saturating_add(more);
-        same &= right;
-    }
-    Ok((many, same))
-}
-
-fn follow_apart(alloc: Global, book: &Book, dice: &mut Dice) -> Result<(usize, bool), Memory> {
-    let net = Net::new(alloc, book)?;
-    let mut kept = Propagator::new(alloc, book)?;
-    follow_three(alloc, book, &net, &mut kept, dice)
-}
-
-// 100 books, three times marks of their own for each, by a propagator that forgets those before.
-#[test]
-fn forgotten_is_as_made_anew(rt: HostRuntime) -> Result<(), Fail> {
-    let (mut dice, mut many) = (Dice::new(17), 0usize);
-    for round in 0..100 {
-        let book = book_by_chance(rt.alloc(), &mut dice)?;
-        let (more, same) = follow_apart(rt.alloc(), &book, &mut dice)?;
-        assert!(rt; same, "{round}");
-        many = many.saturating_add(more);
-    }
-    assert!(rt; many > 300, "{many}");
     Ok(())
 }

@@ -1,4 +1,5 @@
-//! Each caller once, where memory is ample: on two flights of which one aircraft may fly both, and another one alone.
+//! Each caller of `sample_calls` once, where memory is ample: on two flights of which one aircraft may fly both, and
+//! another one alone.
 
 ghost use Rattle.std.specs.Prelude.{◌<◌, IsTrue};
 ghost use Rattle.tail_book.specs.Lookup.{activities, aircraft};
@@ -7,12 +8,12 @@ ghost use Rattle.turn_rules.specs.inside.PermissionTable.{ArePermissionsOf};
 ghost use Rattle.maint_counters.specs.inside.StepTable.{IsStepTableOf};
 ghost use Rattle.plan_report.specs.inside.Report.{HasPlanFor};
 
-use crate::*;
 use branch_tree::least_plan;
 use maint_counters::StepTable;
 use plan_audit::Broken;
 use plan_report::laws::true_outcomes_can_be_written;
 use plan_report::read_plan;
+use sample_calls::*;
 use std::alloc::Global;
 use std::test::Fail;
 use tail_book::{

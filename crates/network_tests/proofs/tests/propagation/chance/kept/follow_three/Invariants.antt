@@ -1,5 +1,5 @@
 use Rattle.propagator.specs.Keeping.{IsMadeFor}
-use Rattle.network_tests.proofs.tests.propagation.chance.follow_three.Given as goal
+use Rattle.network_tests.proofs.tests.propagation.chance.kept.follow_three.Given as goal
 
 -- the propagator is of the book
 abbrev pub invariant-loop-turn : goal.invariant-loop-turn
