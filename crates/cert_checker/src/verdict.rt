@@ -1,7 +1,7 @@
 //! What the checker says of a certificate: its claim, or the line that failed first and why. A no is of the text: what
 //! the claim says may be true all the same.
 
-ghost use Rattle.std.specs.Prelude.{◌≡◌};
+ghost use Rattle.std.specs.Prelude.{◌≡◌, ◌==◌, find, option_map};
 ghost use Rattle.cert_checker.specs.Reasons.{name_of_reason, number_of_reason, reason_name};
 
 use tail_book::Claim;
@@ -92,11 +92,18 @@ impl Reason {
     }
 }
 
+// The reason among some that has this number.
+fn reason_among(reasons: &[Reason], number: u8) -> Option<&Reason>
+    ensures { option_map (λ reason. reason.now) result ≡ find (λ reason. number_of_reason reason == number) reasons.now }
+{
+    reasons.iter().find(|reason| reason.number() == number)
+}
+
 /// The name of the reason that has this number, or nothing where none has.
 pub fn reason_name(number: u8) -> &'static [u8]
     ensures { result.now ≡ reason_name number }
 {
-    match REASONS.iter().find(|reason| reason.number() == number) {
+    match reason_among(&REASONS, number) {
         Some(reason) => reason.name(),
         None => b"",
     }
