@@ -56,7 +56,8 @@ IsTooLong bytes = CERTIFICATE_LIMIT < length bytes
 abbrev pub AreJudged : TextsSeen → Found → Type 0
 AreJudged texts (Plan judged) = (plan : RawPlanSeen) × (case_of texts ≡ Ok (PlanCase judged.book plan)) × IsAuditOf judged.book plan judged.found
 AreJudged texts (Certificate found) =
-    (book : BookSeen) × (text : Option (List ℕ)) × (case_of texts ≡ Ok (CertificateCase book text)) × IsTrueVerdict book found × IfSome text (IsJudgedSo book found)
+    (book : BookSeen) × (text : Option (List ℕ)) × (case_of texts ≡ Ok (CertificateCase book text))
+    × IsTrueVerdict book found × IfSome text (IsJudgedSo book found)
 AreJudged texts TooLong =
     (book : BookSeen) × (text : Option (List ℕ)) × (case_of texts ≡ Ok (CertificateCase book text)) × IfSome text IsTooLong
 
