@@ -76,18 +76,6 @@ pub fn aircraft(kind: u32) -> TailRow {
     }
 }
 
-// The same of each type.
-pub const CHEAP: TailRow = TailRow {
-    kind: P,
-    at: ARN,
-    fixed: 0,
-    tag: None,
-    avoid: None,
-    carry: 0,
-};
-
-pub const DEAR: TailRow = TailRow { kind: Q, ..CHEAP };
-
 // What the activities are called that have no id: F0 to F9 in their order.
 fn id_of(a: usize) -> Name {
     match a {

@@ -1,8 +1,8 @@
 //! Books with names of their own, a counter and a curfew, and plans as texts.
 
 use crate::tests::books;
-use crate::tests::books::{Leg, counted, night};
-pub use crate::tests::books::{ARN, CHEAP, DEAR, OSL, Q, TailRow};
+use crate::tests::books::{counted, night};
+pub use crate::tests::books::{ARN, Leg, OSL, P, Q, TailRow};
 use std::alloc::Global;
 use std::test::Fail;
 use tail_book::*;
@@ -15,78 +15,49 @@ pub fn name(id: &[u8; 2]) -> Name {
     Name::new(b"X9".as_slice())
 }
 
-// Who alone may fly a flight: anyone, a type, those with a tag, or one aircraft; or a check, which is ground time that sets
-// the counter to 0 at its end.
-#[derive(Clone, Copy)]
-pub enum Only {
-    Anyone,
-    Type(u32),
-    Tagged(u32),
-    Tail(u32),
-    Check,
-}
-
-// What an activity is called, its airports, its start and its end, and who may fly it.
-pub type Called = (&'static [u8; 2], u32, u32, (i64, i64), Only);
-
-// What the one counter counts, two aircraft, and activities.
-pub type Made = (CounterKind, &'static [TailRow], &'static [Called]);
-
-// An aircraft of each type at ARN.
-pub const BOTH: &[TailRow] = &[CHEAP, DEAR];
-
-pub const THERE: Called = (b"F1", ARN, OSL, (360, 420), Only::Anyone);
-
-pub const BACK: Called = (b"F2", OSL, ARN, (450, 510), Only::Anyone);
-
-pub const CHECK: Called = (b"C1", ARN, ARN, (4940, 5000), Only::Check);
-
-fn leg_of(called: &Called) -> Leg {
-    let &(id, from, to, (start, end), only) = called;
-    let mut leg = books::flight(from, to, start, end);
-    leg.id = Some(name(id));
-    match only {
-        Only::Anyone => {}
-        Only::Type(kind) => leg.kind = Some(kind),
-        Only::Tagged(tag) => leg.tag = Some(tag),
-        Only::Tail(k) => leg.tail = Some(k),
-        Only::Check => {
-            leg.flight = false;
-            leg.resets = true;
-        }
+// A flight that every aircraft may fly.
+pub fn flight(id: &[u8; 2], from: u32, to: u32, start: i64, end: i64) -> Leg {
+    Leg {
+        id: Some(name(id)),
+        ..books::flight(from, to, start, end)
     }
-    leg
 }
 
-fn legs_of(alloc: Global, called: &[Called]) -> Result<Vec<Leg>, Memory> {
-    let mut legs = Vec::new(alloc);
-    for one in called {
-        legs.push(leg_of(one))?;
+// Ground time at ARN that sets the counter to 0 at its end.
+pub fn check(id: &[u8; 2], start: i64, end: i64) -> Leg {
+    Leg {
+        flight: false,
+        resets: true,
+        ..flight(id, ARN, ARN, start, end)
     }
-    Ok(legs)
 }
 
-// Two hours of flying between stops, or a day.
-fn limit(kind: CounterKind) -> i64 {
-    match kind {
-        CounterKind::Days => 1440,
-        _ => 120,
+// An aircraft of a type that comes in there, ready at midnight.
+pub fn aircraft(kind: u32, at: u32) -> TailRow {
+    TailRow {
+        at,
+        ..books::aircraft(kind)
     }
 }
 
 // One counter, which an hour at ARN clears; ARN is closed for landings at night.
-fn rules(alloc: Global, kind: CounterKind) -> Result<Rules, Memory> {
+pub fn rules(alloc: Global, kind: CounterKind, limit: i64) -> Result<Rules, Memory> {
     let curfews = night(alloc, false, Vec::new(alloc))?;
-    let mut rules = counted(alloc, kind, limit(kind), Vec::new(alloc))?;
-    rules.curfews = curfews;
-    Ok(rules)
+    Ok(Rules {
+        curfews,
+        ..counted(alloc, kind, limit, Vec::new(alloc))?
+    })
 }
 
-// A book with the aircraft A1 and A2.
-pub fn book_of(alloc: Global, made: Made) -> Result<Book, Fail> {
-    let (kind, rows, called) = made;
-    let legs = legs_of(alloc, called)?;
-    books::book(alloc, rules(alloc, kind)?, rows, &legs)
+// A book of these rules with the aircraft A1 and A2.
+pub fn book(alloc: Global, rules: Rules, rows: [TailRow; 2], legs: &[Leg]) -> Result<Book, Fail> {
+    books::book(alloc, rules, &rows, legs)
+}
+
+// A book with two hours of flying between stops, and an aircraft of each type at ARN.
+pub fn flights(alloc: Global, legs: &[Leg]) -> Result<Book, Fail> {
+    let rules = rules(alloc, CounterKind::Minutes, 120)?;
+    book(alloc, rules, [aircraft(P, ARN), aircraft(Q, ARN)], legs)
 }
 
 // Adds a name to a plan: an aircraft begins a line, and an id goes to the last one.
