@@ -70,7 +70,7 @@ fn before(route: &Route, a: u32) -> Option<u32> {
 // The pair at an activity that an aircraft flies on its route: the connection to it, unless that is tied.
 fn pair_on(marks: &Marks, route: &Route, k: u32, a: u32) -> Pair {
     match before(route, a) {
-        Some(x) if !marks.has(Fact::Tie(x, a)) => Pair::Link(x, a),
+        Some(x) if !marks.facts().contains(&Fact::Tie(x, a)) => Pair::Link(x, a),
         _ => Pair::Fly(k, a),
     }
 }
