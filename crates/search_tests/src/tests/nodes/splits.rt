@@ -16,7 +16,7 @@ use branch_tree::{Best, NodePricer, PricedLeaf, Step, bound_below, node_step, pr
 use connection_net::Net;
 use dive_heuristic::{DeadEnd, Dive, DiveStep};
 use plan_audit::audit_plan;
-use restricted_master::Pool;
+use restricted_master::{Pool, number_of};
 use small_books::{are_duals, costs, marks};
 use std::alloc::Global;
 use tail_book::*;
@@ -81,7 +81,7 @@ fn is_at(book: &Book, marks: &Marks, routes: &[Route], pair: Pair, a: u32) -> bo
     requires activity { a < activities book.now }
 {
     match holders(routes, a).1 {
-        Some(k) if k < routes.len() => pair == pair_on(marks, &routes[k], k as u32, a),
+        Some(k) if k < routes.len() => pair == pair_on(marks, &routes[k], number_of(k), a),
         _ => pair == Pair::Fly(marks.next_alive(book, a, 0), a),
     }
 }
