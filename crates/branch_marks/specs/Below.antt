@@ -1,4 +1,4 @@
--- Tests and counts over the numbers below a number.
+-- Tests and counts over the numbers below a number. For cert_checker/src/node_tests.rt.
 use Rattle.std.specs.Prelude.{ℕ, zero, suc, ◌+◌, Bool, true, false, ◌&&◌, ◌||◌}
 
 -- each number below n passes the test

@@ -1,4 +1,4 @@
--- The Lagrangian bound: what duals and weights say of the cost of every plan.
+-- The Lagrangian bound: what duals and weights say of the cost of every plan. For src/laws/route_weights.rt.
 use Rattle.std.specs.Prelude.{◌≡◌, ℕ, ℤ, pos, negsuc, ◌+◌, ◌*◌, ◌/◌, ◌<◌, ◌≤◌, ◌+ℤ◌, ◌≤ℤ◌, ◌↔◌, List, length, slice_index_or}
 use Rattle.tail_book.specs.Seen.{BookSeen}
 use Rattle.tail_book.specs.TableSeen.{CostTableSeen}

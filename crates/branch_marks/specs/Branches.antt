@@ -1,4 +1,4 @@
--- What a split decides, its two branches, and what is still undecided.
+-- What a split decides, its two branches, and what is still undecided. For src/laws/branching.rt.
 use Rattle.std.specs.Prelude.{ℕ, ◌<◌, ◌⊎◌, List, [], ◌∷◌, ◌++◌, Contains}
 use Rattle.tail_book.specs.Seen.{BookSeen}
 use Rattle.tail_book.specs.declared.place.Place.TheVariants.{After}

@@ -1,4 +1,4 @@
--- When marks leave no plan: nobody may fly some activity, or some aircraft has no route.
+-- When marks leave no plan: nobody may fly some activity, or some aircraft has no route. For src/laws/branching.rt.
 use Rattle.std.specs.Prelude.{ℕ, ◌<◌, List}
 use Rattle.tail_book.specs.Seen.{BookSeen}
 use Rattle.tail_book.specs.Lookup.{activities, aircraft}

@@ -1,4 +1,4 @@
--- Events of a tree: which of them a line of a certificate spells.
+-- Events of a tree: which of them a line of a certificate spells. For src/tree_log.rt.
 use Rattle.std.specs.Prelude.{ℕ, ℤ, pos, ◌≡◌, ◌^◌, ◌-ℤ◌, ◌<◌, ◌≤◌, ⊤, List, All, length}
 use Rattle.tail_book.specs.Ranges.{IsWithin}
 use Rattle.tail_book.specs.declared.limits.TheConstants.{COUNTER_LIMIT}

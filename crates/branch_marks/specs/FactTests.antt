@@ -1,4 +1,5 @@
 -- Whether marks have a fact, as a test: one of the same kind with the same numbers.
+-- For src/marks.rt and src/marks/walks.rt.
 use Rattle.std.specs.Prelude.{List, Bool, false, ◌&&◌, nat_eq}
 use Rattle.std.specs.List.{list_any}
 use Rattle.branch_marks.specs.declared.fact.Fact.{Fact}

@@ -1,4 +1,5 @@
 -- Branching facts: what each says of a plan. Marks are a list of these, and hold of a plan where each of them does.
+-- For src/alive_rows.rt, src/carriers.rt and others.
 use Rattle.std.specs.Prelude.{◌≡◌, ◌<◌, ℕ, List, [], ◌∷◌, All, Bool, true, false, ◌&&◌, ◌||◌, nat_eq}
 use Rattle.std.specs.List.{list_any}
 use Rattle.tail_book.specs.Seen.{BookSeen}

@@ -1,4 +1,4 @@
--- Closed families of labels: what pricing leaves, and what shows that no route weighs less.
+-- Closed families of labels: what pricing leaves, and what shows that no route weighs less. For src/laws/covering.rt.
 use Rattle.std.specs.Prelude.{ℕ, ℤ, pos, ◌<◌, ◌≤ℤ◌, List, All}
 use Rattle.tail_book.specs.Seen.{BookSeen}
 use Rattle.tail_book.specs.TableSeen.{CostTableSeen}

@@ -1,4 +1,5 @@
 -- Dominance and closed families as tests that compute, and that each decides its definition.
+-- For cert_checker/src/cover.rt and cert_checker/src/buckets.rt.
 use Rattle.std.specs.Prelude.{ℕ, ℤ, pos, List, Bool, ◌&&◌, ◌||◌, not, nat_eq}
 use Rattle.std.specs.List.{list_all, list_any}
 use Rattle.tail_book.specs.Seen.{BookSeen}

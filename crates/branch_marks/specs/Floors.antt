@@ -1,5 +1,5 @@
 -- Floors: the least counter values with which an aircraft can come to an activity. A floor is taken counter by counter, so
--- no single route need have all its values: it may be too low, and never too high.
+-- no single route need have all its values: it may be too low, and never too high. For src/laws/consequences.rt.
 use Rattle.std.specs.Prelude.{ℕ, ℤ, zero, suc, ◌+◌, List, [], ◌∷◌, ◌++◌, ◌&&◌, if◌then◌else◌, Option, Some, None, ◌≡◌, ◌<◌, length, slice_index_or}
 use Rattle.std.specs.Int.{int_min}
 use Rattle.tail_book.specs.Seen.{BookSeen}

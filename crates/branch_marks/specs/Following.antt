@@ -1,5 +1,6 @@
 -- Which facts follow from marks: the rules of propagation. They read floors, which may be too low and never too high:
 -- so what follows is true of every legal plan of which the marks hold, and not all that is true follows.
+-- For src/marks/walks.rt and src/laws/consequences.rt.
 use Rattle.std.specs.Prelude.{◌≡◌, ◌↔◌, ℕ, ℤ, ◌<◌, ⊤, List, [], ◌∷◌, ◌++◌, Option, Some, None, Contains}
 use Rattle.tail_book.specs.Seen.{BookSeen}
 use Rattle.tail_book.specs.declared.place.Place.TheVariants.{After}

@@ -1,4 +1,4 @@
--- The rules of propagation as tests that compute, and that each decides its definition.
+-- The rules of propagation as tests that compute, and that each decides its definition. For cert_checker/src/node_tests.rt.
 use Rattle.std.specs.Prelude.{ℕ, ℤ, List, Bool, true, false, ◌&&◌, ◌||◌, not, nat_eq, Option, Some, None}
 use Rattle.tail_book.specs.Seen.{BookSeen}
 use Rattle.tail_book.specs.declared.place.Place.TheVariants.{After}

@@ -1,4 +1,5 @@
 -- Labels and dominance: what is kept of the beginning of a route, and when one beginning is at least as good as another.
+-- For src/laws/covering.rt.
 use Rattle.std.specs.Prelude.{◌≡◌, ℕ, ℤ, ◌+ℤ◌, ◌≤ℤ◌, List, Any}
 use Rattle.tail_book.specs.Seen.{BookSeen}
 use Rattle.tail_book.specs.TableSeen.{CostTableSeen}

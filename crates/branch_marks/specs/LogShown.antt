@@ -1,4 +1,5 @@
 -- What contracts see of a log: nothing of how it keeps events, but which lists of them it tells, and how it has failed.
+-- For src/tree_log.rt.
 use Rattle.std.specs.Prelude.{ℕ, Bool, List}
 use Rattle.branch_marks.specs.declared.event.Event.{Event}
 

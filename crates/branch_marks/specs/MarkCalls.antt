@@ -1,4 +1,4 @@
--- What adding a fact to marks answers, and what it leaves of them.
+-- What adding a fact to marks answers, and what it leaves of them. For src/marks.rt.
 use Rattle.std.specs.Prelude.{◌≡◌, [], ◌∷◌, ◌++◌, Contains}
 use Rattle.branch_marks.specs.declared.fact.Fact.{Fact}
 use Rattle.branch_marks.specs.declared.marks.Added.{Added}

@@ -1,4 +1,5 @@
 -- What marks leave open, as tests that compute, and that each decides its definition.
+-- For src/marks/questions.rt, src/marks/route_fit.rt and others.
 use Rattle.std.specs.Prelude.{ℕ, List, [], ◌∷◌, Bool, true, false, ◌&&◌, ◌||◌, nat_eq, nat_lt, nat_le, not}
 use Rattle.std.specs.List.{list_all}
 use Rattle.tail_book.specs.Seen.{BookSeen}

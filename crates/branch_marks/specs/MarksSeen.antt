@@ -1,4 +1,5 @@
 -- What contracts see of marks: the facts in their order, and the tables beside them from which questions are answered.
+-- For src/marks.rt.
 use Rattle.std.specs.Prelude.{ℕ, List}
 use Rattle.branch_marks.specs.declared.fact.Fact.{Fact}
 use Rattle.branch_marks.specs.declared.named.Named.{Named}

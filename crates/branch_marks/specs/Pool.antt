@@ -1,4 +1,4 @@
--- A pool of routes: the least weight in it, and the Lagrangian sum over it.
+-- A pool of routes: the least weight in it, and the Lagrangian sum over it. For src/laws/settled_duals.rt.
 use Rattle.std.specs.Prelude.{◌≡◌, ◌≢◌, ℕ, ℤ, pos, ◌≤ℤ◌, if◌then◌else◌, nat_eq, List, [], ◌∷◌, All, Any, map, Option, Some, None}
 use Rattle.std.specs.Int.{int_min}
 use Rattle.std.specs.List.{range_with_len}

@@ -1,4 +1,4 @@
--- The proof tree of a certificate: when it is shown, and what its leaves bound.
+-- The proof tree of a certificate: when it is shown, and what its leaves bound. For src/laws/showing.rt.
 use Rattle.std.specs.Prelude.{◌≡◌, ℕ, ℤ, pos, ◌+◌, ◌<◌, ◌≤◌, ⊤, List, [], ◌∷◌, ◌++◌, length, map, All, AllPairs, Contains, slice_index_or, replicate}
 use Rattle.tail_book.specs.Seen.{BookSeen}
 use Rattle.tail_book.specs.TableSeen.{CostTableSeen}

@@ -1,4 +1,5 @@
 -- Settled duals: whichever of them is moved within the box, the Lagrangian sum gains less than a cost unit.
+-- For src/laws/settled_duals.rt.
 use Rattle.std.specs.Prelude.{◌≡◌, ℕ, ℤ, pos, ◌*◌, ◌<◌, ◌+ℤ◌, ◌<ℤ◌, List, All, length, Some, IsSome, slice_set}
 use Rattle.tail_book.specs.Seen.{BookSeen}
 use Rattle.tail_book.specs.TableSeen.{CostTableSeen}

@@ -1,4 +1,5 @@
 -- The events of a proof tree, in the order of their lines: a tree's steps, its split with the first branch before the second, or its leaf.
+-- For node_leaves/src/covers.rt and node_leaves/src/node_events.rt.
 use Rattle.std.specs.Prelude.{ℕ, ℤ, zero, pos, ◌+◌, List, [], ◌∷◌, ◌++◌, map}
 use Rattle.branch_marks.specs.declared.event.Event.{Event}
 use Rattle.branch_marks.specs.declared.event.Event.TheVariants as event

@@ -1,4 +1,5 @@
 -- Proof trees as tests that compute, and that each decides its definition.
+-- For cert_checker/src/leaves.rt and cert_checker/src/node_tests.rt.
 use Rattle.std.specs.Prelude.{ℕ, ℤ, pos, ◌+ℤ◌, ◌==◌, List, [], ◌∷◌, ◌++◌, Bool, true, ◌&&◌, not, nat_lt, nat_le, length}
 use Rattle.std.specs.List.{list_all}
 use Rattle.tail_book.specs.Seen.{BookSeen}

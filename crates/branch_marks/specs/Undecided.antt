@@ -1,4 +1,4 @@
--- Which pairs of activities are not decided yet.
+-- Which pairs of activities are not decided yet. For cert_checker/src/branches.rt and cert_checker/src/node_tests.rt.
 use Rattle.std.specs.Prelude.{List, Bool, ◌&&◌, not}
 use Rattle.tail_book.specs.Seen.{BookSeen}
 use Rattle.tail_book.specs.declared.place.Place.TheVariants.{After}

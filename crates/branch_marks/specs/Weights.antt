@@ -1,4 +1,5 @@
 -- The weight of a route: its reduced cost under duals, one for each activity. Duals and weights are in thousandths of a cost unit.
+-- For src/laws/route_weights.rt.
 use Rattle.std.specs.Prelude.{◌≡◌, ℕ, ℤ, pos, ◌+◌, ◌*◌, ◌+ℤ◌, ◌-ℤ◌, ◌≤ℤ◌, ◌⊎◌, List, [], ◌∷◌, ◌++◌, map, slice_index_or}
 use Rattle.tail_book.specs.Seen.{BookSeen}
 use Rattle.tail_book.specs.TableSeen.{CostTableSeen}

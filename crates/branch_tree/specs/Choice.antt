@@ -1,5 +1,5 @@
 -- The pair on which a node is split, which one least route for each aircraft decides: it is about the activity and the
--- aircraft that a dive would choose.
+-- aircraft that a dive would choose. For src/split_pair.rt.
 use Rattle.std.specs.Prelude.{◌≡◌, ℕ, true, List, Contains}
 use Rattle.tail_book.specs.Seen.{BookSeen}
 use Rattle.tail_book.specs.Plan.{route_of}

@@ -1,4 +1,4 @@
--- The closing pass: the nodes of the places that are open when the counter has reached its limit.
+-- The closing pass: the nodes of the places that are open when the counter has reached its limit. For src/second_pass.rt.
 use Rattle.std.specs.Prelude.{◌≡◌, ℕ, ◌≤◌, List, [], All, Any, Option, Some, None}
 use Rattle.tail_book.specs.Seen.{BookSeen}
 use Rattle.tail_book.specs.TableSeen.{CostTableSeen}

@@ -1,5 +1,5 @@
 -- What a search asks of the nodes that it counts, beyond that they are shown: what a bound reaches, and when a split is
--- due.
+-- due. For GrownTree.antt, SearchTree.antt and others.
 use Rattle.std.specs.Prelude.{ℕ, ℤ, ⊤, List}
 use Rattle.tail_book.specs.Seen.{BookSeen}
 use Rattle.tail_book.specs.TableSeen.{CostTableSeen}

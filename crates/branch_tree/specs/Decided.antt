@@ -1,4 +1,4 @@
--- Outcomes that are no bounds: a search without a limit has no others.
+-- Outcomes that are no bounds: a search without a limit has no others. For src/optimum.rt.
 use Rattle.std.specs.Prelude.{⊤}
 use Rattle.tail_book.specs.declared.outcome.Outcome.{Outcome}
 use Rattle.tail_book.specs.declared.outcome.Outcome.TheVariants.{Optimal, Infeasible, Between, Above}

@@ -1,4 +1,5 @@
 -- A tree whose places were taken in any order: which nodes stand in it, and what its outcome has to do with them.
+-- For Laws.antt.
 use Rattle.std.specs.Prelude.{◌⊎◌, ℕ, ◌≤◌, List, [], ◌∷◌, Contains}
 use Rattle.tail_book.specs.Seen.{BookSeen}
 use Rattle.tail_book.specs.TableSeen.{CostTableSeen}

@@ -1,4 +1,5 @@
 -- What a search answers: the tree of the run, which was told, what comes only at a limit, and what it owes to its start.
+-- For src/tree_search.rt.
 use Rattle.std.specs.Prelude.{ℕ, ◌≤◌, ⊤}
 use Rattle.tail_book.specs.Seen.{BookSeen}
 use Rattle.tail_book.specs.TableSeen.{CostTableSeen}

@@ -1,4 +1,4 @@
--- Which texts are accepted as certificates of a book, and for which claim.
+-- Which texts are accepted as certificates of a book, and for which claim. For src/claim.rt and src/laws.rt.
 use Rattle.std.specs.Prelude.{◌≡◌, ℕ, ◌+◌, ◌<◌, ⊤, List, [], ◌∷◌, ◌++◌, map, length, All, Option, Some, None}
 use Rattle.tail_book.specs.Seen.{BookSeen}
 use Rattle.tail_book.specs.Lookup.{activities, aircraft}

@@ -1,5 +1,5 @@
 -- The reasons for which a certificate fails: the number and the name of each, and a test for each that looks at the book. The
--- others follow from what stands before a line alone.
+-- others follow from what stands before a line alone. For src/claim.rt, src/verdict.rt and others.
 use Rattle.std.specs.Prelude.{ℕ, ℤ, List, [], codes, find, Bool, true, false, ◌&&◌, nat_le, ◌==◌, Option, Some, None}
 use Rattle.std.specs.Option.{option_map_or}
 use Rattle.tail_book.specs.Cost.{plan_cost}

@@ -1,5 +1,5 @@
 -- How a certificate is judged, line by line: what a line fails for, or what is kept after it. The order of the reasons is that
--- of the tests below.
+-- of the tests below. For src/nodes.rt, src/ends.rt and others.
 use Rattle.std.specs.Prelude.{ℕ, ℤ, pos, ◌+◌, ◌+ℤ◌, List, [], ◌∷◌, ◌++◌, Bool, true, false, ◌&&◌, not, nat_lt, nat_le, ◌==◌, length, Option, Some, None, Result, Ok, Err, if◌then◌else◌, slice_set}
 use Rattle.tail_book.specs.Lookup.{activities, aircraft}
 use Rattle.tail_book.specs.Seen.{BookSeen}

@@ -1,4 +1,4 @@
--- Which lines a certificate of version 1 may have.
+-- Which lines a certificate of version 1 may have. For src/spelling.rt.
 use Rattle.std.specs.Prelude.{ℕ, ◌≡◌, ◌<◌, ◌^◌, ⊤, Option, Some, None}
 use Rattle.tail_book.specs.declared.claim.Claim.{Claim}
 use Rattle.tail_book.specs.declared.claim.Claim.TheVariants.{Optimal, Infeasible, Limit}

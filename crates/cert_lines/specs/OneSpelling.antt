@@ -1,4 +1,4 @@
--- Each line has one spelling, and each text is one line at most.
+-- Each line has one spelling, and each text is one line at most. For src/line_reader.rt and src/laws.rt.
 use Rattle.std.specs.Prelude.{◌≡◌, ℕ, ◌≤◌, List, Some, All, length}
 use Rattle.cert_lines.specs.declared.cert_line.CertLine.{CertLine}
 use Rattle.cert_lines.specs.declared.cert_line.TheConstants.{LENGTH_LIMIT}

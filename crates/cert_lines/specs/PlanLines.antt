@@ -1,4 +1,4 @@
--- The lines of a plan: who flies each activity.
+-- The lines of a plan: who flies each activity. For cert_writer/src/trailer.rt.
 use Rattle.std.specs.Prelude.{ℕ, ◌+◌, List, [], ◌∷◌, Option, Some, None}
 use Rattle.cert_lines.specs.declared.cert_line.CertLine.{CertLine}
 use Rattle.cert_lines.specs.declared.cert_line.CertLine.TheVariants as line

@@ -1,4 +1,4 @@
--- The line that a text is: its words, which stand between single spaces, are read from the left.
+-- The line that a text is: its words, which stand between single spaces, are read from the left. For src/line_reader.rt.
 use Rattle.std.specs.Prelude.{ℕ, pos, List, [], ◌∷◌, length, Option, Some, None, option_map, option_and_then, if◌then◌else◌, ◌==◌, nat_lt, codes}
 use Rattle.std.specs.Bool.{then_some}
 use Rattle.std.specs.Ordering.{int_eq}

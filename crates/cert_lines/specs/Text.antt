@@ -1,4 +1,4 @@
--- What lines are as a text.
+-- What lines are as a text. For cert_writer/src/trailer.rt.
 use Rattle.std.specs.Prelude.{ℕ, List, [], ◌∷◌, ◌++◌}
 use Rattle.std.specs.List.{flat_map}
 use Rattle.cert_lines.specs.declared.cert_line.CertLine.{CertLine}

@@ -1,4 +1,5 @@
 -- What a sink tells of a certificate that is being written: which list of events it holds, behind the header.
+-- For src/cert_log.rt and src/trailer.rt.
 use Rattle.std.specs.Prelude.{ℕ, ◌≡◌, List, [], ◌∷◌, ◌++◌, map, All, Some}
 use Rattle.tail_outside.specs.Shown.{SinkShown}
 use Rattle.branch_marks.specs.declared.event.Event.{Event}

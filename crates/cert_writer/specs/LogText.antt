@@ -1,4 +1,4 @@
--- What a log writes at its beginning and at its end.
+-- What a log writes at its beginning and at its end. For src/cert_log.rt.
 use Rattle.std.specs.Prelude.{ℕ, List, [], ◌∷◌, ◌++◌}
 use Rattle.tail_book.specs.declared.outcome.Outcome.{Outcome}
 use Rattle.cert_lines.specs.Text.{text_of}

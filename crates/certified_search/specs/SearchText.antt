@@ -1,4 +1,5 @@
 -- The certificate of a search: the events of its tree as lines, behind the header, and then the plan and the claim of its outcome.
+-- For src/laws.rt.
 use Rattle.std.specs.Prelude.{ℕ, List, ◌∷◌, ◌++◌, map, All}
 use Rattle.tail_book.specs.Lookup.{activities}
 use Rattle.tail_book.specs.Seen.{BookSeen}

@@ -1,4 +1,4 @@
--- What a search leaves of its certificate: all of it, or a front of what was due.
+-- What a search leaves of its certificate: all of it, or a front of what was due. For src/certified.rt.
 use Rattle.std.specs.Prelude.{◌≡◌, ◌⊎◌, ℕ, false, List, [], ◌∷◌, ◌++◌, map, Some}
 use Rattle.tail_book.specs.Seen.{BookSeen}
 use Rattle.tail_book.specs.Truth.{claim_of}

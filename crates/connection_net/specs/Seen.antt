@@ -1,4 +1,4 @@
--- What contracts see of a network: its rows, each as a list.
+-- What contracts see of a network: its rows, each as a list. For src/net.rt.
 use Rattle.std.specs.Prelude.{ℕ, List}
 
 -- the network: for each activity those that may come directly after it and those that it may come directly after, and

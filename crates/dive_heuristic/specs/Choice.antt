@@ -1,4 +1,5 @@
 -- What a dive chooses where the least routes are no plan: an activity that is not in exactly one, and who is to fly it.
+-- For src/carrier.rt, src/descent.rt and others.
 use Rattle.std.specs.Prelude.{◌≡◌, ℕ, ◌<◌, ◌⊎◌, List, true, false}
 use Rattle.tail_book.specs.Seen.{BookSeen}
 use Rattle.tail_book.specs.Lookup.{activities, aircraft}

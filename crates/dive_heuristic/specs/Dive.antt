@@ -1,4 +1,5 @@
 -- A dive: from marks down to a plan or to a dead end, one fact after the other, and never back. Its duals stay as they are.
+-- For src/descent.rt, src/dive_steps.rt and others.
 use Rattle.std.specs.Prelude.{◌≡◌, ℕ, ℤ, ◌<◌, ⊤, List, [], ◌∷◌, ◌++◌, map, Contains}
 use Rattle.tail_book.specs.Seen.{BookSeen}
 use Rattle.tail_book.specs.TableSeen.{CostTableSeen}

@@ -1,4 +1,5 @@
 -- What a diver has made ready of a book: a propagator, a pricer, room for labels, and a tally.
+-- For src/diver.rt, src/descent.rt and others.
 use Rattle.std.specs.Prelude.{◌≡◌, ◌+◌, List, length}
 use Rattle.tail_book.specs.Seen.{BookSeen}
 use Rattle.tail_book.specs.TableSeen.{CostTableSeen}

@@ -1,4 +1,4 @@
--- What contracts see of an ascent: the best duals so far, and their sum where one is known.
+-- What contracts see of an ascent: the best duals so far, and their sum where one is known. For src/ascent.rt.
 use Rattle.std.specs.Prelude.{ℤ, List, Option}
 
 -- the best duals so far, and their Lagrangian sum in thousandths of a cost unit, where it is known

@@ -1,4 +1,5 @@
 -- Buckets: the numbers of the rows at one node. A row covers another one where none of its values is larger.
+-- For src/bucket.rt, src/rows.rt and others.
 use Rattle.std.specs.Prelude.{ℕ, ℤ, List, [], ◌∷◌, ◌++◌, ⊤, All, Bool, not, slice_index_or}
 use Rattle.std.specs.List.{Contains, filter}
 use Rattle.tail_book.specs.CounterOrder.{EachAtMost, each_at_most}

@@ -1,4 +1,5 @@
 -- What an offer of a row to a node does: nothing where a row of the bucket covers it, and otherwise it enters.
+-- For src/store.rt.
 use Rattle.std.specs.Prelude.{ℕ, ℤ, ◌≡◌, ◌<◌, ◌^◌, List, Option, length}
 use Rattle.label_store.specs.declared.offered.Offered.{Offered}
 use Rattle.label_store.specs.declared.offered.Offered.TheVariants.{Kept, Covered}

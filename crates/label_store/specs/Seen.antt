@@ -1,4 +1,4 @@
--- What contracts see of a store of labels, and of its rows: the records of their lists.
+-- What contracts see of a store of labels, and of its rows: the records of their lists. For src/rows.rt and src/store.rt.
 use Rattle.std.specs.Prelude.{ℕ, ℤ, List, Option}
 
 -- a store: the values of each kept row, the number of the row that it came from, its node, and for each node the

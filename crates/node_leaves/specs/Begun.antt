@@ -1,4 +1,5 @@
 -- Begun trees: what a search leaves that stopped early. In depth-first order its leaves are done up to one, and open behind it.
+-- For NodeEvents.antt and Stops.antt.
 use Rattle.std.specs.Prelude.{ℤ, ⊤, List, [], ◌∷◌, ◌++◌, Option, Some, None}
 use Rattle.tail_book.specs.Seen.{BookSeen}
 use Rattle.tail_book.specs.TableSeen.{CostTableSeen}

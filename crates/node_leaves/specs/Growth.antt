@@ -1,4 +1,5 @@
 -- Trees as lists of their nodes in depth-first order: a tree is what leads from the root to no place that is owed.
+-- For Begun.antt.
 use Rattle.std.specs.Prelude.{◌≡◌, List, [], ◌∷◌, ◌++◌}
 use Rattle.node_leaves.specs.Place.{Open}
 use Rattle.node_leaves.specs.Node.{Node, closed_marks, branches}

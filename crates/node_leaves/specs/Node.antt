@@ -1,4 +1,5 @@
 -- A node of a search tree: the facts that followed there, and how it ended.
+-- For branch_tree/src/visit.rt and branch_tree/src/second_pass.rt.
 use Rattle.std.specs.Prelude.{ℕ, ℤ, ◌≤◌, ◌<◌, ⊤, List, [], ◌∷◌, ◌++◌, length}
 use Rattle.tail_book.specs.Seen.{BookSeen}
 use Rattle.tail_book.specs.TableSeen.{CostTableSeen}

@@ -1,4 +1,4 @@
--- A place of the search tree at which a node is owed.
+-- A place of the search tree at which a node is owed. For src/leaf.rt.
 use Rattle.std.specs.Prelude.{ℤ, List, []}
 use Rattle.tail_book.specs.Seen.{BookSeen}
 use Rattle.branch_marks.specs.declared.fact.Fact.{Fact}

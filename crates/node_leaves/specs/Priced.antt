@@ -1,4 +1,4 @@
--- The end of a place whose node is only priced: an aircraft that is stuck, or a bound of least weights.
+-- The end of a place whose node is only priced: an aircraft that is stuck, or a bound of least weights. For Leaf.antt.
 use Rattle.std.specs.Prelude.{◌≡◌, ⊤, ℤ, List, map}
 use Rattle.tail_book.specs.Seen.{BookSeen}
 use Rattle.tail_book.specs.TableSeen.{CostTableSeen}

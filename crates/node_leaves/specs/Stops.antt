@@ -1,4 +1,4 @@
--- What a log tells after a search that stopped early: a front of the events of a begun tree.
+-- What a log tells after a search that stopped early: a front of the events of a begun tree. For src/leaf.rt.
 use Rattle.std.specs.Prelude.{◌≡◌, false, List}
 use Rattle.tail_book.specs.Seen.{BookSeen}
 use Rattle.tail_book.specs.TableSeen.{CostTableSeen}

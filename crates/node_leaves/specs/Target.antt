@@ -1,4 +1,4 @@
--- The cost to undercut, and when a bound reaches it.
+-- The cost to undercut, and when a bound reaches it. For src/best.rt and src/bounds.rt.
 use Rattle.std.specs.Prelude.{◌≡◌, ◌⊎◌, ℕ, ℤ, ◌+◌, ◌*◌, ◌<◌, ◌≤◌, ⊤, List, [], ◌∷◌, map, Option, Some, None}
 use Rattle.tail_book.specs.Seen.{BookSeen}
 use Rattle.tail_book.specs.TableSeen.{CostTableSeen}

@@ -1,5 +1,5 @@
 -- The kept plan, and its legs: the same activities as a route for each aircraft, and in reading order, each with the
--- place before it.
+-- place before it. For src/auditing.rt, src/kept_plan.rt and others.
 use Rattle.std.specs.Prelude.{ℕ, List, [], ◌∷◌, map, if◌then◌else◌, nat_eq}
 use Rattle.std.specs.List.{range_with_len}
 use Rattle.tail_book.specs.Seen.{BookSeen, RawPlanSeen}

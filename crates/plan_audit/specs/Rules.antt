@@ -1,4 +1,5 @@
 -- The rules that a plan breaks, rule by rule: each gives the list of what breaks it, in reading order or by number.
+-- For src/past_limits.rt, src/dropped_names.rt and others.
 use Rattle.std.specs.Prelude.{ℕ, ℤ, List, [], ◌∷◌, ◌++◌, ◌+◌, map, filter, not, if◌then◌else◌}
 use Rattle.std.specs.List.{range_with_len}
 use Rattle.tail_book.specs.Seen.{BookSeen, CounterSeen}

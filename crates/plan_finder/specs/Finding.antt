@@ -1,4 +1,5 @@
 -- What a plan that was looked for under marks keeps: the rules and the marks, at the cost that is told.
+-- For src/finder.rt, src/judging.rt and others.
 use Rattle.std.specs.Prelude.{ℕ, ◌<◌, List}
 use Rattle.tail_book.specs.Seen.{BookSeen}
 use Rattle.tail_book.specs.Lookup.{aircraft}

@@ -1,4 +1,4 @@
--- The airport of a name: the first of the book that has it, by number.
+-- The airport of a name: the first of the book that has it, by number. For src/view.rt.
 use Rattle.std.specs.Prelude.{ℕ, ◌+◌, List, [], ◌∷◌, Option, None, Some, if◌then◌else◌}
 use Rattle.std.specs.Str.{bytes_eq}
 use Rattle.tail_book.specs.Seen.{AirportSeen, BookSeen}

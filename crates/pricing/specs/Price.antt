@@ -1,4 +1,5 @@
 -- What pricing an aircraft answers: the least weight and a route that has it, or that the aircraft is stuck.
+-- For src/exact_price.rt and src/pricer.rt.
 use Rattle.std.specs.Prelude.{ℕ, ℤ, List}
 use Rattle.tail_book.specs.Seen.{BookSeen}
 use Rattle.tail_book.specs.TableSeen.{CostTableSeen}

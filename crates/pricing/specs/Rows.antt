@@ -1,4 +1,5 @@
 -- Rows of a store as labels, and the routes that their parents spell. A row is the weight, and then a value for each counter.
+-- For src/end.rt, src/exact_price.rt and others.
 use Rattle.std.specs.Prelude.{◌≡◌, ℕ, zero, suc, ℤ, pos, ◌<◌, List, [], ◌∷◌, ◌++◌, map, length, Option, None, Some}
 use Rattle.std.specs.List.{concat}
 use Rattle.tail_book.specs.Seen.{BookSeen}

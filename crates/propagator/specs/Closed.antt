@@ -1,4 +1,4 @@
--- What is told of shut marks: whether each activity has somebody who may fly it.
+-- What is told of shut marks: whether each activity has somebody who may fly it. For src/hole.rt and src/kept_rows.rt.
 use Rattle.std.specs.Prelude.{ℕ, ◌<◌, List}
 use Rattle.tail_book.specs.Seen.{BookSeen}
 use Rattle.tail_book.specs.Lookup.{activities, aircraft}

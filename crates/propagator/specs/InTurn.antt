@@ -1,4 +1,5 @@
 -- Facts that are added to marks one after the other, each because it follows.
+-- For src/added_facts.rt, src/carriers.rt and others.
 use Rattle.std.specs.Prelude.{◌≡◌, ⊤, List, [], ◌∷◌, ◌++◌}
 use Rattle.tail_book.specs.Seen.{BookSeen}
 use Rattle.branch_marks.specs.declared.fact.Fact.{Fact}

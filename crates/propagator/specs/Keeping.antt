@@ -1,4 +1,5 @@
 -- What a propagator keeps between two calls, and for which marks that is right.
+-- For src/kept_rows.rt, src/fixpoint.rt and others.
 use Rattle.std.specs.Prelude.{ℕ, ◌≤◌, ⊤, List, ◌++◌, Option, None, Some, length, take}
 use Rattle.tail_book.specs.Seen.{BookSeen}
 use Rattle.maint_counters.specs.inside.StepTable.{IsStepTableOf}

@@ -1,5 +1,5 @@
 -- What contracts see of a propagator: the floors that it keeps and of how many facts they are, with its tables and
--- room.
+-- room. For src/kept_rows.rt.
 use Rattle.std.specs.Prelude.{ℕ, List, Option}
 use Rattle.maint_counters.specs.declared.step_table.StepTable.{StepTable}
 use Rattle.propagator.specs.declared.work.Work.{Work}

@@ -1,4 +1,4 @@
--- What adding a route to a pool does: it comes last, unless it is there.
+-- What adding a route to a pool does: it comes last, unless it is there. For src/new_routes.rt.
 use Rattle.std.specs.Prelude.{ℕ, ◌≡◌, ◌<◌, Contains, length}
 use Rattle.branch_marks.specs.Pool.{Pooled}
 use Rattle.restricted_master.specs.declared.pool_add.PoolAdd.{PoolAdd}

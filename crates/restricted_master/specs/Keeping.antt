@@ -1,4 +1,5 @@
 -- What dropping the routes that do not fit leaves: the others, in their order, each with its cost.
+-- For src/dropped_routes.rt.
 use Rattle.std.specs.Prelude.{◌≡◌, Bool, List, filter}
 use Rattle.tail_book.specs.Seen.{BookSeen}
 use Rattle.tail_book.specs.TableSeen.{CostTableSeen}

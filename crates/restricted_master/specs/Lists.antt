@@ -1,4 +1,5 @@
 -- The routes of a pool by activity, in order of aircraft, and by aircraft, as lists of their numbers.
+-- For src/route_lists.rt, src/aircraft_choices.rt and others.
 use Rattle.std.specs.Prelude.{ℕ, ◌≡◌, ◌<◌, List, [], Bool, nat_eq, filter, length, slice_index_or}
 use Rattle.std.specs.List.{flat_map, range_with_len}
 use Rattle.tail_book.specs.Numbers.{contains}

@@ -1,4 +1,4 @@
--- What contracts see of a pool, and of its lists by activity and by aircraft.
+-- What contracts see of a pool, and of its lists by activity and by aircraft. For src/pool.rt and src/route_lists.rt.
 use Rattle.std.specs.Prelude.{ℕ, List}
 use Rattle.branch_marks.specs.Pool.{Pooled}
 

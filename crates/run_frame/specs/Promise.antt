@@ -1,4 +1,5 @@
 -- What the status of every run promises, and when it comes.
+-- For tailcheck/specs/Promises.antt, tailplan/specs/Promises.antt and others.
 use Rattle.std.specs.Prelude.{ℕ, ◌≡◌, ◌==◌, ◌⊎◌, List, [], Option, None, cond}
 use Rattle.tail_outside.specs.Outside.{PieceHasFailed, Takes, TakesFront}
 use Rattle.tail_outside.specs.Shown.{SinkShown}

@@ -1,4 +1,4 @@
--- Words as contracts see them: the bytes of each, in order.
+-- Words as contracts see them: the bytes of each, in order. For src/words.rt.
 use Rattle.std.specs.Prelude.{ℕ, List, String, map, string_bytes}
 
 -- the bytes of each word

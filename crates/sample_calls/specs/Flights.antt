@@ -1,4 +1,4 @@
--- A timetable of flights alone: its layout, and what a record of it says or why it is refused.
+-- A timetable of flights alone: its layout, and what a record of it says or why it is refused. For src/flights_table.rt.
 use Rattle.std.specs.Prelude.{ℕ, List, [], ◌∷◌, codes, Result, Ok, int_lt}
 use Rattle.tail_text.specs.declared.refusal.Table.TheVariants.{Timetable}
 use Rattle.tail_text.specs.Checks.{look, must}

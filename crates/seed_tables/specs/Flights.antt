@@ -1,5 +1,5 @@
 -- The flights of a trial as they are made, each aircraft's one after the other. Moments are minutes since the start of
--- the first day, and airports are numbers from 0 to 4.
+-- the first day, and airports are numbers from 0 to 4. For src/trial.rt and src/flight.rt.
 use Rattle.std.specs.Prelude.{ℕ, zero, suc, ◌+◌, ◌%◌, ◌==◌, ◌||◌, if◌then◌else◌, List, [], ◌∷◌, ◌++◌}
 use Rattle.seed_tables.specs.Draws.{after, drawn, next}
 use Rattle.seed_tables.specs.declared.flight.Flight.{Flight}

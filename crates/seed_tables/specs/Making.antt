@@ -1,4 +1,4 @@
--- The routes of the making, and what they cost.
+-- The routes of the making, and what they cost. For src/trial.rt and src/laws.rt.
 use Rattle.std.specs.Prelude.{ℕ, zero, suc, ◌≡◌, ◌+◌, ◌*◌, ◌-◌, ◌%◌, ◌==◌, if◌then◌else◌, List, [], ◌∷◌, map, sum_by, Ok}
 use Rattle.tail_book.specs.Seen.{BookSeen}
 use Rattle.tail_book.specs.Cost.{plan_cost}

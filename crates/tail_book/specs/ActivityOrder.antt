@@ -1,5 +1,5 @@
 -- The order of a book's activities: by start, and by id where the starts are equal. A number of an activity is its
--- place.
+-- place. For src/sound.rt.
 use Rattle.std.specs.Prelude.{Bool, ◌&&◌, ◌||◌, int_lt}
 use Rattle.std.specs.Ordering.{nat_cmp, int_eq, is_lt}
 use Rattle.std.specs.Cmp.Lexicographic.{slice_cmp}

@@ -1,4 +1,4 @@
--- The order of counter values.
+-- The order of counter values. For cert_checker/src/buckets.rt, label_store/src/bucket.rt and others.
 use Rattle.std.specs.Prelude.{ℤ, ◌≤ℤ◌, ⊤, Bool, true, false, ◌&&◌, List, [], ◌∷◌}
 use Rattle.tail_book.specs.Numbers.{int_le}
 

@@ -1,4 +1,4 @@
--- When a count of faults has risen.
+-- When a count of faults has risen. For tail_outside/src/mem_files.rt, tail_outside/src/mem_sink.rt and others.
 use Rattle.std.specs.Prelude.{ℕ, ◌≡◌, ◌⊎◌, ◌^◌, ◌-◌, ◌<◌}
 
 -- a count rose; one that stands at the greatest number of its type counts as risen

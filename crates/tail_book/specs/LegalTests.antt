@@ -1,4 +1,5 @@
 -- The facts of legality as tests that compute.
+-- For plan_audit/src/legal_plan.rt, turn_rules/src/permission_table.rt and others.
 use Rattle.std.specs.Prelude.{ℕ, zero, suc, ℤ, ◌==◌, List, [], ◌∷◌, Bool, true, false, ◌&&◌, nat_lt, not, length}
 use Rattle.tail_book.specs.Seen.{CounterSeen, BookSeen}
 use Rattle.tail_book.specs.declared.place.Place.{Place}

@@ -1,4 +1,4 @@
--- Tests of the pairs of a list.
+-- Tests of the pairs of a list. For src/sound.rt.
 use Rattle.std.specs.Prelude.{Bool, true, ◌&&◌, List, [], ◌∷◌}
 use Rattle.std.specs.List.{list_all}
 

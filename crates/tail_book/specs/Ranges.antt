@@ -1,4 +1,4 @@
--- Ranges of whole numbers.
+-- Ranges of whole numbers. For src/lookup.rt.
 use Rattle.std.specs.Prelude.{ℤ, ◌≤ℤ◌}
 
 -- the number lies in the range, both ends included

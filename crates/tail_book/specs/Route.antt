@@ -1,4 +1,5 @@
 -- A legal route: linked from the carry-in on, with every counter within its limit after every activity.
+-- For maint_counters/src/legal_route.rt and sample_calls/src/routes.rt.
 use Rattle.std.specs.Prelude.{ℕ, ℤ, ⊤, List, [], ◌∷◌, ◌<◌}
 use Rattle.tail_book.specs.Seen.{BookSeen}
 use Rattle.tail_book.specs.declared.place.Place.{Place}

@@ -1,4 +1,4 @@
--- What contracts see of a table of costs, and of duals.
+-- What contracts see of a table of costs, and of duals. For src/cost_table.rt and src/duals.rt.
 use Rattle.std.specs.Prelude.{ℕ, ℤ, List}
 use Rattle.tail_book.specs.declared.rules.Band.{Band}
 

@@ -1,4 +1,4 @@
--- When a claim, and what a planner answers, is true of a book, by the costs of plans that are meant.
+-- When a claim, and what a planner answers, is true of a book, by the costs of plans that are meant. For src/claim.rt.
 use Rattle.std.specs.Prelude.{◌≡◌, ℕ, ◌≤◌, ◌<◌, ⊤, List, None, Some}
 use Rattle.tail_book.specs.Seen.{BookSeen}
 use Rattle.tail_book.specs.Plan.{IsLegalPlan}

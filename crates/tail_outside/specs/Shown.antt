@@ -1,4 +1,4 @@
--- What files and sinks show: the bytes that they tell, and how many of their calls have failed.
+-- What files and sinks show: the bytes that they tell, and how many of their calls have failed. For src/outside.rt.
 use Rattle.std.specs.Prelude.{ℕ, Bool, List, Option}
 
 -- what files show: by its name, the bytes of each file where they are told, whether it may be read, whether it may be

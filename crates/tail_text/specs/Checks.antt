@@ -1,4 +1,5 @@
 -- The first refusal of a list of checks: each check says what keeps the text from being read on, and the first that fails decides.
+-- For book_maker/src/looked_up.rt, fleet_rules/src/entries.rt and others.
 use Rattle.std.specs.Prelude.{ℕ, Bool, true, false, List, [], ◌∷◌, Result, Ok, Err}
 use Rattle.tail_text.specs.declared.bad.Bad.{Bad}
 

@@ -1,4 +1,4 @@
--- What a claim says, in words: how a certificate spells it, and how it is printed.
+-- What a claim says, in words: how a certificate spells it, and how it is printed. For src/claims.rt.
 use Rattle.std.specs.Prelude.{ℕ, List, [], ◌∷◌, Option, Some, None, decimal, codes}
 use Rattle.std.specs.List.{join_with_byte}
 use Rattle.tail_book.specs.declared.claim.Claim.{Claim}

@@ -1,4 +1,4 @@
--- Times of day as `HH:MM`, in minutes since midnight.
+-- Times of day as `HH:MM`, in minutes since midnight. For src/clocks.rt.
 use Rattle.std.specs.Prelude.{ℕ, ◌+◌, ◌*◌, Bool, ◌&&◌, List, length, slice_index, ◌==◌, nat_le, if◌then◌else◌, ℤ, pos, Option, Some, None, Result, Ok, Err}
 use Rattle.tail_text.specs.Bad.{bad}
 use Rattle.tail_text.specs.Pair.{are_digits_at, pair_at}

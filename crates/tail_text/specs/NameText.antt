@@ -1,4 +1,4 @@
--- Names as the tables write them: a text in the grammar of names is one, and no other is.
+-- Names as the tables write them: a text in the grammar of names is one, and no other is. For src/names.rt.
 use Rattle.std.specs.Prelude.{ℕ, List, if◌then◌else◌, Result, Ok, Err}
 use Rattle.tail_book.specs.Name.{is_name}
 use Rattle.tail_text.specs.Bad.{bad}

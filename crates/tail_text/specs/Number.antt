@@ -1,4 +1,4 @@
--- Whole numbers in digits, with no zero in front.
+-- Whole numbers in digits, with no zero in front. For src/numbers.rt.
 use Rattle.std.specs.Prelude.{ℕ, ◌+◌, ◌*◌, ◌-◌, Bool, ◌&&◌, List, [], ◌∷◌, length, slice_index, ◌==◌, not, nat_le, nat_lt, if◌then◌else◌, Result, Ok, Err}
 use Rattle.std.specs.Char.{is_ascii_digit}
 use Rattle.std.specs.List.{list_all}

@@ -1,4 +1,4 @@
--- Numbers of two digits at a place of a text, from 0 to 99.
+-- Numbers of two digits at a place of a text, from 0 to 99. For src/pairs.rt.
 use Rattle.std.specs.Prelude.{ℕ, ◌+◌, ◌*◌, ◌-◌, Bool, ◌&&◌, List, slice_index}
 use Rattle.std.specs.Char.{is_ascii_digit}
 

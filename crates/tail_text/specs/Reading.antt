@@ -1,4 +1,4 @@
--- What reading a table answers where it is refused: what is wrong, and where.
+-- What reading a table answers where it is refused: what is wrong, and where. For table_records/src/table.rt.
 use Rattle.std.specs.Prelude.{ℕ}
 use Rattle.tail_text.specs.declared.refusal.Refusal.{Refusal}
 use Rattle.tail_text.specs.declared.refusal.Table.{Table}

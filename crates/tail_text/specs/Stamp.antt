@@ -1,4 +1,4 @@
--- Moments as `YYYY-MM-DDTHH:MM`, in minutes since 1970-01-01T00:00 UTC.
+-- Moments as `YYYY-MM-DDTHH:MM`, in minutes since 1970-01-01T00:00 UTC. For src/stamps.rt.
 use Rattle.std.specs.Prelude.{ℕ, ◌+◌, ◌*◌, Bool, ◌&&◌, List, length, slice_index, ◌==◌, nat_le, if◌then◌else◌, ℤ, pos, ◌+ℤ◌, ◌*ℤ◌, Option, Some, None, Result, Ok, Err}
 use Rattle.tail_book.specs.declared.limits.TheConstants.{DAY}
 use Rattle.jiff_core.specs.Calendar.{days_in_month, days_from_civil}

@@ -1,4 +1,4 @@
--- When an answer is true, and what is printed for it.
+-- When an answer is true, and what is printed for it. For src/audited.rt, src/run.rt and others.
 use Rattle.std.specs.Prelude.{ℕ, ◌≡◌, ◌<◌, ◌≤◌, ⊤, List, [], ◌∷◌, length, Option, Ok, Err, IfSome}
 use Rattle.tail_book.specs.Seen.{BookSeen, RawPlanSeen}
 use Rattle.tail_book.specs.Truth.{IsTrueClaim}

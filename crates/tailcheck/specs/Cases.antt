@@ -1,4 +1,4 @@
--- What is judged by the book of three tables: a plan or a certificate.
+-- What is judged by the book of three tables: a plan or a certificate. For Answers.antt and Promises.antt.
 use Rattle.std.specs.Prelude.{ℕ, List, Option, Result, Ok}
 use Rattle.tail_book.specs.Seen.{BookSeen, RawPlanSeen}
 use Rattle.tail_text.specs.Checks.{look}

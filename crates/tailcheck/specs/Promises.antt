@@ -1,4 +1,4 @@
--- What a run promises by its status, and when each status comes.
+-- What a run promises by its status, and when each status comes. For src/run.rt.
 use Rattle.std.specs.Prelude.{ℕ, ◌≡◌, ◌≢◌, ◌==◌, ◌≤◌, ◌⊎◌, List, [], length, Option, IfSome, Ok, cond}
 use Rattle.tail_book.specs.Seen.{BookSeen, RawPlanSeen}
 use Rattle.tail_book.specs.Truth.{IsPlanOf, IsTrueClaim}

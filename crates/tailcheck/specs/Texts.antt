@@ -1,4 +1,4 @@
--- The files of a run, their names, and what is read of them.
+-- The files of a run, their names, and what is read of them. For src/audited.rt, src/certified.rt and others.
 use Rattle.std.specs.Prelude.{ℕ, List, Option, Some, IsTrue, option_and_then, option_map}
 use Rattle.tail_outside.specs.Shown.{FilesShown}
 use Rattle.run_frame.specs.TableFiles.{MayReadTables, tables_held}

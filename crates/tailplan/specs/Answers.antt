@@ -1,4 +1,4 @@
--- When an answer is true, and what is printed for it.
+-- When an answer is true, and what is printed for it. For src/run.rt.
 use Rattle.std.specs.Prelude.{ℕ, ◌≡◌, false, List, Option, Some, Ok, Err, IfSome}
 use Rattle.tail_book.specs.Seen.{BookSeen}
 use Rattle.tail_book.specs.Truth.{IsTrueOutcome}

@@ -1,4 +1,5 @@
 -- What becomes of the files of a run: only the certificate's is written, and what it may then hold.
+-- For src/run.rt and src/book_plan.rt.
 use Rattle.std.specs.Prelude.{ℕ, ◌≡◌, ◌≢◌, ◌⊎◌, ◌≤◌, false, List, Option, None, Some, String}
 use Rattle.tail_book.specs.Faults.{HasRisen}
 use Rattle.tail_outside.specs.Outside.{OnlyRead, PieceHasFailed, SameNames}

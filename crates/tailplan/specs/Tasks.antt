@@ -1,4 +1,5 @@
 -- What a run plans: three tables, how many nodes its search may count, and which file its certificate is written to, if any.
+-- For Answers.antt, Promises.antt and others.
 use Rattle.std.specs.Prelude.{ℕ, List, Option, IfSome, IsTrue, option_and_then, option_map}
 use Rattle.tail_outside.specs.Shown.{FilesShown}
 use Rattle.branch_tree.specs.declared.limit.Limit.{Limit}

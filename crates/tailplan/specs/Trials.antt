@@ -1,4 +1,4 @@
--- What a trial finds and prints, and what it promises by its status.
+-- What a trial finds and prints, and what it promises by its status. For src/trial.rt and src/run.rt.
 use Rattle.std.specs.Prelude.{ℕ, ◌≡◌, ◌≤◌, ◌==◌, ⊤, true, List, [], ◌∷◌, ◌++◌, Bool, Option, None, Some, String, codes, cond, decimal, if◌then◌else◌}
 use Rattle.tail_book.specs.Seen.{BookSeen}
 use Rattle.tail_book.specs.Truth.{IsTrueOutcome}

@@ -1,4 +1,4 @@
--- When an answer is true, and what is printed for it.
+-- When an answer is true, and what is printed for it. For src/run.rt and src/answer.rt.
 use Rattle.std.specs.Prelude.{ℕ, ◌≡◌, List, Ok, Err, IfSome, option_and_then}
 use Rattle.tail_book.specs.Seen.{BookSeen, RawPlanSeen}
 use Rattle.tail_outside.specs.Shown.{FilesShown}

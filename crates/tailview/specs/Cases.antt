@@ -1,4 +1,4 @@
--- What is judged: a plan, by the book of three tables.
+-- What is judged: a plan, by the book of three tables. For Answers.antt and Promises.antt.
 use Rattle.std.specs.Prelude.{Result, Ok}
 use Rattle.tail_book.specs.Seen.{BookSeen, RawPlanSeen}
 use Rattle.tail_text.specs.Checks.{look}

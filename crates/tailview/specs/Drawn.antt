@@ -1,4 +1,4 @@
--- What is drawn of an audit.
+-- What is drawn of an audit. For src/answer.rt and src/run.rt.
 use Rattle.std.specs.Prelude.{ℕ, List, []}
 use Rattle.plan_audit.specs.declared.broken.Audit.{Audit}
 use Rattle.plan_audit.specs.declared.broken.Audit.TheVariants.{Legal, Broken}

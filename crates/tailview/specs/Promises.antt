@@ -1,4 +1,4 @@
--- What a run promises by its status, and when each status comes.
+-- What a run promises by its status, and when each status comes. For src/run.rt.
 use Rattle.std.specs.Prelude.{ℕ, ◌≡◌, ◌≢◌, ◌==◌, ◌⊎◌, List, [], Ok, cond}
 use Rattle.tail_book.specs.Plan.{IsLegalPlan}
 use Rattle.tail_outside.specs.Outside.{Takes}

@@ -1,4 +1,4 @@
--- The sets of known names as contracts see them.
+-- The sets of known names as contracts see them. For src/known.rt.
 use Rattle.book_maker.specs.inside.Known.{KnownNames}
 use Rattle.book_maker.specs.declared.known.Known.TheInside.{Inside}
 

@@ -1,4 +1,5 @@
 -- Undecided pairs as a test, and how many of them marks leave: the measure by which a search ends.
+-- For src/laws/branching.rt.
 use Rattle.std.specs.Prelude.{ℕ, ◌+◌, ◌<◌, ◌≤◌, List, [], ◌∷◌, ◌++◌, Bool, true, false}
 use Rattle.std.specs.Bool.{Decides}
 use Rattle.tail_book.specs.Seen.{BookSeen}

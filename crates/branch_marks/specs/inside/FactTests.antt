@@ -1,4 +1,4 @@
--- That each of these tests is true exactly where its fact holds.
+-- That each of these tests is true exactly where its fact holds. For src/laws/deciding.rt.
 use Rattle.std.specs.Prelude.{List, Contains}
 use Rattle.std.specs.Bool.{Decides}
 use Rattle.branch_marks.specs.declared.fact.Fact.{Fact}

@@ -1,4 +1,4 @@
--- That each of these tests is true exactly where its fact holds.
+-- That each of these tests is true exactly where its fact holds. For src/laws/covering.rt.
 use Rattle.std.specs.Prelude.{ℕ, ℤ, List}
 use Rattle.std.specs.Bool.{Decides}
 use Rattle.tail_book.specs.Seen.{BookSeen}

@@ -1,4 +1,5 @@
 -- Routes that fit the marks: those of a legal plan of which the marks hold, and routes by their beginnings.
+-- For src/laws/marked_routes.rt.
 use Rattle.std.specs.Prelude.{ℕ, ◌<◌, ◌↔◌, ⊤, List, [], ◌∷◌, ◌++◌}
 use Rattle.tail_book.specs.Seen.{BookSeen}
 use Rattle.tail_book.specs.declared.place.Place.{Place}

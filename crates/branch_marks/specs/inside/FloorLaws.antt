@@ -1,4 +1,4 @@
--- What floors keep to, however they are made.
+-- What floors keep to, however they are made. For src/laws/consequences.rt.
 use Rattle.std.specs.Prelude.{ℕ, ℤ, ◌≡◌, ◌<◌, ◌≤◌, List, Option, None, length, slice_index_or}
 use Rattle.tail_book.specs.Seen.{BookSeen}
 use Rattle.branch_marks.specs.declared.fact.Fact.{Fact}

@@ -1,4 +1,5 @@
 -- What the facts of each kind leave open, apart: each test here asks one kind alone, and all others pass it.
+-- For src/marks/questions.rt.
 use Rattle.std.specs.Prelude.{ℕ, ◌+◌, List, Bool, true, ◌&&◌, ◌||◌, not, nat_eq, nat_lt, nat_le}
 use Rattle.std.specs.List.{list_all}
 use Rattle.tail_book.specs.Seen.{BookSeen}

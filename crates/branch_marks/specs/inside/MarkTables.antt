@@ -1,4 +1,5 @@
 -- What the tables of marks say of the facts: each entry is what the whole list of facts says there.
+-- For src/marks/questions.rt, src/fact_rows.rt and others.
 use Rattle.std.specs.Prelude.{ℕ, ◌≡◌, ◌<◌, ◌≤◌, List, All, Bool, if◌then◌else◌, nat_eq, length, Option, None, Some, slice_index_or}
 use Rattle.std.specs.List.{list_any}
 use Rattle.tail_book.specs.Seen.{BookSeen}

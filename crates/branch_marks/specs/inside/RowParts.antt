@@ -1,4 +1,4 @@
--- The counters of a label, at most six numbers in an array that is 0 past their end.
+-- The counters of a label, at most six numbers in an array that is 0 past their end. For src/row.rt.
 use Rattle.std.specs.Prelude.{◌-◌, ◌≤◌, ◌≡◌, ℕ, ℤ, pos, List, ◌++◌, length, take, drop, replicate}
 use Rattle.std.proofs.Common.{ap₂, arith, length-take-le, take-append-drop}
 use Rattle.tail_book.specs.declared.limits.TheConstants.{COUNTER_LIMIT}

@@ -1,5 +1,5 @@
 -- Inside a search: what it keeps between two nodes, what holds of its open places, how much they can still grow to, and what its
--- two passes leave.
+-- two passes leave. For src/first_pass.rt, src/second_pass.rt and others.
 use Rattle.std.specs.Prelude.{◌≡◌, ◌⊎◌, ◌+◌, ◌<◌, ◌≤◌, ⊤, ℕ, zero, suc, List, [], ◌∷◌, ◌++◌, length, Option, Some, None}
 use Rattle.tail_book.specs.Seen.{BookSeen}
 use Rattle.tail_book.specs.TableSeen.{CostTableSeen}

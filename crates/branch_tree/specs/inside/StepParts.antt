@@ -1,4 +1,5 @@
 -- Inside a step on a node: its tools, its pool, the end that is found, and what was told when it stopped.
+-- For src/node.rt, src/step_start.rt and others.
 use Rattle.std.specs.Prelude.{◌≡◌, ℕ, ℤ, ◌<◌, List, ◌++◌}
 use Rattle.tail_book.specs.Seen.{BookSeen}
 use Rattle.tail_book.specs.TableSeen.{CostTableSeen}

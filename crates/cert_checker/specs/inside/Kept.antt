@@ -1,4 +1,5 @@
 -- What the code keeps of the lines that it took, as the state that the definition keeps.
+-- For src/ends.rt, src/state.rt and others.
 use Rattle.std.specs.Prelude.{ℕ, ℤ, pos, ◌≡◌, ◌<◌, ◌≤◌, ◌*◌, ◌^◌, ◌-ℤ◌, ⊤, List, [], Bool, true, false, not, ◌==◌, Option, Some, None, Result, Ok, Err, All, length}
 use Rattle.tail_book.specs.Seen.{BookSeen}
 use Rattle.tail_book.specs.Lookup.{activities, aircraft}

@@ -1,4 +1,5 @@
 -- The open branches of a tree as they are kept: the marks of a node, and of each branch behind it a front of them and a fact.
+-- For src/branches.rt.
 use Rattle.std.specs.Prelude.{◌≡◌, ◌≤◌, ⊤, List, [], ◌∷◌, ◌++◌, true, false, length, take, reverse, if◌then◌else◌}
 use Rattle.tail_book.specs.Seen.{BookSeen}
 use Rattle.branch_marks.specs.Branches.{first_branch, second_branch}

@@ -1,4 +1,4 @@
--- A failure is told with a line: it depends on the text up to that line, and on nothing behind it.
+-- A failure is told with a line: it depends on the text up to that line, and on nothing behind it. For src/laws.rt.
 use Rattle.std.specs.Prelude.{◌≡◌, ℕ, suc, ◌+◌, ◌<◌, ◌==◌, List, [], ◌∷◌, Bool, false, Option, Some, None, length, take, drop, if◌then◌else◌}
 use Rattle.tail_book.specs.Seen.{BookSeen}
 use Rattle.tail_text.specs.Parts.{parts_of}

@@ -1,4 +1,5 @@
 -- The words behind the first ones, as the code has them, and what is there of a spelling where memory ran out.
+-- For src/spelling.rt.
 use Rattle.std.specs.Prelude.{ℕ, ◌≡◌, List, ◌++◌, decimal, codes}
 use Rattle.std.specs.Fmt.{signed_decimal}
 use Rattle.cert_lines.specs.declared.spelling.Word.{Word}

@@ -1,4 +1,4 @@
--- Who is noted as the flier of each activity, while the routes are gone over.
+-- Who is noted as the flier of each activity, while the routes are gone over. For src/trailer.rt.
 use Rattle.std.specs.Prelude.{ℕ, ◌≡◌, ◌<◌, ◌&&◌, if◌then◌else◌, List, length, nat_eq, slice_index_or}
 use Rattle.tail_book.specs.Numbers.{contains}
 

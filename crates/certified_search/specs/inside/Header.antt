@@ -1,4 +1,4 @@
--- When a log writes the header of a book, and how a search stops by its log.
+-- When a log writes the header of a book, and how a search stops by its log. For src/certified.rt.
 use Rattle.std.specs.Prelude.{ℕ, ◌≡◌, length}
 use Rattle.branch_marks.specs.declared.tree_log.LogFail.{LogFail}
 use Rattle.branch_marks.specs.declared.tree_log.LogFail.TheVariants as fail

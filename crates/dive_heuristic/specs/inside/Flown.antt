@@ -1,4 +1,4 @@
--- A tally: for each activity how often routes fly it.
+-- A tally: for each activity how often routes fly it. For src/tally.rt and src/dive_choice.rt.
 use Rattle.std.specs.Prelude.{◌≡◌, ℕ, ◌<◌, ◌+◌, List, length, count_by, nat_eq, slice_index_or}
 use Rattle.tail_book.specs.declared.flown.Flown.{Flown}
 use Rattle.tail_book.specs.declared.flown.Flown.TheVariants.{Never}

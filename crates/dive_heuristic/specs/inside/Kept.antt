@@ -1,5 +1,5 @@
 -- Routes that are kept while marks grow: no legal route that fits comes to weigh less, so that one which still fits is still of
--- least weight.
+-- least weight. For src/least_routes.rt, src/descent.rt and others.
 use Rattle.std.specs.Prelude.{◌≡◌, ℕ, ℤ, ◌<◌, ◌++◌, List, length}
 use Rattle.tail_book.specs.Seen.{BookSeen}
 use Rattle.tail_book.specs.TableSeen.{CostTableSeen}

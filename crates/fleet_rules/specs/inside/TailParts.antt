@@ -1,4 +1,4 @@
--- The fields of an aircraft as contracts see them.
+-- The fields of an aircraft as contracts see them. For src/tail.rt.
 use Rattle.fleet_rules.specs.Tail.{RawTailSeen}
 use Rattle.fleet_rules.specs.declared.tail.RawTail.TheInside.{Inside}
 

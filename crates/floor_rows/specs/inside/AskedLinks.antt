@@ -1,4 +1,4 @@
--- Aircraft that are asked in turn about a link.
+-- Aircraft that are asked in turn about a link. For src/laws.rt.
 use Rattle.std.specs.Prelude.{ℕ, ◌≡◌, ◌<◌, ◌≤◌, List, Bool, true, false}
 use Rattle.tail_book.specs.Seen.{BookSeen}
 use Rattle.tail_book.specs.declared.place.Place.TheVariants.{After}

@@ -1,4 +1,4 @@
--- The floor at an activity as the least of what each place before it brings.
+-- The floor at an activity as the least of what each place before it brings. For src/floors.rt, src/dead.rt and others.
 use Rattle.std.specs.Prelude.{ℕ, ℤ, ◌≡◌, ◌<◌, false, List, [], ◌∷◌, Option, Some, None}
 use Rattle.std.specs.List.{range_with_len}
 use Rattle.tail_book.specs.Seen.{BookSeen}

@@ -1,5 +1,5 @@
 -- What the network tells of an aircraft's links: those to an activity come from its predecessors, those from it lead to its
--- successors.
+-- successors. For src/link_steps.rt and src/laws.rt.
 use Rattle.std.specs.Prelude.{ℕ, ℤ, ◌≡◌, ◌<◌, ◌&&◌, List, Bool, true, false, Option, All}
 use Rattle.std.specs.List.{list_any, range_with_len}
 use Rattle.tail_book.specs.Seen.{BookSeen}

@@ -1,4 +1,4 @@
--- What more rows leave as it was.
+-- What more rows leave as it was. For pricing/src/departing.rt, pricing/src/exact_price.rt and others.
 use Rattle.std.specs.Prelude.{◌≡◌, ℕ, ℤ, List, length}
 use Rattle.label_store.specs.Seen.{StoreSeen}
 use Rattle.label_store.specs.Store.{bucket_of}

@@ -1,4 +1,5 @@
 -- How a bucket keeps the values of its rows: one row after the other, in the order of their numbers.
+-- For src/packed.rt, src/bucket.rt and others.
 use Rattle.std.specs.Prelude.{ℕ, ℤ, ◌≡◌, ◌≢◌, ◌<◌, ◌*◌, List, [], take, drop, length, slice_index_or}
 use Rattle.label_store.specs.Seen.{StoreSeen}
 use Rattle.label_store.specs.Buckets.{row_at}

@@ -1,4 +1,4 @@
--- How rows of one width are kept: one after the other in one list of values.
+-- How rows of one width are kept: one after the other in one list of values. For src/bucket.rt and src/rows.rt.
 use Rattle.std.specs.Prelude.{ℕ, zero, suc, ℤ, ◌*◌, ◌≡◌, ◌≤◌, List, [], ◌∷◌, ◌++◌, Option, take, drop, length}
 use Rattle.label_store.specs.Seen.{RowsSeen}
 use Rattle.label_store.specs.declared.rows.Rows.TheInside.{Inside}

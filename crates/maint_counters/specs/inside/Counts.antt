@@ -1,4 +1,5 @@
 -- How large the values of counters are: within their limits, as large as can be counted on, and after a step.
+-- For src/step_table.rt, src/stepping.rt and others.
 use Rattle.std.specs.Prelude.{ℕ, ℤ, pos, ◌+◌, ◌^◌, List, All}
 use Rattle.tail_book.specs.declared.limits.TheConstants.{COUNT_LIMIT}
 use Rattle.tail_book.specs.Ranges.{IsWithin}

@@ -1,5 +1,5 @@
 -- Lists of the events of a node that are made before they are told: what is due stands at the end, and a line spells
--- it.
+-- it. For src/node_events.rt.
 use Rattle.std.specs.Prelude.{◌≡◌, ◌++◌, ◌<◌, ℕ, ℤ, List, All, length}
 use Rattle.branch_marks.specs.declared.event.Event.{Event}
 use Rattle.branch_marks.specs.Events.{IsNotable, IsLineLabel}

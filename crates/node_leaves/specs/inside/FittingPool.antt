@@ -1,4 +1,4 @@
--- The pool of a node.
+-- The pool of a node. For src/suggestions.rt.
 use Rattle.std.specs.Prelude.{List, All}
 use Rattle.tail_book.specs.Seen.{BookSeen}
 use Rattle.tail_book.specs.TableSeen.{CostTableSeen}

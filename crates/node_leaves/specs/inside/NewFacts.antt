@@ -1,4 +1,4 @@
--- Facts of which the marks of a place can be made again.
+-- Facts of which the marks of a place can be made again. For src/place_marks.rt.
 use Rattle.std.specs.Prelude.{⊤, List, [], ◌∷◌, ◌++◌, Contains}
 use Rattle.tail_book.specs.Seen.{BookSeen}
 use Rattle.branch_marks.specs.declared.fact.Fact.{Fact}

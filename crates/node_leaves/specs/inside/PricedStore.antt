@@ -1,4 +1,5 @@
 -- What a priced store shows: its labels are a family of a certificate, and a line spells each of them.
+-- For src/node_pricer.rt and src/laws.rt.
 use Rattle.std.specs.Prelude.{◌≡◌, ◌+◌, ◌<◌, ℕ, ℤ, List, length}
 use Rattle.tail_book.specs.Seen.{BookSeen}
 use Rattle.tail_book.specs.TableSeen.{CostTableSeen}

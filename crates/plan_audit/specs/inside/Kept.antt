@@ -1,4 +1,5 @@
 -- The legs of a kept plan: their numbers are of the book, and those of one aircraft, in their order, are its route.
+-- For src/kept_plan.rt, src/auditing.rt and others.
 use Rattle.std.specs.Prelude.{ℕ, List, map, nat_eq, ◌<◌}
 use Rattle.std.specs.List.{filter}
 use Rattle.tail_book.specs.Seen.{BookSeen}

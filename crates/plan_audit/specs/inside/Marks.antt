@@ -1,4 +1,4 @@
--- Which numbers were met, as marks: one for each number, set where it was met.
+-- Which numbers were met, as marks: one for each number, set where it was met. For MetNames.antt.
 use Rattle.std.specs.Prelude.{ℕ, ◌<◌, ◌≡◌, List, Bool, false, length, slice_index_or}
 use Rattle.tail_book.specs.Numbers.{contains}
 

@@ -1,4 +1,5 @@
 -- How often activities stand in routes, counted up to 2: that tells never, once and more often apart.
+-- For src/legal_plan.rt.
 use Rattle.std.specs.Prelude.{ℕ, ◌<◌, ◌≡◌, List, length, count_by, min, nat_eq, slice_index_or}
 
 -- there stands how often each number is in the list, or 2 where it is there more often

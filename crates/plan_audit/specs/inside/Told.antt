@@ -1,4 +1,4 @@
--- What an audit tells of the kept plan: each line exactly where a route of it breaks that rule.
+-- What an audit tells of the kept plan: each line exactly where a route of it breaks that rule. For src/laws.rt.
 use Rattle.std.specs.Prelude.{ℕ, ℤ, pos, ◌≡◌, ◌<◌, ◌<ℤ◌, ◌↔◌, true, false, List, [], ◌∷◌, ◌++◌, Contains, length, slice_index_or}
 use Rattle.tail_book.specs.Seen.{BookSeen, RawPlanSeen}
 use Rattle.tail_book.specs.Numbers.{contains}

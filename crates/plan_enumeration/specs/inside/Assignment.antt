@@ -1,4 +1,4 @@
--- Who flies what: an assignment names for each activity, in order, the aircraft that flies it.
+-- Who flies what: an assignment names for each activity, in order, the aircraft that flies it. For src/enumerate.rt.
 use Rattle.std.specs.Prelude.{ℕ, ◌≡◌, ◌<◌, List, length, All}
 use Rattle.tail_book.specs.Seen.{BookSeen}
 use Rattle.tail_book.specs.Lookup.{activities, aircraft}

@@ -1,4 +1,4 @@
--- Outcomes that decide a book: a least plan, or that no plan is legal, and no mere bounds.
+-- Outcomes that decide a book: a least plan, or that no plan is legal, and no mere bounds. For src/enumerate.rt.
 use Rattle.std.specs.Prelude.{⊤}
 use Rattle.tail_book.specs.declared.outcome.Outcome.{Outcome}
 use Rattle.tail_book.specs.declared.outcome.Outcome.TheVariants.{Optimal, Infeasible, Between, Above}

@@ -1,4 +1,5 @@
 -- The enumeration of who flies what: where it stands, and what the best assignment so far is better than.
+-- For src/enumerate.rt.
 use Rattle.std.specs.Prelude.{ℕ, ⊤, ℤ, pos, ◌+◌, ◌*◌, ◌≡◌, ◌<◌, ◌≤◌, ◌++◌, List, [], length, take, drop, All, IsTrue, slice_index_or, slice_set, ◌∷◌}
 use Rattle.tail_book.specs.Seen.{BookSeen}
 use Rattle.tail_book.specs.declared.place.Place.{Place}

@@ -1,4 +1,4 @@
--- Which plans can be drawn, and how far the numbers of a picture go.
+-- Which plans can be drawn, and how far the numbers of a picture go. For src/picture.rt, src/rows.rt and others.
 use Rattle.std.specs.Prelude.{ℕ, ℤ, pos, ◌-ℤ◌, ◌≡◌, ◌<◌, All, List, length}
 use Rattle.tail_book.specs.Seen.{BookSeen}
 use Rattle.tail_book.specs.Lookup.{activities, aircraft}

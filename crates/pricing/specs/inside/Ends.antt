@@ -1,4 +1,4 @@
--- Where an aircraft may end its route among the rows of a store, and the least of these ends.
+-- Where an aircraft may end its route among the rows of a store, and the least of these ends. For src/end.rt.
 use Rattle.std.specs.Prelude.{◌≡◌, ℕ, ℤ, pos, ◌<◌, ◌≤ℤ◌, List, Contains, Option, None, Some, IfSome}
 use Rattle.tail_book.specs.Seen.{BookSeen}
 use Rattle.tail_book.specs.declared.place.Place.TheVariants.{Carry, After}

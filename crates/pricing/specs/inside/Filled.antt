@@ -1,4 +1,4 @@
--- Buckets that are done: each usable link into their activities was tried.
+-- Buckets that are done: each usable link into their activities was tried. For ForAsked.antt and Laws.antt.
 use Rattle.std.specs.Prelude.{ℕ, ℤ, ◌<◌, List, Contains}
 use Rattle.tail_book.specs.Seen.{BookSeen}
 use Rattle.tail_book.specs.TableSeen.{CostTableSeen}

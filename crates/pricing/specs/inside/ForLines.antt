@@ -1,4 +1,5 @@
 -- The words of waiting, said of what is asked and of the lines of an airport.
+-- For src/line_fill.rt, src/waiting.rt and others.
 use Rattle.std.specs.Prelude.{ℕ, List}
 use Rattle.label_store.specs.Seen.{StoreSeen}
 use Rattle.pricing.specs.declared.asked.Asked.{Asked}

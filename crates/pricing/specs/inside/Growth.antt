@@ -1,4 +1,4 @@
--- What offers to the bucket of an activity do to a store.
+-- What offers to the bucket of an activity do to a store. For src/departing.rt, src/fill.rt and others.
 use Rattle.std.specs.Prelude.{◌≢◌, ℕ, ℤ, List}
 use Rattle.tail_book.specs.Seen.{BookSeen}
 use Rattle.tail_book.specs.declared.place.Place.{Place}

@@ -1,4 +1,4 @@
--- What a pricer has made ready of a book.
+-- What a pricer has made ready of a book. For src/pricer.rt.
 use Rattle.std.specs.Prelude.{◌≡◌, ◌+◌, length, IfSome}
 use Rattle.tail_book.specs.Seen.{BookSeen}
 use Rattle.tail_book.specs.TableSeen.{CostTableSeen}

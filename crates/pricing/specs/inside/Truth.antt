@@ -1,4 +1,5 @@
 -- What pricing knows of a row, or of the carry-in where there is none, and of the route to it.
+-- For src/fill.rt, src/end.rt and others.
 use Rattle.std.specs.Prelude.{◌≡◌, ℕ, ℤ, pos, ◌+ℤ◌, ◌<◌, List, ◌∷◌, length, Option, None, Some, IfSome}
 use Rattle.tail_book.specs.Seen.{BookSeen}
 use Rattle.tail_book.specs.TableSeen.{CostTableSeen}

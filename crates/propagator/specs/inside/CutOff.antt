@@ -1,4 +1,5 @@
 -- What a Must of an aircraft cuts off: no link over it is usable for that aircraft.
+-- For src/due_floors.rt, src/lowering.rt and others.
 use Rattle.std.specs.Prelude.{ℕ, ◌≡◌, ◌<◌, ◌≤◌, List, true, false}
 use Rattle.tail_book.specs.Seen.{BookSeen}
 use Rattle.tail_book.specs.declared.place.Place.TheVariants.{After}

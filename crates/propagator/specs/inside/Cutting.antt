@@ -1,4 +1,4 @@
--- What is told of marks while dead connections are cut.
+-- What is told of marks while dead connections are cut. For src/dead_links.rt and src/fixpoint.rt.
 use Rattle.std.specs.Prelude.{ℕ, ◌≡◌, ◌<◌, List}
 use Rattle.tail_book.specs.Seen.{BookSeen}
 use Rattle.tail_book.specs.Lookup.{aircraft}

@@ -1,4 +1,5 @@
 -- Which floors became others than they were: flags of activities, for all aircraft together.
+-- For src/settled_aircraft.rt, src/carriers.rt and others.
 use Rattle.std.specs.Prelude.{ℕ, ◌≡◌, ◌⊎◌, List, Bool, false, None, slice_index_or}
 use Rattle.floor_rows.specs.inside.FloorRow.{FloorRowSeen, floor_in}
 use Rattle.propagator.specs.inside.Rows.{floors_in}

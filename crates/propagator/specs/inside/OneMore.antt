@@ -1,4 +1,4 @@
--- What a fact that follows changes once it is among the marks.
+-- What a fact that follows changes once it is among the marks. For src/laws.rt.
 use Rattle.std.specs.Prelude.{ℕ, ◌≡◌, ◌≢◌, ◌<◌, ◌++◌, List, [], ◌∷◌, false, None, if◌then◌else◌, nat_eq}
 use Rattle.tail_book.specs.Seen.{BookSeen}
 use Rattle.tail_book.specs.Lookup.{activities}

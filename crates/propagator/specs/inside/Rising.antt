@@ -1,4 +1,5 @@
 -- Floors never fall while marks grow: each further fact takes ways, and gives none.
+-- For src/lowering.rt, src/due_floors.rt and others.
 use Rattle.std.specs.Prelude.{ℕ, ℤ, ◌≡◌, ◌<◌, ◌++◌, List, Option, None, Some, if◌then◌else◌}
 use Rattle.tail_book.specs.Seen.{BookSeen}
 use Rattle.tail_book.specs.declared.place.Place.TheVariants.{After}

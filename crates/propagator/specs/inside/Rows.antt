@@ -1,4 +1,4 @@
--- The floors of all aircraft: a row for each.
+-- The floors of all aircraft: a row for each. For src/settled_aircraft.rt, src/lowest.rt and others.
 use Rattle.std.specs.Prelude.{ℕ, ℤ, ◌≡◌, ◌≢◌, List, [], Option, All, length, slice_index_or}
 use Rattle.tail_book.specs.Seen.{BookSeen}
 use Rattle.tail_book.specs.Lookup.{aircraft}

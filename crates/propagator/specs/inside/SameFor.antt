@@ -1,4 +1,5 @@
 -- Marks that leave an aircraft the same: activities, links and ends, and so its floors and what is dead for it.
+-- For src/laws.rt.
 use Rattle.std.specs.Prelude.{ℕ, ◌≡◌, ◌≢◌, ◌++◌, false, List, [], ◌∷◌}
 use Rattle.tail_book.specs.Seen.{BookSeen}
 use Rattle.tail_book.specs.declared.place.Place.{Place}

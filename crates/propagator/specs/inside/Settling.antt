@@ -1,4 +1,5 @@
 -- What is told of marks while the facts are added that follow for one aircraft from its floors.
+-- For src/settled_aircraft.rt, src/dead_ends.rt and others.
 use Rattle.std.specs.Prelude.{ℕ, ◌≡◌, ◌≢◌, ◌<◌, true, List}
 use Rattle.tail_book.specs.Seen.{BookSeen}
 use Rattle.tail_book.specs.Lookup.{activities}

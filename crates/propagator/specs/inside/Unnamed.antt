@@ -1,4 +1,5 @@
 -- How many activities no Must names: each Must of an only carrier makes it less, so propagation comes to an end.
+-- For src/carriers.rt.
 use Rattle.std.specs.Prelude.{ℕ, List, Bool, if◌then◌else◌}
 use Rattle.tail_book.specs.Seen.{BookSeen}
 use Rattle.tail_book.specs.Lookup.{activities, aircraft}

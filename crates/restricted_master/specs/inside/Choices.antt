@@ -1,4 +1,5 @@
 -- The choices that aircraft have of one activity: what each takes at a dual of it, and which dual is best.
+-- For src/switching.rt, src/moving.rt and others.
 use Rattle.std.specs.Prelude.{◌≡◌, ℕ, ℤ, pos, ◌+ℤ◌, ◌-ℤ◌, ◌≤ℤ◌, ◌<ℤ◌, ◌<◌, ◌^◌, ◌⊎◌, ⊤, List, Option, Some, None, map, length, slice_index_or}
 use Rattle.std.specs.Int.{int_min, int_max}
 use Rattle.tail_book.specs.TableSeen.{CostTableSeen}

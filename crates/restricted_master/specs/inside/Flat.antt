@@ -1,4 +1,4 @@
--- How a pool keeps its routes: one after the other in one list of activities.
+-- How a pool keeps its routes: one after the other in one list of activities. For src/dropped_routes.rt and src/pool.rt.
 use Rattle.std.specs.Prelude.{ℕ, ◌≡◌, ◌≢◌, ◌≤◌, ◌^◌, List, All, AllPairs, length, map, slice_range}
 use Rattle.branch_marks.specs.Pool.{Pooled}
 use Rattle.restricted_master.specs.declared.entry.Entry.{Entry}

@@ -1,4 +1,5 @@
 -- The hash of a route and its aircraft: equal routes of one aircraft have the same, and few others do.
+-- For src/hashing.rt, src/index.rt and others.
 use Rattle.std.specs.Prelude.{ℕ, ◌+◌, ◌*◌, ◌%◌, ◌^◌, List, [], ◌∷◌}
 use Rattle.restricted_master.specs.declared.hashing.TheConstants.{FACTOR}
 

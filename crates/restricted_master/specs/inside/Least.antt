@@ -1,4 +1,5 @@
 -- The least of what numbers have, and the least weights with and without an activity.
+-- For src/aircraft_choices.rt, src/moving.rt and others.
 use Rattle.std.specs.Prelude.{◌≡◌, ℕ, ℤ, pos, ◌+◌, ◌*◌, ◌^◌, ◌+ℤ◌, ◌≤ℤ◌, ◌<ℤ◌, ◌<◌, ◌⊎◌, ⊤, All, Bool, true, false, not, ◌&&◌, if◌then◌else◌, int_lt, nat_eq, List, Option, Some, None, length, slice_index_or}
 use Rattle.std.specs.Int.{int_min}
 use Rattle.tail_book.specs.Seen.{BookSeen}

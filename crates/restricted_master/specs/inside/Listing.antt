@@ -1,4 +1,5 @@
 -- Lists of numbers that grow: by aircraft one route after the other, and by activity as many routes as are put to them.
+-- For src/route_lists.rt and src/moving.rt.
 use Rattle.std.specs.Prelude.{ℕ, ◌≡◌, ◌<◌, ⊤, false, List, [], ◌∷◌, ◌++◌, if◌then◌else◌, filter, length}
 use Rattle.std.specs.List.{range_with_len}
 use Rattle.tail_book.specs.Numbers.{contains}

@@ -1,4 +1,5 @@
 -- Where an aircraft may end its route among the rows of a store, and the least of these ends as far as a limit.
+-- For src/end.rt.
 use Rattle.std.specs.Prelude.{◌≡◌, ℕ, ℤ, pos, ◌<◌, ◌≤ℤ◌, List, Contains, Option, None, Some, IfSome}
 use Rattle.tail_book.specs.Seen.{BookSeen}
 use Rattle.tail_book.specs.declared.place.Place.TheVariants.{Carry, After}

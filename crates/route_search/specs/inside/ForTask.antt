@@ -1,4 +1,5 @@
 -- The words of a search, said of its task: an aircraft of a book, by a table of costs, under marks and duals.
+-- For src/reach.rt, src/completion.rt and others.
 use Rattle.std.specs.Prelude.{ℕ, ℤ, List, Option}
 use Rattle.tail_book.specs.declared.place.Place.{Place}
 use Rattle.branch_marks.specs.Marks.{IsUsable}

@@ -1,4 +1,4 @@
--- The line of a flight in two halves, as the program adds them.
+-- The line of a flight in two halves, as the program adds them. For src/rows.rt.
 use Rattle.std.specs.Prelude.{ℕ, List, ◌++◌, codes}
 use Rattle.seed_tables.specs.declared.flight.Flight.{Flight}
 use Rattle.seed_tables.specs.Rows.{airport_name, flight_id, stamp_text, types_field}

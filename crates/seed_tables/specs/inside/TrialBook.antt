@@ -1,4 +1,4 @@
--- The book of a trial: what its three tables stand for.
+-- The book of a trial: what its three tables stand for. For RawTrial.antt.
 use Rattle.std.specs.Prelude.{ℕ, ◌+◌, ◌%◌, ◌==◌, pos, if◌then◌else◌, true, List, [], ◌∷◌, None, codes, map}
 use Rattle.tail_book.specs.Seen.{ActivitySeen, AirportSeen, BookSeen, CounterSeen, RulesSeen, TailSeen}
 use Rattle.tail_book.specs.declared.rules.AircraftType.{AircraftType}

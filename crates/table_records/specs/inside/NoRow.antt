@@ -1,4 +1,4 @@
--- What reading one record, or one field of it, answers.
+-- What reading one record, or one field of it, answers. For src/lists.rt, src/name_lists.rt and others.
 use Rattle.std.specs.Prelude.{ℕ, ◌≡◌, ⊤, Result, Ok, Err}
 use Rattle.table_records.specs.declared.table.NoRow.{NoRow}
 use Rattle.table_records.specs.declared.table.NoRow.TheVariants.{Code, Memory}

@@ -1,4 +1,4 @@
--- The records that a reader of bytes has left.
+-- The records that a reader of bytes has left. For src/records.rt.
 use Rattle.std.specs.Prelude.{ℕ, List, [], length, ◌∷◌, ◌+◌, ◌≡◌, true, false, Some, Bool, if◌then◌else◌}
 use Rattle.std.specs.Borrow.{Bor}
 use Rattle.std.specs.Option.{option_map_or}

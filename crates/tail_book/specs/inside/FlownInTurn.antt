@@ -1,4 +1,4 @@
--- Routes as they are found, one flier after the other.
+-- Routes as they are found, one flier after the other. For src/laws/fliers.rt.
 use Rattle.std.specs.Prelude.{ℕ, ◌+◌, ◌≡◌, List, [], ◌∷◌, if◌then◌else◌, map, nat_eq}
 use Rattle.std.specs.List.{range_with_len}
 use Rattle.tail_book.specs.Fliers.{route_by}

@@ -1,4 +1,4 @@
--- A legal plan flies exactly the book: what its routes have, all together.
+-- A legal plan flies exactly the book: what its routes have, all together. For src/laws/sums.rt.
 use Rattle.std.specs.Prelude.{ℕ, ℤ, ◌<◌, ◌≡◌, List, All, length, map}
 use Rattle.std.specs.List.{flat_map}
 use Rattle.tail_book.specs.Seen.{BookSeen}

@@ -1,4 +1,4 @@
--- Linked activities rise in number, since each lasts and they stand in order of their starts.
+-- Linked activities rise in number, since each lasts and they stand in order of their starts. For src/laws.rt.
 use Rattle.std.specs.Prelude.{ℕ, ◌<◌, ◌≡◌, ⊤, List, [], ◌∷◌, true}
 use Rattle.tail_book.specs.Seen.{BookSeen}
 use Rattle.tail_book.specs.declared.place.Place.{Place}

@@ -1,4 +1,4 @@
--- The counters and the place at the end of a route: what a step more begins with.
+-- The counters and the place at the end of a route: what a step more begins with. For Along.antt, OneMore.antt and others.
 use Rattle.std.specs.Prelude.{ℕ, ℤ, List, [], ◌∷◌}
 use Rattle.tail_book.specs.Seen.{BookSeen}
 use Rattle.tail_book.specs.declared.place.Place.{Place}

@@ -1,4 +1,5 @@
 -- What a route costs at most, legal or not: it has no more activities than the book where its numbers rise.
+-- For src/laws/bounds.rt.
 use Rattle.std.specs.Prelude.{ℕ, ℤ, pos, ◌+◌, ◌*◌, ◌^◌, ◌-ℤ◌, ◌<◌, ◌≤◌, List, All, length, map}
 use Rattle.tail_book.specs.declared.limits.TheConstants.{LEG_COST_LIMIT}
 use Rattle.tail_book.specs.Seen.{BookSeen}

@@ -1,4 +1,5 @@
 -- What every book keeps, and what every cost table keeps, as tests that compute.
+-- For src/sound.rt, src/cost_table.rt and others.
 use Rattle.std.specs.Prelude.{ℕ, ℤ, pos, ◌+ℤ◌, ◌-ℤ◌, ◌*◌, ◌+◌, ◌^◌, ◌%◌, ◌==◌, Bool, ◌&&◌, not, List, length, nat_lt, nat_le, unsigned_abs, bytes_eq}
 use Rattle.std.specs.Bool.{Decides}
 use Rattle.std.specs.List.{list_all}

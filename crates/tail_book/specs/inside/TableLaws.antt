@@ -1,4 +1,4 @@
--- What the book's own costs have to do with the book, and what a legal plan costs by a table at most.
+-- What the book's own costs have to do with the book, and what a legal plan costs by a table at most. For src/laws.rt.
 use Rattle.std.specs.Prelude.{ℕ, ◌<◌, ◌≤◌, ◌≡◌, ◌↔◌, List, All, length}
 use Rattle.tail_book.specs.Seen.{BookSeen}
 use Rattle.tail_book.specs.TableSeen.{CostTableSeen}

@@ -1,4 +1,4 @@
--- What is held under a name, and which calls fail.
+-- What is held under a name, and which calls fail. For src/mem_files.rt, src/calls.rt and others.
 use Rattle.std.specs.Prelude.{ℕ, ◌+◌, ◌-◌, ◌^◌, Bool, List, [], Option, ◌==◌, min, option_map, find}
 use Rattle.std.specs.List.{list_any}
 use Rattle.std.specs.Str.{bytes_eq}

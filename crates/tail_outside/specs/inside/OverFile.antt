@@ -1,4 +1,4 @@
--- What a sink over one named file shows.
+-- What a sink over one named file shows. For src/file_sink.rt.
 use Rattle.std.specs.Prelude.{ℕ, List}
 use Rattle.tail_outside.specs.Shown.{FilesShown, SinkShown}
 

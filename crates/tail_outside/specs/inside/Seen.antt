@@ -1,4 +1,5 @@
 -- What clauses see of files and sinks in memory: records of lists and numbers.
+-- For src/calls.rt, src/mem_files.rt and others.
 use Rattle.std.specs.Prelude.{ℕ, Bool, List}
 
 -- a file: its name and its bytes

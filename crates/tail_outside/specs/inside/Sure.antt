@@ -1,4 +1,4 @@
--- Sinks and files that never fail, with room for so many bytes.
+-- Sinks and files that never fail, with room for so many bytes. For src/sure_files.rt and src/sure_sink.rt.
 use Rattle.std.specs.Prelude.{ℕ, ◌-◌, Bool, true, false, ◌||◌, List, [], ◌++◌, length, nat_lt, Option, Some, None, if◌then◌else◌, option_and_then, unwrap_or, ◌≡◌, refl}
 use Rattle.std.proofs.Common.{ap}
 use Rattle.std.specs.Option.{option_map_or}

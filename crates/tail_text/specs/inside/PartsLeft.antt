@@ -1,4 +1,4 @@
--- The parts that are still to be taken: those of the text that is left, and none once the last is taken.
+-- The parts that are still to be taken: those of the text that is left, and none once the last is taken. For src/parts.rt.
 use Rattle.std.specs.Prelude.{ℕ, List, [], Option, Some, None}
 use Rattle.std.specs.Borrow.{Bor}
 use Rattle.tail_text.specs.Parts.{parts_of}

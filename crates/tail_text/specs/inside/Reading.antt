@@ -1,4 +1,5 @@
 -- The answer of a reader, for which memory may be wanting: the one that the definition gives, or want of memory.
+-- For book_maker/src/declare.rt, book_maker/src/looked_up.rt and others.
 use Rattle.std.specs.Prelude.{◌≡◌, ⊤, Result, Ok, Err}
 use Rattle.tail_text.specs.declared.refusal.Refusal.{Refusal}
 use Rattle.tail_text.specs.declared.refusal.Stopped.{Stopped}

@@ -1,5 +1,5 @@
 -- With which status a run ends that printed what it found, what can be printed, and when an answer is true of the files that were
--- read.
+-- read. For src/certified.rt, src/answer.rt and others.
 use Rattle.std.specs.Prelude.{ℕ, ◌≡◌, ⊤, List, IfSome}
 use Rattle.tail_book.specs.Seen.{BookSeen}
 use Rattle.tail_outside.specs.Shown.{FilesShown}

@@ -1,4 +1,4 @@
--- The names of a run of the checker as contracts see them, and the fronts of what is held.
+-- The names of a run of the checker as contracts see them, and the fronts of what is held. For src/words.rt and src/run.rt.
 use Rattle.run_frame.specs.inside.TableFiles.{front, fronts, names_seen}
 use Rattle.tailcheck.specs.Texts.{CheckNamesSeen, SubjectName, PlanName, CertificateName, SubjectSeen, PlanBytes, CertificateBytes, TextsSeen}
 use Rattle.tailcheck.specs.declared.words.CheckNames.{CheckNames}

@@ -1,4 +1,5 @@
 -- How a run ends: what was printed of its answer, and what becomes of the files by it.
+-- For src/book_plan.rt, src/run.rt and others.
 use Rattle.std.specs.Prelude.{ℕ, ◌≡◌, ⊤, Result, Ok, Err, List, Option, IfSome, false, ◌⊎◌}
 use Rattle.tail_outside.specs.Outside.{OnlyRead}
 use Rattle.tail_outside.specs.Shown.{FilesShown, SinkShown}

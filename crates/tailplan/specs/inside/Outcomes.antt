@@ -1,4 +1,4 @@
--- With which status a run ends whose outcome was printed.
+-- With which status a run ends whose outcome was printed. For src/answer.rt and src/trial.rt.
 use Rattle.std.specs.Prelude.{ℕ}
 use Rattle.tail_book.specs.declared.outcome.Outcome.{Outcome}
 use Rattle.tail_book.specs.declared.outcome.Outcome.TheVariants.{Optimal, Infeasible, Between, Above}

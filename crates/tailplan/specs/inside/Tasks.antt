@@ -1,4 +1,4 @@
--- The names of a run of the planner as contracts see them, and the fronts of what is held.
+-- The names of a run of the planner as contracts see them, and the fronts of what is held. For src/words.rt.
 use Rattle.std.specs.Prelude.{option_map}
 use Rattle.run_frame.specs.inside.TableFiles.{fronts, names_seen}
 use Rattle.tailplan.specs.Tasks.{TaskNamesSeen, TaskSeen}

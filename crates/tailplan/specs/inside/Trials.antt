@@ -1,4 +1,4 @@
--- Whether a verdict is a yes, as a flag of a trial tells it.
+-- Whether a verdict is a yes, as a flag of a trial tells it. For src/trial.rt.
 use Rattle.std.specs.Prelude.{Bool, true, false, ◌≡◌}
 use Rattle.cert_checker.specs.declared.verdict.Verdict.{Verdict}
 use Rattle.cert_checker.specs.declared.verdict.Verdict.TheVariants.{Yes, No}

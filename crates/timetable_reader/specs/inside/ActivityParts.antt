@@ -1,4 +1,4 @@
--- The fields of an activity as contracts see them.
+-- The fields of an activity as contracts see them. For src/activity.rt.
 use Rattle.timetable_reader.specs.Activity.{RawActivitySeen}
 use Rattle.timetable_reader.specs.declared.activity.RawActivity.TheInside.{Inside}
 

@@ -1,4 +1,5 @@
 -- The parts in which a record is read on the way to its activity, each with what its fields say and what holds of it by itself.
+-- For src/timetable.rt.
 use Rattle.std.specs.Prelude.{ℕ, ◌≡◌, ⊤, true, List, Option, IfSome, Result, Ok, Err, pos, ◌+ℤ◌, ◌≤ℤ◌}
 use Rattle.tail_book.specs.Name.{is_name}
 use Rattle.tail_book.specs.declared.limits.TheConstants.{ITEM_LIMIT, SPAN_LIMIT}
