@@ -7,5 +7,6 @@ pub mod JudgeLemmas
 pub mod CarryLemmas
 pub mod EntryFacts
 pub mod TagLemmas
+pub mod ChangeLemmas
 pub mod MadeLemmas
 mod Examples

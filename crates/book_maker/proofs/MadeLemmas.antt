@@ -7,24 +7,25 @@ use Rattle.std.proofs.lemmas.List.{length-map}
 use Rattle.std.proofs.lemmas.List.Sorted.{All-permutation, length_permutation}
 use Rattle.tail_text.specs.declared.refusal.Table.TheVariants.{Fleet, Rules, Timetable}
 use Rattle.tail_book.specs.Seen.{ActivitySeen, AirportSeen, BookSeen, CounterSeen, CurfewSeen, RulesSeen, TailSeen}
-use Rattle.tail_book.specs.inside.Sound.{IsActivity, IsBook, IsCounter, IsCurfew, IsRules, IsTail}
+use Rattle.tail_book.specs.inside.Sound.{IsActivity, IsAirport, IsBook, IsCounter, IsCurfew, IsRules, IsTail}
 use Rattle.tail_book.specs.declared.rules.AircraftType.{AircraftType}
 use Rattle.timetable_reader.specs.inside.Activity.{IsRawActivity}
 use Rattle.timetable_reader.specs.Activity.{RawActivitySeen}
 use Rattle.tail_book.specs.declared.limits.TheConstants.{ACTIVITY_LIMIT, TAIL_LIMIT}
-use Rattle.fleet_rules.specs.inside.RawRules.{AreRawRules, IsRawCounter, IsRawCurfew}
+use Rattle.fleet_rules.specs.inside.RawRules.{AreRawRules, IsRawAirport, IsRawCounter, IsRawCurfew}
 use Rattle.fleet_rules.specs.RawRules.{RawRulesSeen}
 use Rattle.fleet_rules.specs.inside.Tail.{IsRawTail}
 use Rattle.fleet_rules.specs.Tail.{RawTailSeen}
 use Rattle.book_maker.specs.inside.Known.{HasAsMany, KnownNames, with_rules}
 use Rattle.book_maker.specs.LookedUp.{looked_up_in}
-use Rattle.book_maker.specs.RulesFound.{airport_names, counter_in, counter_names, curfew_in, kind_names, rules_in}
+use Rattle.book_maker.specs.RulesFound.{airport_in, airport_names, counter_in, counter_names, curfew_in, kind_names, rules_in}
 use Rattle.book_maker.specs.TailFound.{tail_in}
 use Rattle.book_maker.specs.ActivityFound.{activity_in}
 use Rattle.book_maker.specs.Made.{activities_in, tails_in}
 use Rattle.book_maker.specs.Tags.{tags_of}
 use Rattle.book_maker.specs.Order.{in_order}
 use Rattle.book_maker.proofs.EntryFacts.{found-all, found-differ, found-many, found-texts}
+use Rattle.book_maker.proofs.ChangeLemmas.{airport_named, airport_sound}
 use Rattle.book_maker.proofs.FoundLemmas.{activity_named, activity_sound, counter_named, counter_sound, curfew_sound, looked, tail_named, tail_sound}
 use Rattle.book_maker.proofs.OrderLemmas.{differ_anywhere, in_order-ordered, in_order-permutes}
 
@@ -42,7 +43,7 @@ unchanged xs ys e = sym (itself xs) ∙ e ∙ itself ys
 -- the four kinds of entries of the rules gave these
 pub record RulesGave (raw : RawRulesSeen) (kinds : List AircraftType) (airports : List AirportSeen) (curfews : List CurfewSeen) (counters : List CounterSeen) : Type 0 where
   pub kinds_gave : looked_up_in Rules 1 (λ t. Some t.name) (λ t. Ok t) raw.kinds ≡ Ok kinds
-  pub airports_gave : looked_up_in Rules (1 + length raw.kinds) (λ p. Some p.name) (λ p. Ok p) raw.airports ≡ Ok airports
+  pub airports_gave : looked_up_in Rules (1 + length raw.kinds) (λ p. Some p.name) airport_in raw.airports ≡ Ok airports
   pub curfews_gave : looked_up_in Rules (1 + length raw.kinds + length raw.airports) (λ _. None) (curfew_in (airport_names raw) (kind_names raw)) raw.curfews ≡ Ok curfews
   pub counters_gave : looked_up_in Rules (1 + length raw.kinds + length raw.airports + length raw.curfews) (λ c. Some c.name) (counter_in (airport_names raw)) raw.counters ≡ Ok counters
 
@@ -54,14 +55,14 @@ module _ (raw : RawRulesSeen) (sound : AreRawRules raw) (kinds : List AircraftTy
   kinds_same : kinds ≡ raw.kinds
   kinds_same = unchanged kinds raw.kinds (found-texts Rules (λ t. Some t.name) (λ t. Ok t) (λ t. t) (λ t. t) taken_as_is 1 [] raw.kinds kinds gave.kinds_gave)
 
-  airports_same : airports ≡ raw.airports
-  airports_same = unchanged airports raw.airports (found-texts Rules (λ p. Some p.name) (λ p. Ok p) (λ p. p) (λ p. p) taken_as_is (1 + length raw.kinds) [] raw.airports airports gave.airports_gave)
+  ports_counted : length airports ≡ length raw.airports
+  ports_counted = found-many Rules (λ p. Some p.name) airport_in _ [] raw.airports airports gave.airports_gave
 
   pub kinds_many : length kinds ≡ length (kind_names raw)
   kinds_many = ap length kinds_same ∙ sym (length-map raw.kinds (λ t. t.name))
 
   pub airports_many : length airports ≡ length (airport_names raw)
-  airports_many = ap length airports_same ∙ sym (length-map raw.airports (λ p. p.name))
+  airports_many = ports_counted ∙ sym (length-map raw.airports (λ p. p.name))
 
   counted : length counters ≡ length raw.counters
   counted = found-many Rules (λ c. Some c.name) (counter_in (airport_names raw)) _ [] raw.counters counters gave.counters_gave
@@ -75,9 +76,9 @@ module _ (raw : RawRulesSeen) (sound : AreRawRules raw) (kinds : List AircraftTy
     kinds = rw kinds_same sound.kinds;
     kind_names = found-differ Rules (λ t. t.name) (λ t. t.name) (λ t. Ok t) (λ entry b e. ap (λ t. t.name) (taken_as_is entry b e)) 1 raw.kinds kinds gave.kinds_gave;
     few_kinds = rw kinds_same sound.few_kinds;
-    airports = rw airports_same sound.airports;
-    airport_names = found-differ Rules (λ p. p.name) (λ p. p.name) (λ p. Ok p) (λ entry b e. ap (λ p. p.name) (taken_as_is entry b e)) (1 + length raw.kinds) raw.airports airports gave.airports_gave;
-    few_airports = rw airports_same sound.few_airports;
+    airports = found-all Rules (λ p. Some p.name) airport_in IsRawAirport IsAirport (λ entry p h e. airport_sound entry p h e) _ [] raw.airports airports sound.airports gave.airports_gave;
+    airport_names = found-differ Rules (λ p. p.name) (λ p. p.name) airport_in airport_named (1 + length raw.kinds) raw.airports airports gave.airports_gave;
+    few_airports = omega (arith, sound.few_airports, ports_counted);
     curfews = found-all Rules (λ _. None) (curfew_in (airport_names raw) (kind_names raw)) IsRawCurfew (IsCurfew rules)
         (λ entry c h e. curfew_sound (airport_names raw) (kind_names raw) rules airports_many kinds_many entry c h e) _ [] raw.curfews curfews sound.curfews gave.curfews_gave;
     few_curfews = omega (arith, sound.few_curfews, found-many Rules (λ _. None) (curfew_in (airport_names raw) (kind_names raw)) _ [] raw.curfews curfews gave.curfews_gave);
@@ -101,7 +102,7 @@ pub record AreFound (raw : RawRulesSeen) (rules : RulesSeen) : Type 0 where
 pub rules_in-found : (raw : RawRulesSeen) (found : RulesSeen) → AreRawRules raw → rules_in raw ≡ Ok found → AreFound raw found
 rules_in-found raw found sound e =
     let kinds = looked (looked_up_in Rules 1 (λ t. Some t.name) (λ t. Ok t) raw.kinds) _ found e in
-    let airports = looked (looked_up_in Rules (1 + length raw.kinds) (λ p. Some p.name) (λ p. Ok p) raw.airports) _ found kinds.went_on in
+    let airports = looked (looked_up_in Rules (1 + length raw.kinds) (λ p. Some p.name) airport_in raw.airports) _ found kinds.went_on in
     let curfews = looked (looked_up_in Rules (1 + length raw.kinds + length raw.airports) (λ _. None) (curfew_in (airport_names raw) (kind_names raw)) raw.curfews) _ found airports.went_on in
     let counters = looked (looked_up_in Rules (1 + length raw.kinds + length raw.airports + length raw.curfews) (λ c. Some c.name) (counter_in (airport_names raw)) raw.counters) _ found curfews.went_on in
     let gave : RulesGave raw kinds.value airports.value curfews.value counters.value = record { kinds_gave = kinds.gave; airports_gave = airports.gave; curfews_gave = curfews.gave; counters_gave = counters.gave } in

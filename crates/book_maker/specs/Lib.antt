@@ -1,5 +1,6 @@
 pub mod NameNumbers
 pub mod LookedUp
+pub mod Changes
 pub mod RulesFound
 pub mod CarryFound
 pub mod TailFound

@@ -1,11 +1,12 @@
 -- The entries of the rules, with numbers in place of the names that they use. The first name that nothing has, in this
 -- order, is code 12.
 use Rattle.std.specs.Prelude.{ℕ, ◌+◌, List, length, map, None, Some, Result, Ok}
-use Rattle.tail_book.specs.Seen.{CounterSeen, CurfewSeen, RulesSeen}
+use Rattle.tail_book.specs.Seen.{AirportSeen, CounterSeen, CurfewSeen, RulesSeen}
 use Rattle.tail_text.specs.Checks.{look}
 use Rattle.tail_text.specs.declared.refusal.Refusal.{Refusal}
 use Rattle.tail_text.specs.declared.refusal.Table.TheVariants.{Rules}
-use Rattle.fleet_rules.specs.RawRules.{RawCounterSeen, RawCurfewSeen, RawRulesSeen}
+use Rattle.fleet_rules.specs.RawRules.{RawAirportSeen, RawCounterSeen, RawCurfewSeen, RawRulesSeen}
+use Rattle.book_maker.specs.Changes.{changes_of, standard_of}
 use Rattle.book_maker.specs.NameNumbers.{number_in, numbers_in}
 use Rattle.book_maker.specs.LookedUp.{looked_up_in}
 
@@ -18,6 +19,10 @@ airport_names rules = map (λ p. p.name) rules.airports
 
 abbrev pub counter_names : RawRulesSeen → List (List ℕ)
 counter_names rules = map (λ c. c.name) rules.counters
+
+-- an airport uses no other name; its changes of local time are those of its rule
+abbrev pub airport_in : RawAirportSeen → Result AirportSeen ℕ
+airport_in p = Ok (record { name = p.name; offset = standard_of p.zone; changes = changes_of p.zone; turn = p.turn })
 
 -- a curfew uses its airport, and then its types
 abbrev pub curfew_in : List (List ℕ) → List (List ℕ) → RawCurfewSeen → Result CurfewSeen ℕ
@@ -62,7 +67,7 @@ counters_in rules =
 abbrev pub rules_in : RawRulesSeen → Result RulesSeen Refusal
 rules_in rules =
     look (looked_up_in Rules 1 (λ t. Some t.name) (λ t. Ok t) rules.kinds) (λ kinds.
-    look (looked_up_in Rules (1 + length rules.kinds) (λ p. Some p.name) (λ p. Ok p) rules.airports) (λ airports.
+    look (looked_up_in Rules (1 + length rules.kinds) (λ p. Some p.name) airport_in rules.airports) (λ airports.
     look (curfews_in rules) (λ curfews.
     look (counters_in rules) (λ counters.
     Ok (record {

@@ -12,11 +12,11 @@ ghost use Rattle.timetable_reader.specs.inside.Activity.{IsRawActivity};
 ghost use Rattle.fleet_rules.specs.inside.Tail.{IsRawTail};
 ghost use Rattle.book_maker.specs.inside.Known.{activities_by, tails_by, with_airports, with_counters, with_kinds, with_tails};
 ghost use Rattle.book_maker.specs.LookedUp.{looked_up_in};
-ghost use Rattle.book_maker.specs.RulesFound.{counter_in, curfew_in};
+ghost use Rattle.book_maker.specs.RulesFound.{airport_in, counter_in, curfew_in};
 
 use crate::known::Known;
 use crate::looked_up::look_up;
-use fleet_rules::{RawCounter, RawCurfew, RawTail};
+use fleet_rules::{RawAirport, RawCounter, RawCurfew, RawTail};
 use std::alloc::Global;
 use tail_book::{Activity, AircraftType, Airport, Counter, Curfew, Tail};
 use tail_text::{Stopped, Table};
@@ -43,12 +43,12 @@ pub fn declare_kinds(
 pub fn declare_airports(
     alloc: Global,
     first: u64,
-    airports: &[Airport],
+    airports: &[RawAirport],
     known: &mut Known,
 ) -> Result<Vec<Airport>, Stopped>
     requires first { first ≤ 1000 }
     requires few { length airports.now ≤ AIRPORT_LIMIT }
-    ensures found { Answers (λ v. v.items) (looked_up_in RulesTable first (λ p. Some p.name) (λ p. Ok p) airports.now) result }
+    ensures found { Answers (λ v. v.items) (looked_up_in RulesTable first (λ p. Some p.name) airport_in airports.now) result }
     ensures known { OnOk result (known.new ≡ with_airports known.old (map (λ p. p.name) airports.now)) }
 {
     let found = look_up(alloc, Table::Rules, first, known, airports)?;

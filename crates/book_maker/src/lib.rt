@@ -3,6 +3,7 @@
 
 mod activity_found;
 mod carry_found;
+mod changes;
 mod declare;
 mod known;
 mod looked_up;

@@ -1,16 +1,17 @@
 //! The entries of the rules, with their names looked up.
 //!
-//! A type and an airport use no other name, and are taken as they are. A curfew uses its airport and then its types,
-//! and a counter its bases. Bands have no names, and need no look.
+//! A type uses no other name, and is taken as it is; nor does an airport, which gets the changes of its local time here.
+//! A curfew uses its airport and then its types, and a counter its bases. Bands have no names, and need no look.
 
 ghost use Rattle.std.specs.Prelude.{None, Ok, Some, ⊤};
-ghost use Rattle.book_maker.specs.RulesFound.{counter_in, curfew_in};
-ghost use Rattle.fleet_rules.specs.inside.RawRules.{IsRawCounter, IsRawCurfew};
+ghost use Rattle.book_maker.specs.RulesFound.{airport_in, counter_in, curfew_in};
+ghost use Rattle.fleet_rules.specs.inside.RawRules.{IsRawAirport, IsRawCounter, IsRawCurfew};
 
+use crate::changes::{changes_of, standard_of};
 use crate::known::Known;
 use crate::looked_up::Entry;
 use crate::name_numbers::{number_in, numbers_in};
-use fleet_rules::{RawCounter, RawCurfew};
+use fleet_rules::{RawAirport, RawCounter, RawCurfew};
 use std::alloc::Global;
 use table_records::NoRow;
 use tail_book::{AircraftType, Airport, Counter, Curfew, Name};
@@ -33,23 +34,27 @@ impl Entry for AircraftType {
     }
 }
 
-impl Entry for Airport {
+impl Entry for RawAirport {
     type Found = Airport;
 
     ghost own_name = { λ p. Some p.name };
 
-    ghost uses = { λ _ p. Ok p };
+    ghost uses = { λ _ p. airport_in p };
 
-    ghost is_sound = { λ _. ⊤ };
+    ghost is_sound = { IsRawAirport };
 
     fn own_name(&self) -> Option<Name> {
         Some(self.name)
     }
 
-    fn found(&self, _alloc: Global, _known: &Known) -> Result<Airport, NoRow> {
+    fn found(&self, alloc: Global, _known: &Known) -> Result<Airport, NoRow> {
+        let Ok(changes) = changes_of(alloc, self.zone) else {
+            return Err(NoRow::Memory);
+        };
         Ok(Airport {
             name: self.name,
-            offset: self.offset,
+            offset: standard_of(self.zone),
+            changes,
             turn: self.turn,
         })
     }

@@ -26,7 +26,7 @@ abbrev pub kinds : List AircraftType
 kinds = record { name = codes "P"; rate = 1; turn = pos 30 } ∷ record { name = codes "Q"; rate = 2; turn = pos 30 } ∷ []
 
 abbrev pub airports : List AirportSeen
-airports = record { name = codes "ARN"; offset = pos 60; turn = pos 20 } ∷ record { name = codes "OSL"; offset = pos 60; turn = pos 20 } ∷ []
+airports = record { name = codes "ARN"; offset = pos 60; changes = []; turn = pos 20 } ∷ record { name = codes "OSL"; offset = pos 60; changes = []; turn = pos 20 } ∷ []
 
 abbrev pub book_with : List ActivitySeen → List TailSeen → List CounterSeen → List Band → BookSeen
 book_with activities tails counters bands = record {

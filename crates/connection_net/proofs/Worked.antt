@@ -27,7 +27,7 @@ kind_with name turn = record { name = name; rate = 1; turn = pos turn }
 abbrev rules_of : List AircraftType → RulesSeen
 rules_of kinds = record {
   kinds = kinds;
-  airports = (record { name = codes "ARN"; offset = pos 60; turn = pos 20 }) ∷ (record { name = codes "OSL"; offset = pos 60; turn = pos 20 }) ∷ [];
+  airports = (record { name = codes "ARN"; offset = pos 60; changes = []; turn = pos 20 }) ∷ (record { name = codes "OSL"; offset = pos 60; changes = []; turn = pos 20 }) ∷ [];
   curfews = [];
   counters = [];
   bands = [];

@@ -35,7 +35,7 @@ abbrev aircraft_of : List ℕ → TailSeen
 aircraft_of name = record { name = name; kind = 0; at = 0; ready = pos 300; fixed = 0; tags = []; avoid = []; carry = [] }
 
 abbrev airports : List AirportSeen
-airports = record { name = codes "ARN"; offset = pos 60; turn = pos 0 } ∷ record { name = codes "OSL"; offset = pos 60; turn = pos 0 } ∷ []
+airports = record { name = codes "ARN"; offset = pos 60; changes = []; turn = pos 0 } ∷ record { name = codes "OSL"; offset = pos 60; changes = []; turn = pos 0 } ∷ []
 
 abbrev book_of : List ActivitySeen → List TailSeen → ℕ → BookSeen
 book_of flights tails turn = record {

@@ -10,4 +10,6 @@ pub mod RulesTable
 pub mod Tail
 pub mod TomlValues
 pub mod TypeEntry
+pub mod Zone
+pub mod ZoneParts
 pub mod inside

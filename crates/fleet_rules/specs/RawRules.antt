@@ -1,9 +1,15 @@
 -- The rules as their table says them, with names in place of numbers.
 use Rattle.std.specs.Prelude.{ℕ, ℤ, Bool, List}
-use Rattle.tail_book.specs.Seen.{AirportSeen}
 use Rattle.tail_book.specs.declared.rules.AircraftType.{AircraftType}
 use Rattle.tail_book.specs.declared.rules.Band.{Band}
 use Rattle.tail_book.specs.declared.rules.CounterKind.{CounterKind}
+use Rattle.fleet_rules.specs.declared.zone_rule.ZoneRule.{ZoneRule}
+
+-- an airport: the rule of its local time, and its turn in minutes
+pub record RawAirportSeen : Type 0 where
+  pub name : List ℕ
+  pub zone : ZoneRule
+  pub turn : ℤ
 
 -- a curfew: local minutes of the day, and the names of its airport and its types
 pub record RawCurfewSeen : Type 0 where
@@ -25,7 +31,7 @@ pub record RawCounterSeen : Type 0 where
 -- all rules, each kind in the order of its entries
 pub record RawRulesSeen : Type 0 where
   pub kinds : List AircraftType
-  pub airports : List AirportSeen
+  pub airports : List RawAirportSeen
   pub curfews : List RawCurfewSeen
   pub counters : List RawCounterSeen
   pub bands : List Band

@@ -3,3 +3,4 @@ pub mod RawRules
 pub mod RawRulesParts
 pub mod Tail
 pub mod TailParts
+pub mod Zone

@@ -2,8 +2,31 @@
 //!
 //! Each value keeps what an entry has to keep by itself, so whoever takes one need not look again.
 
+use crate::ZoneRule;
 use std::marker::Model;
-use tail_book::{AircraftType, Airport, Band, CounterKind, Name};
+use tail_book::{AircraftType, Band, CounterKind, Name};
+
+/// An airport, with the rule of its local time. See `tail_book::Airport`.
+/// Contracts see the record of its fields, and that they are good by themselves.
+#[derive(Debug, Drop)]
+pub struct RawAirport {
+    pub name: Name,
+    pub zone: ZoneRule,
+    pub turn: i64,
+}
+
+impl Model for RawAirport {
+    ghost use Rattle.fleet_rules.specs.RawRules.{RawAirportSeen};
+    ghost use Rattle.fleet_rules.specs.inside.RawRules.{IsRawAirport};
+
+    ghost Value = { RawAirportSeen };
+
+    ghost use Rattle.fleet_rules.specs.inside.RawRulesParts.{airport_seen};
+
+    ghost view = { airport_seen };
+
+    ghost invariant = { λ p. IsRawAirport (airport_seen p) };
+}
 
 /// Hours in which an airport is closed, in local minutes of the day, 0 to 1439. See `tail_book::Curfew`.
 /// Contracts see the record of its fields, and that they are good by themselves.
@@ -61,7 +84,7 @@ impl Model for RawCounter {
 #[derive(Debug, Drop)]
 pub struct RawRules {
     pub kinds: Vec<AircraftType>,
-    pub airports: Vec<Airport>,
+    pub airports: Vec<RawAirport>,
     pub curfews: Vec<RawCurfew>,
     pub counters: Vec<RawCounter>,
     pub bands: Vec<Band>,

@@ -73,7 +73,8 @@ pub(crate) fn number_at(table: &Table, key: &str, least: i64, most: i64) -> Resu
     number_within(value.as_integer(), least, most)
 }
 
-fn number_within(number: Option<i64>, least: i64, most: i64) -> Result<i64, u8>
+/// The number from `least` to `most`, or code `NUMBER`.
+pub(crate) fn number_within(number: Option<i64>, least: i64, most: i64) -> Result<i64, u8>
     ensures value { result ≡ number_within least most number }
     ensures range { IfOk result (IsWithin least most) }
 {

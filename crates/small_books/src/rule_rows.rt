@@ -22,11 +22,7 @@ fn kinds(alloc: Global, turn: i64) -> Result<Vec<AircraftType>, Memory> {
 fn airports(alloc: Global) -> Result<Vec<Airport>, Memory> {
     let mut airports = Vec::new(alloc);
     for name in names_in_order().iter().take(4) {
-        airports.push(Airport {
-            name: *name,
-            offset: 0,
-            turn: 0,
-        })?;
+        airports.push(Airport::fixed(alloc, *name, 0, 0))?;
     }
     Ok(airports)
 }

@@ -23,8 +23,8 @@ A5,Q,ARN,2025-03-03T00:00,0,,,\nA6,Q,ARN,2025-03-03T00:00,0,,,\n";
 /// Two types, three airports, two curfews, three counters and two bands.
 pub const WEEK_RULES: &str =
     "[[type]]\nname = \"P\"\nrate = 10\nturn = 30\n[[type]]\nname = \"Q\"\nrate = 12\nturn = 45\n\
-[[airport]]\nname = \"ARN\"\noffset = 60\nturn = 20\n[[airport]]\nname = \"OSL\"\noffset = 60\nturn = 20\n\
-[[airport]]\nname = \"LHR\"\noffset = 0\nturn = 20\n\
+[[airport]]\nname = \"ARN\"\nzone = \"CET-1CEST,M3.5.0,M10.5.0/3\"\nturn = 20\n[[airport]]\nname = \"OSL\"\noffset = 60\nturn = 20\n\
+[[airport]]\nname = \"LHR\"\nzone = \"GMT0BST,M3.5.0/1,M10.5.0\"\nturn = 20\n\
 [[curfew]]\nairport = \"ARN\"\nfrom = \"23:00\"\nto = \"05:30\"\ntypes = []\nstart = true\nlanding = true\n\
 [[curfew]]\nairport = \"LHR\"\nfrom = \"23:00\"\nto = \"06:00\"\ntypes = []\nstart = false\nlanding = true\n\
 [[counter]]\nname = \"fh\"\nkind = \"minutes\"\nlimit = 600\nbases = [\"ARN\"]\nstop = 480\n\

@@ -11,3 +11,4 @@ mod shown;
 mod timetables;
 mod values;
 mod whole_tables;
+mod zones;

@@ -35,7 +35,7 @@ none_test : (b : Bool) → Decides (not b) (b ≡ false)
 none_test true = ((λ h. sym h), (λ h. sym h))
 none_test false = ((λ h. refl), (λ h. refl))
 
-int_lt_tested : (a b : ℤ) → Decides (int_lt a b) (a <ℤ b)
+pub int_lt_tested : (a b : ℤ) → Decides (int_lt a b) (a <ℤ b)
 int_lt_tested a b = grind (arith, ints)
 
 pub int_le_tested : (a b : ℤ) → Decides (int_le a b) (a ≤ℤ b)

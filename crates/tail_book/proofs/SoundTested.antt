@@ -9,23 +9,24 @@ use Rattle.std.proofs.lemmas.Int.{ints}
 use Rattle.std.proofs.lemmas.Bool.Decides.{Decides-eqb, Decides-ltb, Decides-and, Decides-not, Decides-like, Decides-by_and}
 use Rattle.std.proofs.lemmas.List.Kept.{AllPairs-cons}
 use Rattle.std.proofs.lemmas.Slice.Eq.{bytes_eq-Decides}
-use Rattle.std.specs.Prelude.{All, AllPairs, nat_lt, nat_le, not, bytes_eq, unsigned_abs, ◌+ℤ◌, ◌≢◌}
+use Rattle.std.specs.Prelude.{All, AllPairs, nat_lt, nat_le, not, bytes_eq, unsigned_abs, ◌+ℤ◌, ◌<ℤ◌, ◌≢◌}
 use Rattle.std.specs.List.{list_all}
 use Rattle.std.specs.Bool.{Decides}
 use Rattle.tail_book.specs.Seen.{ActivitySeen, TailSeen, CurfewSeen, CounterSeen, AirportSeen, RulesSeen, BookSeen}
 use Rattle.tail_book.specs.TableSeen.{CostTableSeen}
 use Rattle.tail_book.specs.declared.rules.AircraftType.{AircraftType}
 use Rattle.tail_book.specs.declared.rules.Band.{Band}
+use Rattle.tail_book.specs.declared.rules.Change.{Change}
 use Rattle.tail_book.specs.declared.rules.CounterKind.{CounterKind}
 use Rattle.tail_book.specs.declared.rules.CounterKind.TheVariants.{Minutes, Landings, Days}
 use Rattle.tail_book.specs.Name.{is_name}
 use Rattle.tail_book.specs.Ranges.{IsWithin}
-use Rattle.tail_book.specs.inside.Sound.{IsLimit, IsActivity, IsTail, IsKind, IsAirport, IsCurfew, IsCounter, IsBand, IsRules, IsBook, is_none_or_below}
+use Rattle.tail_book.specs.inside.Sound.{IsLimit, IsActivity, IsTail, IsKind, IsAirport, IsCurfew, IsCounter, IsBand, IsRules, IsBook, is_none_or_below, IsOffset}
 use Rattle.tail_book.specs.ActivityOrder.{comes_before}
 use Rattle.tail_book.specs.CostTable.{box_end, cost_unit, greatest_cost_in, IsCostTable}
 use Rattle.tail_book.specs.Pairs.{each_pair}
-use Rattle.tail_book.specs.inside.SoundTests.{is_within, are_below, is_activity, is_tail, is_kind, is_airport, is_curfew, is_limit, is_counter, is_band, are_rules, is_book, is_cost_table}
-use Rattle.tail_book.proofs.Deciding.{int_le_tested, same_test}
+use Rattle.tail_book.specs.inside.SoundTests.{is_within, are_below, is_activity, is_tail, is_kind, is_airport, is_curfew, is_limit, is_counter, is_band, are_rules, is_book, is_cost_table, is_offset, is_change, comes_sooner}
+use Rattle.tail_book.proofs.Deciding.{int_le_tested, int_lt_tested, same_test}
 
 at_most_tested : (a b : ℕ) → Decides (nat_le a b) (a ≤ b)
 at_most_tested a b = grind arith
@@ -104,10 +105,18 @@ kind_tested t =
     Decides-like (is_kind t) (λ h. record { name = h.0; rate = h.1.0; turn = h.1.1 }) (λ r. (r.name, (r.rate, r.turn)))
     (Decides-and _ _ (same_test (is_name t.name)) (Decides-and _ _ (at_most_tested t.rate 300) (within_tested (pos 0) (pos 1440) t.turn)))
 
+offset_tested : (z : ℤ) → Decides (is_offset z) (IsOffset z)
+offset_tested z = within_tested (negsuc 839) (pos 840) z
+
 airport_tested : (p : AirportSeen) → Decides (is_airport p) (IsAirport p)
 airport_tested p =
-    Decides-like (is_airport p) (λ h. record { name = h.0; offset = h.1.0; turn = h.1.1 }) (λ r. (r.name, (r.offset, r.turn)))
-    (Decides-and _ _ (same_test (is_name p.name)) (Decides-and _ _ (within_tested (negsuc 839) (pos 840) p.offset) (within_tested (pos 0) (pos 1440) p.turn)))
+    let changes = all_tested is_change (λ change. IsOffset change.offset) (λ change. offset_tested change.offset) p.changes in
+    let rising = pairs_tested comes_sooner (λ (a b : Change). a.at <ℤ b.at) (λ a b. int_lt_tested a.at b.at) p.changes in
+    Decides-like (is_airport p)
+    (λ h. record { name = h.0; offset = h.1.0; turn = h.1.1.0; changes = h.1.1.1.0; rising = h.1.1.1.1 })
+    (λ r. (r.name, (r.offset, (r.turn, (r.changes, r.rising)))))
+    (Decides-and _ _ (same_test (is_name p.name)) (Decides-and _ _ (offset_tested p.offset)
+    (Decides-and _ _ (within_tested (pos 0) (pos 1440) p.turn) (Decides-and _ _ changes rising))))
 
 curfew_tested : (rules : RulesSeen) (c : CurfewSeen) → Decides (is_curfew rules c) (IsCurfew rules c)
 curfew_tested rules c =

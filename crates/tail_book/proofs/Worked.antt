@@ -40,7 +40,7 @@ kind_with name rate turn = record { name = name; rate = rate; turn = pos turn }
 abbrev rules_of : List AircraftType → List CurfewSeen → List CounterSeen → List Band → RulesSeen
 rules_of kinds curfews counters bands = record {
   kinds = kinds;
-  airports = (record { name = codes "ARN"; offset = pos 60; turn = pos 20 }) ∷ (record { name = codes "OSL"; offset = pos 60; turn = pos 20 }) ∷ [];
+  airports = (record { name = codes "ARN"; offset = pos 60; changes = []; turn = pos 20 }) ∷ (record { name = codes "OSL"; offset = pos 60; changes = []; turn = pos 20 }) ∷ [];
   curfews = curfews;
   counters = counters;
   bands = bands;

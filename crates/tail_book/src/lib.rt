@@ -36,4 +36,4 @@ pub use outcome::Outcome;
 pub use place::Place;
 pub use plan::{Plan, Route};
 pub use raw_plan::{RawLine, RawPlan};
-pub use rules::{AircraftType, Airport, Band, Counter, CounterKind, Curfew, Rules};
+pub use rules::{AircraftType, Airport, Band, Change, Counter, CounterKind, Curfew, Rules};

@@ -9,7 +9,7 @@ ghost use Rattle.tail_book.specs.declared.limits.TheConstants.{VALUE_LIMIT};
 ghost use Rattle.tail_book.specs.inside.Sound.{is_none_or_below};
 ghost use Rattle.tail_book.specs.ActivityOrder.{comes_before};
 ghost use Rattle.tail_book.specs.Pairs.{each_pair};
-ghost use Rattle.tail_book.specs.inside.SoundTests.{is_within, is_moment, are_below, lasts, is_timed, names_of_book, has_short_lists, is_activity, comes_in, has_short_marks, carries_each, is_tail, is_kind, is_airport, is_curfew, is_limit, is_counter, is_band, are_kinds, are_airports, are_counters, are_curfews, are_bands, are_rules, are_activities, are_tails, is_book};
+ghost use Rattle.tail_book.specs.inside.SoundTests.{is_within, is_moment, are_below, lasts, is_timed, names_of_book, has_short_lists, is_activity, comes_in, has_short_marks, carries_each, is_tail, is_kind, is_offset, is_change, comes_sooner, is_airport, is_curfew, is_limit, is_counter, is_band, are_kinds, are_airports, are_counters, are_curfews, are_bands, are_rules, are_activities, are_tails, is_book};
 
 use crate::limits::{
     ACTIVITY_LIMIT, AIRPORT_LIMIT, BAND_COST_LIMIT, BAND_LIMIT, BASE_LIMIT, COUNT_LIMIT,
@@ -17,7 +17,7 @@ use crate::limits::{
     RATE_LIMIT, SPAN_LIMIT, STOP_LIMIT, TAIL_LIMIT, TYPE_LIMIT, VALUE_LIMIT,
 };
 use crate::{
-    Activity, AircraftType, Airport, Band, Counter, CounterKind, Curfew, Name, Rules, Tail,
+    Activity, AircraftType, Airport, Band, Change, Counter, CounterKind, Curfew, Name, Rules, Tail,
 };
 
 fn is_within(low: i64, high: i64, z: i64) -> bool
@@ -132,7 +132,53 @@ fn is_airport(p: &Airport) -> bool
     ensures { result ≡ is_airport p.now }
 {
     let _ = p.name.as_bytes();
-    is_within(-OFFSET_LIMIT, OFFSET_LIMIT, p.offset) && is_within(0, DAY, p.turn)
+    is_offset(p.offset)
+        && is_within(0, DAY, p.turn)
+        && each_change(&p.changes)
+        && changes_rise(&p.changes)
+}
+
+fn is_offset(z: i64) -> bool
+    ensures { result ≡ is_offset z }
+{
+    is_within(-OFFSET_LIMIT, OFFSET_LIMIT, z)
+}
+
+fn is_change(change: &Change) -> bool
+    ensures { result ≡ is_change change.now }
+{
+    is_offset(change.offset)
+}
+
+fn each_change(changes: &[Change]) -> bool
+    ensures { result ≡ list_all is_change changes.now }
+{
+    changes.iter().all(|change| is_change(change))
+}
+
+fn comes_sooner(a: &Change, b: &Change) -> bool
+    ensures { result ≡ comes_sooner a.now b.now }
+{
+    a.at < b.at
+}
+
+fn comes_soonest(first: &Change, others: &[Change]) -> bool
+    ensures { result ≡ list_all (comes_sooner first.now) others.now }
+{
+    others.iter().all(|other| comes_sooner(first, other))
+}
+
+fn changes_rise(changes: &[Change]) -> bool
+    ensures { result ≡ each_pair comes_sooner changes.now }
+{
+    let mut rest = changes;
+    while let Some((first, others)) = rest.split_first() {
+        if !comes_soonest(first, others) {
+            return false;
+        }
+        rest = others;
+    }
+    true
 }
 
 fn is_curfew(rules: &Rules, c: &Curfew) -> bool

@@ -48,3 +48,6 @@ pub const MISSING: u8 = 15;
 
 /// A ground activity that does not stay where it is.
 pub const GROUND: u8 = 16;
+
+/// No rule of local time where one is wanted, or an offset beside one.
+pub const ZONE: u8 = 18;

@@ -1,3 +1,4 @@
 pub mod NumberSets
+pub mod Offsets
 pub mod Permissions
 mod Turns

@@ -9,6 +9,7 @@ ghost use Rattle.tail_book.specs.Lookup.{activities, aircraft, kind_of, from_por
 ghost use Rattle.tail_book.specs.inside.Sound.{IsMoment};
 ghost use Rattle.tail_book.specs.Curfew.{local_minute, in_window, covers_type, forbids, stops, is_curfewed};
 
+use crate::local_time::local_offset;
 use tail_book::limits::DAY;
 use tail_book::{Book, Curfew};
 
@@ -18,7 +19,7 @@ pub fn local_minute(book: &Book, port: u32, moment: i64) -> i64
     requires moment { IsMoment moment }
     ensures { result ≡ local_minute book.now port moment }
 {
-    (moment + book.rules.airports[port as usize].offset).rem_euclid(DAY)
+    (moment + local_offset(book, port, moment)).rem_euclid(DAY)
 }
 
 /// Whether a local minute lies in the daily window.

@@ -3,9 +3,16 @@ use Rattle.std.specs.Prelude.{pos, ◌-ℤ◌, ◌≡◌, ◌≤◌, true, lengt
 use Rattle.tail_book.specs.Name.{is_name}
 use Rattle.tail_book.specs.declared.limits.TheConstants.{AIRPORT_LIMIT, BAND_LIMIT, BASE_LIMIT, COUNTER_LIMIT, CURFEW_LIMIT, DAY, ITEM_LIMIT, STOP_LIMIT, TYPE_LIMIT}
 use Rattle.tail_book.specs.Ranges.{IsWithin}
-use Rattle.tail_book.specs.inside.Sound.{IsAirport, IsBand, IsKind, IsLimit}
+use Rattle.tail_book.specs.inside.Sound.{IsBand, IsKind, IsLimit}
 use Rattle.table_records.specs.inside.NameLists.{AreNames}
-use Rattle.fleet_rules.specs.RawRules.{RawCurfewSeen, RawCounterSeen, RawRulesSeen}
+use Rattle.fleet_rules.specs.RawRules.{RawAirportSeen, RawCurfewSeen, RawCounterSeen, RawRulesSeen}
+use Rattle.fleet_rules.specs.inside.Zone.{IsZone}
+
+-- an airport's name is in the grammar, its rule of local time sound, and its turn at most a day
+pub record IsRawAirport (p : RawAirportSeen) : Type 0 where
+  pub name : is_name p.name ≡ true
+  pub zone : IsZone p.zone
+  pub turn : IsWithin (pos 0) DAY p.turn
 
 -- a curfew's ends are minutes of the local day, and its names are in the grammar, its types no more than a list has
 pub record IsRawCurfew (c : RawCurfewSeen) : Type 0 where
@@ -26,7 +33,7 @@ pub record IsRawCounter (c : RawCounterSeen) : Type 0 where
 pub record AreRawRules (rules : RawRulesSeen) : Type 0 where
   pub kinds : All IsKind rules.kinds
   pub few_kinds : length rules.kinds ≤ TYPE_LIMIT
-  pub airports : All IsAirport rules.airports
+  pub airports : All IsRawAirport rules.airports
   pub few_airports : length rules.airports ≤ AIRPORT_LIMIT
   pub curfews : All IsRawCurfew rules.curfews
   pub few_curfews : length rules.curfews ≤ CURFEW_LIMIT

@@ -1,8 +1,17 @@
--- The fields of the rules as contracts see them. For src/raw_rules.rt.
-use Rattle.fleet_rules.specs.RawRules.{RawCounterSeen, RawCurfewSeen, RawRulesSeen}
+-- The fields of the rules as contracts see them.
+use Rattle.fleet_rules.specs.RawRules.{RawAirportSeen, RawCounterSeen, RawCurfewSeen, RawRulesSeen}
+use Rattle.fleet_rules.specs.declared.raw_rules.RawAirport.TheInside.{Inside as InsideAirport}
 use Rattle.fleet_rules.specs.declared.raw_rules.RawCounter.TheInside.{Inside as InsideCounter}
 use Rattle.fleet_rules.specs.declared.raw_rules.RawCurfew.TheInside.{Inside as InsideCurfew}
 use Rattle.fleet_rules.specs.declared.raw_rules.RawRules.TheInside.{Inside as InsideRules}
+
+-- each field of an airport
+abbrev pub airport_seen : InsideAirport → RawAirportSeen
+airport_seen p = record {
+  name = p.name;
+  zone = p.zone;
+  turn = p.turn;
+}
 
 -- each field of a curfew, with a list for a `Vec`
 abbrev pub curfew_seen : InsideCurfew → RawCurfewSeen

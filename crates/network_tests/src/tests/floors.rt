@@ -101,17 +101,13 @@ fn kinds(alloc: Global) -> Result<Vec<AircraftType>, Memory> {
     Ok(vec![in alloc; kind]?)
 }
 
-fn airport(name: Name) -> Airport {
-    Airport {
-        name,
-        offset: 0,
-        turn: 0,
-    }
+fn airport(alloc: Global, name: Name) -> Airport {
+    Airport::fixed(alloc, name, 0, 0)
 }
 
 fn airports(alloc: Global) -> Result<Vec<Airport>, Memory> {
     let (arn, osl) = (Name::new(b"ARN".as_slice()), Name::new(b"OSL".as_slice()));
-    Ok(vec![in alloc; airport(arn), airport(osl)]?)
+    Ok(vec![in alloc; airport(alloc, arn), airport(alloc, osl)]?)
 }
 
 fn rules(alloc: Global, counters: Vec<Counter>) -> Result<Rules, Memory> {

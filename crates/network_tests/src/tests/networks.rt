@@ -45,11 +45,7 @@ fn kinds(alloc: Global, turns: &[i64]) -> Result<Vec<AircraftType>, Memory> {
 fn airports(alloc: Global, ports: usize) -> Result<Vec<Airport>, Memory> {
     let mut airports = Vec::new(alloc);
     for name in names_in_order().iter().take(ports) {
-        airports.push(Airport {
-            name: *name,
-            offset: 60,
-            turn: 20,
-        })?;
+        airports.push(Airport::fixed(alloc, *name, 60, 20))?;
     }
     Ok(airports)
 }

@@ -125,21 +125,9 @@ fn ports(alloc: Global) -> Result<Vec<Airport>, Memory> {
     let (arn, osl) = (Name::new(b"ARN".as_slice()), Name::new(b"OSL".as_slice()));
     let cph = Name::new(b"CPH".as_slice());
     let listed = vec![in alloc;
-        Airport {
-            name: arn,
-            offset: 60,
-            turn: 20
-        },
-        Airport {
-            name: osl,
-            offset: 60,
-            turn: 20
-        },
-        Airport {
-            name: cph,
-            offset: 60,
-            turn: 50
-        },
+        Airport::fixed(alloc, arn, 60, 20),
+        Airport::fixed(alloc, osl, 60, 20),
+        Airport::fixed(alloc, cph, 60, 50),
     ]?;
     Ok(listed)
 }

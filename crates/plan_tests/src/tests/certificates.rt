@@ -17,11 +17,7 @@ fn tail(alloc: Global, name: Name, kind: u32) -> Tail {
 fn rules(alloc: Global, first: (u64, i64), second: (u64, i64)) -> Result<Rules, Memory> {
     let kind = |name, (rate, turn)| AircraftType { name, rate, turn };
     let (p, q) = (Name::new(b"P".as_slice()), Name::new(b"Q".as_slice()));
-    let airport = |name| Airport {
-        name,
-        offset: 60,
-        turn: 20,
-    };
+    let airport = |name| Airport::fixed(alloc, name, 60, 20);
     let (x, y) = (Name::new(b"ARN".as_slice()), Name::new(b"OSL".as_slice()));
     Ok(Rules {
         kinds: vec![in alloc; kind(p, first), kind(q, second)]?,

@@ -41,13 +41,7 @@ fn rules(alloc: Global) -> Result<Rules, Memory>
             turn: 30
         },
     ]?;
-    let airports = vec![in alloc;
-        Airport {
-            name: Name::new(b"ARN".as_slice()),
-            offset: 60,
-            turn: 30
-        },
-    ]?;
+    let airports = vec![in alloc; Airport::fixed(alloc, Name::new(b"ARN".as_slice()), 60, 30)]?;
     let counter = Counter {
         name: Name::new(b"fh".as_slice()),
         kind: CounterKind::Minutes,

@@ -153,10 +153,14 @@ fn add_kinds(kinds: &mut Vec<AircraftType>, rows: &[(u64, i64)]) -> Result<(), M
     Ok(())
 }
 
-fn add_airports(airports: &mut Vec<Airport>, rows: &[(i64, i64)]) -> Result<(), Memory> {
+fn add_airports(
+    alloc: Global,
+    airports: &mut Vec<Airport>,
+    rows: &[(i64, i64)],
+) -> Result<(), Memory> {
     for (number, &(offset, turn)) in rows.iter().enumerate() {
         let name = name(number);
-        airports.push(Airport { name, offset, turn })?;
+        airports.push(Airport::fixed(alloc, name, offset, turn))?;
     }
     Ok(())
 }
@@ -201,7 +205,7 @@ fn add_bands(bands: &mut Vec<Band>, rows: &[(i64, u64)]) -> Result<(), Memory> {
 
 fn add_rules(alloc: Global, rules: &mut Rules, rows: &BookRows) -> Result<(), Memory> {
     add_kinds(&mut rules.kinds, rows.kinds)?;
-    add_airports(&mut rules.airports, rows.airports)?;
+    add_airports(alloc, &mut rules.airports, rows.airports)?;
     add_curfews(alloc, &mut rules.curfews, rows.curfews)?;
     add_counters(alloc, &mut rules.counters, rows.counters)?;
     add_bands(&mut rules.bands, rows.bands)

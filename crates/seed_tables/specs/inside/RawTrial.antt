@@ -2,11 +2,12 @@
 use Rattle.std.specs.Prelude.{ℕ, ◌+◌, ◌%◌, ◌==◌, pos, if◌then◌else◌, true, List, [], ◌∷◌, None, codes}
 use Rattle.tail_book.specs.declared.rules.CounterKind.TheVariants.{Landings, Minutes}
 use Rattle.timetable_reader.specs.Activity.{RawActivitySeen}
-use Rattle.fleet_rules.specs.RawRules.{RawRulesSeen}
+use Rattle.fleet_rules.specs.RawRules.{RawAirportSeen, RawRulesSeen}
 use Rattle.fleet_rules.specs.Tail.{RawTailSeen}
+use Rattle.fleet_rules.specs.declared.zone_rule.ZoneRule.TheVariants.{Fixed}
 use Rattle.seed_tables.specs.declared.flight.Flight.{Flight}
 use Rattle.seed_tables.specs.Rows.{aircraft_name, airport_name, flight_id, type_name}
-use Rattle.seed_tables.specs.inside.TrialBook.{airports_made, first_minute, kinds_made}
+use Rattle.seed_tables.specs.inside.TrialBook.{first_minute, kinds_made}
 
 abbrev pub type_names : ℕ → List (List ℕ)
 type_names k = if k % 2 == 0 then [] else codes "Q" ∷ []
@@ -45,10 +46,14 @@ raw_tails k (at ∷ more) = raw_tail k at ∷ raw_tails (k + 1) more
 abbrev pub all_airports : List (List ℕ)
 all_airports = codes "T0" ∷ codes "T1" ∷ codes "T2" ∷ codes "T3" ∷ codes "T4" ∷ []
 
+abbrev pub raw_airports : List (List ℕ) → List RawAirportSeen
+raw_airports [] = []
+raw_airports (name ∷ more) = record { name = name; zone = Fixed (pos 0); turn = pos 20 } ∷ raw_airports more
+
 abbrev pub raw_rules : RawRulesSeen
 raw_rules = record {
   kinds = kinds_made;
-  airports = airports_made;
+  airports = raw_airports all_airports;
   curfews = [];
   counters = record { name = codes "fh"; kind = Minutes; limit = pos 900; bases = all_airports; stop = pos 480 }
       ∷ record { name = codes "ldg"; kind = Landings; limit = pos 20; bases = []; stop = pos 1 } ∷ [];

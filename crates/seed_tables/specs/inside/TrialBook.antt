@@ -50,7 +50,7 @@ tails_made k [] = []
 tails_made k (at ∷ more) = tail_made k at ∷ tails_made (k + 1) more
 
 abbrev pub airport_made : List ℕ → AirportSeen
-airport_made name = record { name = name; offset = pos 0; turn = pos 20 }
+airport_made name = record { name = name; offset = pos 0; changes = []; turn = pos 20 }
 
 abbrev pub kinds_made : List AircraftType
 kinds_made = record { name = codes "P"; rate = 1; turn = pos 30 } ∷ record { name = codes "Q"; rate = 2; turn = pos 30 } ∷ []

@@ -474,8 +474,8 @@ const BOOK: &str = "Ok(Book { activities: [\
     rules: Rules { \
     kinds: [AircraftType { name: A320, rate: 2, turn: 35 }, \
     AircraftType { name: B738, rate: 3, turn: 40 }], \
-    airports: [Airport { name: ARN, offset: 60, turn: 20 }, \
-    Airport { name: CPH, offset: 60, turn: 25 }, Airport { name: OSL, offset: 60, turn: 30 }], \
+    airports: [Airport { name: ARN, offset: 60, changes: [], turn: 20 }, \
+    Airport { name: CPH, offset: 60, changes: [], turn: 25 }, Airport { name: OSL, offset: 60, changes: [], turn: 30 }], \
     curfews: [Curfew { airport: 2, from: 1380, to: 330, types: [1], starts: true, landings: false }], \
     counters: [Counter { name: fh, kind: Minutes, limit: 600, bases: [2, 0], stop: 480 }, \
     Counter { name: acheck, kind: Days, limit: 8640, bases: [], stop: 1 }], \

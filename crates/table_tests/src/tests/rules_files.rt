@@ -154,6 +154,9 @@ fn ranges_end_where_they_say(rt: HostRuntime) {
         ("airport", "offset", "-840", 0),
         ("airport", "offset", "840", 0),
         ("airport", "offset", "841", 9),
+        ("airport", "offset", "60\nzone = 1", 18),
+        ("airport", "offset", "841\nzone = \"UTC0\"", 18),
+        ("airport", "zone", "\"UTC0\"", 18),
         ("airport", "turn", "-1", 9),
         ("airport", "turn", "0", 0),
         ("airport", "turn", "1440", 0),
@@ -376,6 +379,21 @@ fn rules_are_read_up_to_their_first_refusal(rt: HostRuntime) {
             "[[type]]\nname = \"P\"\nrate = 1\noffset = 0\n",
             Err((14, 1)),
         ),
+        (
+            "[[airport]]\nname = \"A\"\nzone = \"UTC0\"\nturn = 0\n",
+            Ok([0, 1, 0, 0, 0]),
+        ),
+        (
+            "[[airport]]\nname = \"A\"\nzone = 0\nturn = 0\n",
+            Err((18, 1)),
+        ),
+        ("[[airport]]\nname = \"A\"\nzone = \"UTC\"\n", Err((18, 1))),
+        ("[[airport]]\nname = \"A\"\nturn = -1\n", Err((15, 1))),
+        (
+            "[[airport]]\nname = \"-\"\nzone = \"UTC\"\noffset = 0\n",
+            Err((5, 1)),
+        ),
+        ("[[airport]]\nzones = 1\nzone = \"UTC\"\n", Err((14, 1))),
     ] {
         assert!(rt; rules_told(rt.alloc(), text.as_bytes()) == want, "{text}");
     }

@@ -149,8 +149,8 @@ const RULES: &[Reading] = &[
         Table::Rules,
         EACH_KEY,
         "Ok(RawRules { kinds: [AircraftType { name: P, rate: 7, turn: 30 }], \
-         airports: [Airport { name: ARN, offset: 60, turn: 20 }, \
-         Airport { name: JFK, offset: -300, turn: 45 }], \
+         airports: [RawAirport { name: ARN, zone: Fixed(60), turn: 20 }, \
+         RawAirport { name: JFK, zone: Fixed(-300), turn: 45 }], \
          curfews: [RawCurfew { airport: ARN, from: 1380, to: 390, types: [P], \
          starts: false, landings: true }], \
          counters: [RawCounter { name: chk, kind: Days, limit: 2880, bases: [ARN, OSL], stop: 480 }, \

@@ -1,5 +1,5 @@
 -- What every book keeps: order, distinct names, ranges and limits.
-use Rattle.std.specs.Prelude.{ℕ, ℤ, pos, ◌*ℤ◌, ◌+ℤ◌, ◌-ℤ◌, ◌≤ℤ◌, ◌<◌, ◌≤◌, ◌≡◌, ◌≢◌, Bool, true, length, All, AllPairs, IsTrue, nat_lt, Option, None, Some}
+use Rattle.std.specs.Prelude.{ℕ, ℤ, pos, ◌*ℤ◌, ◌+ℤ◌, ◌-ℤ◌, ◌≤ℤ◌, ◌<ℤ◌, ◌<◌, ◌≤◌, ◌≡◌, ◌≢◌, Bool, true, length, All, AllPairs, IsTrue, nat_lt, Option, None, Some}
 use Rattle.tail_book.specs.declared.limits.TheConstants.{ACTIVITY_LIMIT, TAIL_LIMIT, TYPE_LIMIT, AIRPORT_LIMIT, CURFEW_LIMIT, COUNTER_LIMIT, BAND_LIMIT, ITEM_LIMIT, BASE_LIMIT, LAST_MOMENT, DAY, SPAN_LIMIT, OFFSET_LIMIT, STOP_LIMIT, VALUE_LIMIT, DAYS_LIMIT, RATE_LIMIT, FIXED_LIMIT, BAND_COST_LIMIT}
 use Rattle.tail_book.specs.Name.{is_name}
 use Rattle.tail_book.specs.Seen.{ActivitySeen, TailSeen, AirportSeen, CurfewSeen, CounterSeen, RulesSeen, BookSeen}
@@ -55,10 +55,16 @@ pub record IsKind (t : AircraftType) : Type 0 where
   pub turn : IsWithin (pos 0) DAY t.turn
 
 -- local time is at most 14 hours from UTC
+abbrev pub IsOffset : ℤ → Type 0
+IsOffset z = IsWithin (pos 0 -ℤ OFFSET_LIMIT) OFFSET_LIMIT z
+
+-- so it is before the first change and after each of them, and the moments of the changes rise
 pub record IsAirport (p : AirportSeen) : Type 0 where
   pub name : IsTrue (is_name p.name)
-  pub offset : IsWithin (pos 0 -ℤ OFFSET_LIMIT) OFFSET_LIMIT p.offset
+  pub offset : IsOffset p.offset
   pub turn : IsWithin (pos 0) DAY p.turn
+  pub changes : All (λ change. IsOffset change.offset) p.changes
+  pub rising : AllPairs (λ a b. a.at <ℤ b.at) p.changes
 
 -- a curfew's ends are minutes of the local day, and its airport and its at most 20 types are of the book
 pub record IsCurfew (rules : RulesSeen) (c : CurfewSeen) : Type 0 where

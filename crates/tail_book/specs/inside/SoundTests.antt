@@ -1,6 +1,6 @@
 -- What every book keeps, and what every cost table keeps, as tests that compute.
 -- For src/sound.rt, src/cost_table.rt and others.
-use Rattle.std.specs.Prelude.{ℕ, ℤ, pos, ◌+ℤ◌, ◌-ℤ◌, ◌*◌, ◌+◌, ◌^◌, ◌%◌, ◌==◌, Bool, ◌&&◌, not, List, length, nat_lt, nat_le, unsigned_abs, bytes_eq}
+use Rattle.std.specs.Prelude.{ℕ, ℤ, pos, ◌+ℤ◌, ◌-ℤ◌, ◌*◌, ◌+◌, ◌^◌, ◌%◌, ◌==◌, Bool, ◌&&◌, not, List, length, nat_lt, nat_le, int_lt, unsigned_abs, bytes_eq}
 use Rattle.std.specs.Bool.{Decides}
 use Rattle.std.specs.List.{list_all}
 use Rattle.tail_book.specs.declared.limits.TheConstants.{ACTIVITY_LIMIT, TAIL_LIMIT, TYPE_LIMIT, AIRPORT_LIMIT, CURFEW_LIMIT, COUNTER_LIMIT, BAND_LIMIT, ITEM_LIMIT, BASE_LIMIT, LAST_MOMENT, DAY, SPAN_LIMIT, OFFSET_LIMIT, STOP_LIMIT, VALUE_LIMIT, COUNT_LIMIT, RATE_LIMIT, FIXED_LIMIT, BAND_COST_LIMIT}
@@ -13,6 +13,7 @@ use Rattle.tail_book.specs.ActivityOrder.{comes_before}
 use Rattle.tail_book.specs.CostTable.{cost_unit, IsCostTable}
 use Rattle.tail_book.specs.declared.rules.AircraftType.{AircraftType}
 use Rattle.tail_book.specs.declared.rules.Band.{Band}
+use Rattle.tail_book.specs.declared.rules.Change.{Change}
 use Rattle.tail_book.specs.declared.rules.CounterKind.{CounterKind}
 use Rattle.tail_book.specs.declared.rules.CounterKind.TheVariants.{Minutes, Landings, Days}
 use Rattle.tail_book.specs.Pairs.{each_pair}
@@ -78,9 +79,25 @@ is_tail rules t = is_name t.name && (comes_in rules t && (has_short_marks rules 
 abbrev pub is_kind : AircraftType → Bool
 is_kind t = is_name t.name && (nat_le t.rate RATE_LIMIT && is_within (pos 0) DAY t.turn)
 
--- an airport's local time is at most 14 hours from UTC
+-- local time is at most 14 hours from UTC
+abbrev pub is_offset : ℤ → Bool
+is_offset z = is_within (pos 0 -ℤ OFFSET_LIMIT) OFFSET_LIMIT z
+
+-- it is so after a change
+abbrev pub is_change : Change → Bool
+is_change change = is_offset change.offset
+
+-- one change comes sooner than another
+abbrev pub comes_sooner : Change → Change → Bool
+comes_sooner a b = int_lt a.at b.at
+
+-- an airport's local time is at most 14 hours from UTC, and its changes come one after the other
 abbrev pub is_airport : AirportSeen → Bool
-is_airport p = is_name p.name && (is_within (pos 0 -ℤ OFFSET_LIMIT) OFFSET_LIMIT p.offset && is_within (pos 0) DAY p.turn)
+is_airport p =
+    is_name p.name
+    && (is_offset p.offset
+    && (is_within (pos 0) DAY p.turn
+    && (list_all is_change p.changes && each_pair comes_sooner p.changes)))
 
 -- a curfew of a book with these rules
 abbrev pub is_curfew : RulesSeen → CurfewSeen → Bool

@@ -123,6 +123,62 @@ const NIGHTS: &[Case<'_>] = &[
     ),
 ];
 
+// The usual rules, with the clocks of Sweden at Arlanda.
+const SUMMER_TIME: &str = "[[type]]\nname = \"P\"\nrate = 1\nturn = 30\n\
+[[airport]]\nname = \"ARN\"\nzone = \"CET-1CEST,M3.5.0,M10.5.0/3\"\nturn = 20\n\
+[[airport]]\nname = \"OSL\"\noffset = 60\nturn = 20\n";
+
+// The clocks are put forward on 30 March: the night before begins at 22:00 UTC, ends at 4:00, and the next begins at 21:00.
+#[test]
+fn curfews_follow_the_clocks(rt: HostRuntime) -> Result<(), Fail> {
+    each_ends_so(&rt, rt.alloc(), SUMMER_TIME, &[CLOCKS])
+}
+
+const CLOCKS: &[Case<'_>] = &[
+    (
+        "F1,flight,OSL,ARN,2025-03-29T20:59,2025-03-29T21:59,,,,\n",
+        AT_OSLO,
+        NIGHT,
+        0,
+        "optimal 60\nA1: F1\n",
+    ),
+    (
+        "F1,flight,OSL,ARN,2025-03-29T21:00,2025-03-29T22:00,,,,\n",
+        AT_OSLO,
+        NIGHT,
+        1,
+        "infeasible\n",
+    ),
+    (
+        "F1,flight,OSL,ARN,2025-03-30T02:59,2025-03-30T03:59,,,,\n",
+        AT_OSLO,
+        NIGHT,
+        1,
+        "infeasible\n",
+    ),
+    (
+        "F1,flight,OSL,ARN,2025-03-30T03:00,2025-03-30T04:00,,,,\n",
+        AT_OSLO,
+        NIGHT,
+        0,
+        "optimal 60\nA1: F1\n",
+    ),
+    (
+        "F1,flight,OSL,ARN,2025-03-30T19:59,2025-03-30T20:59,,,,\n",
+        AT_OSLO,
+        NIGHT,
+        0,
+        "optimal 60\nA1: F1\n",
+    ),
+    (
+        "F1,flight,OSL,ARN,2025-03-30T20:00,2025-03-30T21:00,,,,\n",
+        AT_OSLO,
+        NIGHT,
+        1,
+        "infeasible\n",
+    ),
+];
+
 // A flight, and two aircraft of which the second has another type.
 const EITHER: Run<'_> = Run {
     timetable: &[TIMETABLE, THERE],

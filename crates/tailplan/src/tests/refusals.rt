@@ -138,6 +138,48 @@ const BAD_RULES: &[Case<'_>] = &[
     ),
 ];
 
+// A type, and the first lines of an airport, which is the second entry.
+const NO_CLOCKS: &str =
+    "[[type]]\nname = \"P\"\nrate = 1\nturn = 30\n[[airport]]\nname = \"ARN\"\nturn = 20\n";
+
+// An airport has an offset or a rule of local time that is one, and not both.
+#[test]
+fn local_time_is_refused_at_its_entry(rt: HostRuntime) -> Result<(), Fail> {
+    each_ends_so(&rt, rt.alloc(), NO_CLOCKS, &[BAD_CLOCKS])
+}
+
+const BAD_CLOCKS: &[Case<'_>] = &[
+    (
+        THERE,
+        ONE_AT_ARLANDA,
+        "zone = \"CET\"\n",
+        3,
+        "refused 18 rules 2\n",
+    ),
+    (
+        THERE,
+        ONE_AT_ARLANDA,
+        "zone = \"CET-1CEST\"\n",
+        3,
+        "refused 18 rules 2\n",
+    ),
+    (
+        THERE,
+        ONE_AT_ARLANDA,
+        "zone = \"CET-1CEST,M3.5.0,M4.1.0\"\n",
+        3,
+        "refused 18 rules 2\n",
+    ),
+    (
+        THERE,
+        ONE_AT_ARLANDA,
+        "offset = 60\nzone = \"UTC0\"\n",
+        3,
+        "refused 18 rules 2\n",
+    ),
+    (THERE, ONE_AT_ARLANDA, "", 3, "refused 15 rules 2\n"),
+];
+
 // A flight from an airport that no rule names.
 const UNKNOWN: &str = "F1,flight,XXX,OSL,2025-03-03T06:00,2025-03-03T07:00,,,,\n";
 
