@@ -3,10 +3,10 @@
 -- By induction on the plan: what a plan flies is what its first route and the rest fly. A route that has the activity
 -- counts at least 1. So two such routes would make 2, and a test that only such routes pass is passed by no other.
 use Rattle.std.proofs.Common.{◌≡◌, ℕ, zero, suc, ◌+◌, ◌<◌, ◌≤◌, ◌⊎◌, inl, inr, Bool, true, false, cond, arith, List, [], ◌∷◌, length, refl, ap}
-use Rattle.std.proofs.lemmas.Bool.{or_cases, or_left, or_right, both_ways, cases_Bool}
+use Rattle.std.proofs.lemmas.Bool.{or_left, or_right, both_ways, cases_Bool}
 use Rattle.std.proofs.lemmas.List.Sums.{sum_by-cons, sum_by-append}
 use Rattle.std.specs.Prelude.{count_by, nat_eq, ◌||◌}
-use Rattle.std.specs.List.{list_any, flat_map}
+use Rattle.std.specs.List.{flat_map}
 use Rattle.tail_book.specs.Numbers.{contains}
 use Rattle.tail_book.specs.Plan.{times_flown, route_of}
 
