@@ -1,4 +1,4 @@
--- The Lagrangian bound: what duals and weights say of the cost of every plan. For src/laws/route_weights.rt.
+-- The Lagrangian bound: what duals and weights say of the cost of every plan, and when that reaches a cost to undercut.
 use Rattle.std.specs.Prelude.{◌≡◌, ℕ, ℤ, pos, negsuc, ◌+◌, ◌*◌, ◌/◌, ◌<◌, ◌≤◌, ◌+ℤ◌, ◌≤ℤ◌, ◌↔◌, List, length, slice_index_or}
 use Rattle.tail_book.specs.Seen.{BookSeen}
 use Rattle.tail_book.specs.TableSeen.{CostTableSeen}
@@ -38,7 +38,12 @@ bound_of (negsuc n) = 0
 abbrev pub rounded_up : ℤ → ℕ
 rounded_up z = (bound_of z + 999) / 1000
 
--- that is the least number of cost units that are as many thousandths
+-- the bound, in thousandths, passes what a plan of one cost unit less than the target comes to: costs are whole, so no
+-- plan is cheaper than the target
+abbrev pub Passes : ℕ → ℕ → Type 0
+Passes bound target = cost_unit * target < bound + cost_unit
+
+-- rounded up is the least number of cost units that are as many thousandths
 abbrev pub RoundedUpIsLeast : Type 0
 RoundedUpIsLeast = (z : ℤ) (c : ℕ) → (rounded_up z ≤ c) ↔ (z ≤ℤ pos (cost_unit * c))
 

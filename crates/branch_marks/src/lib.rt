@@ -4,6 +4,7 @@
 
 mod alive_rows;
 mod bit_rows;
+mod bound;
 mod carriers;
 mod event;
 mod fact;
@@ -15,6 +16,7 @@ mod row;
 mod ties;
 mod tree_log;
 
+pub use bound::{bound_below, bound_from, passes};
 pub use event::Event;
 pub use fact::{Fact, Pair};
 pub use marks::{Added, Marks};

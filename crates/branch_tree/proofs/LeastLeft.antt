@@ -12,7 +12,7 @@ use Rattle.tail_book.specs.TableSeen.{CostTableSeen}
 use Rattle.tail_book.specs.declared.outcome.Outcome.{Outcome}
 use Rattle.tail_book.specs.declared.outcome.Outcome.TheVariants.{Optimal, Infeasible, Between, Above}
 use Rattle.branch_marks.specs.declared.fact.Fact.{Fact}
-use Rattle.branch_marks.specs.Bound.{bound_of, rounded_up}
+use Rattle.branch_marks.specs.Bound.{bound_of, rounded_up, Passes}
 use Rattle.node_leaves.specs.declared.leaf.PricedLeaf.{PricedLeaf}
 use Rattle.node_leaves.specs.declared.leaf.PricedLeaf.TheVariants as leaf
 use Rattle.branch_tree.specs.declared.limit.Limit.{Limit}
@@ -26,7 +26,7 @@ use Rattle.node_leaves.specs.NodeEvents.{ending_events, node_events}
 use Rattle.node_leaves.specs.Place.{Open, root}
 use Rattle.branch_tree.specs.Search.{EndsUnder}
 use Rattle.branch_tree.specs.SearchTree.{HasReached, IsWithin, IsOutcomeOf, IsSearchTree}
-use Rattle.node_leaves.specs.Target.{no_target, IsBest, FallsTo, Passes}
+use Rattle.node_leaves.specs.Target.{no_target, IsBest, FallsTo}
 use Rattle.node_leaves.specs.inside.Leaf.{AnswersLeaf}
 use Rattle.branch_tree.specs.inside.SearchParts.{Counts, HasStopped, outcome_for}
 

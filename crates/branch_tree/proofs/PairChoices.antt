@@ -16,7 +16,7 @@ use Rattle.branch_marks.specs.declared.fact.Fact.{Fact}
 use Rattle.branch_marks.specs.declared.fact.Fact.TheVariants.{Cut}
 use Rattle.branch_marks.specs.declared.fact.Pair.{Pair}
 use Rattle.branch_marks.specs.declared.fact.Pair.TheVariants.{Fly, Link}
-use Rattle.branch_marks.specs.Bound.{AreLeastWeights, lagrangian, bound_of}
+use Rattle.branch_marks.specs.Bound.{AreLeastWeights, lagrangian, bound_of, Passes}
 use Rattle.branch_marks.specs.Branches.{IsUndecided}
 use Rattle.branch_marks.specs.Facts.{directly}
 use Rattle.branch_marks.specs.Marks.{LetsGo, IsUsable, FitsFrom, Fits}
@@ -25,7 +25,6 @@ use Rattle.branch_marks.specs.Weights.{WeighsAtLeast}
 use Rattle.dive_heuristic.specs.Choice.{IsCarrierOf}
 use Rattle.dive_heuristic.specs.LeastRoutes.{AreLeastRoutes, IsInOne, IsEachInOne}
 use Rattle.branch_tree.specs.Choice.{IsPairAt}
-use Rattle.node_leaves.specs.Target.{Passes}
 use Rattle.branch_tree.specs.inside.NodeBound.{IsUsedPlan}
 
 -- the activity behind a place of a route comes directly after the one at it

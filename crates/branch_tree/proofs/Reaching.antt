@@ -10,7 +10,8 @@ use Rattle.branch_marks.specs.declared.fact.Fact.{Fact}
 use Rattle.branch_marks.specs.ProofTree.{leaf_bound}
 use Rattle.node_leaves.specs.Place.{Open}
 use Rattle.node_leaves.specs.Node.{Ending, Node, closed_marks, IsBoundedBy, Bounds, Hole, Stuck, Bounded, Split}
-use Rattle.node_leaves.specs.Target.{Passes, bound_under}
+use Rattle.branch_marks.specs.Bound.{Passes}
+use Rattle.node_leaves.specs.Target.{bound_under}
 use Rattle.branch_tree.specs.Counted.{IsEndOf}
 use Rattle.branch_tree.specs.Closing.{IsLeftAt, IsLowest}
 use Rattle.branch_tree.specs.GrownTree.{StandsOver}

@@ -6,7 +6,8 @@ use Rattle.branch_marks.specs.ProofTree.{leaf_bound}
 use Rattle.node_leaves.specs.Priced.{IsPriced}
 use Rattle.node_leaves.specs.Place.{Open}
 use Rattle.node_leaves.specs.Node.{Ending, Hole, Stuck, Bounded, Split, Node, IsShownNode}
-use Rattle.node_leaves.specs.Target.{Passes, bound_under}
+use Rattle.branch_marks.specs.Bound.{Passes}
+use Rattle.node_leaves.specs.Target.{bound_under}
 
 -- a closing node: no fact was added, and its target is the final one
 pub record IsClosing (table : CostTableSeen) (book : BookSeen) (final : ℕ) (here : Open) (node : Node) : Type 0 where

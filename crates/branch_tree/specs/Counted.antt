@@ -5,7 +5,7 @@ use Rattle.tail_book.specs.Seen.{BookSeen}
 use Rattle.tail_book.specs.TableSeen.{CostTableSeen}
 use Rattle.branch_marks.specs.declared.fact.Fact.{Fact}
 use Rattle.branch_marks.specs.declared.fact.Pair.{Pair}
-use Rattle.branch_marks.specs.Bound.{lagrangian, bound_of, AreLeastWeights}
+use Rattle.branch_marks.specs.Bound.{lagrangian, bound_of, AreLeastWeights, Passes}
 use Rattle.branch_marks.specs.Following.{IsShut}
 use Rattle.branch_marks.specs.Settled.{IsSettled, AreRoutesOfWeights}
 use Rattle.branch_tree.specs.Choice.{IsChosenPair}
@@ -14,7 +14,7 @@ use Rattle.dive_heuristic.specs.Dive.{IsDiveOf, IsPlanned}
 use Rattle.node_leaves.specs.Place.{Open}
 use Rattle.node_leaves.specs.Node.{Ending, Node, closed_marks, IsShownNode, Hole, Stuck, Bounded, Split}
 use Rattle.node_leaves.specs.Priced.{HasLeastValues}
-use Rattle.node_leaves.specs.Target.{IsTarget, Passes, bound_under, HasUsed}
+use Rattle.node_leaves.specs.Target.{IsTarget, bound_under, HasUsed}
 
 -- a node is split only under settled duals, with routes out of the pool counted too, and where their bound still lies below
 -- the target; on the pair that routes of least weight choose, and after a dive from its marks under its duals, whose plan is

@@ -6,7 +6,7 @@ use Rattle.tail_book.specs.Lookup.{aircraft}
 use Rattle.tail_book.specs.Route.{IsLegalRoute}
 use Rattle.branch_marks.specs.declared.fact.Fact.{Fact}
 use Rattle.branch_marks.specs.declared.fact.Pair.{Pair}
-use Rattle.branch_marks.specs.Bound.{bound_of}
+use Rattle.branch_marks.specs.Bound.{bound_of, Passes}
 use Rattle.branch_marks.specs.Branches.{IsUndecided}
 use Rattle.branch_marks.specs.DeadEnds.{IsHole, IsStuck}
 use Rattle.branch_marks.specs.LogShown.{LogShown}
@@ -22,7 +22,6 @@ use Rattle.branch_tree.specs.Counted.{IsCounted, IsSplitOf}
 use Rattle.node_leaves.specs.Node.{Ending, Hole, Stuck, Bounded, Split, Node, closed_marks}
 use Rattle.node_leaves.specs.NodeEvents.{node_events}
 use Rattle.node_leaves.specs.Place.{Open}
-use Rattle.node_leaves.specs.Target.{Passes}
 
 -- a pool of the book, each route of which is legal for its aircraft
 pub record IsLegalPool (table : CostTableSeen) (book : BookSeen) (pool : PoolSeen) : Type 0 where

@@ -23,11 +23,11 @@ mod tools;
 mod tree_search;
 mod visit;
 
+pub use branch_marks::{bound_below, passes};
 pub use limit::Limit;
 pub use node::{node_step, node_step_with};
 pub use node_leaves::{
-    Best, NodePricer, PricedAll, PricedLeaf, Stop, bound_below, note_all, note_one, note_steps,
-    passes, price_leaf,
+    Best, NodePricer, PricedAll, PricedLeaf, Stop, note_all, note_one, note_steps, price_leaf,
 };
 pub use open_nodes::{OpenNode, OpenNodes};
 pub use optimum::least_plan;

@@ -11,9 +11,9 @@ ghost use Rattle.branch_tree.specs.inside.NodeBound.{IsWeighed};
 
 use crate::step::End;
 use crate::{Best, NodePricer, PricedAll};
-use branch_marks::Marks;
+use branch_marks::{Marks, passes};
 use connection_net::Net;
-use node_leaves::{cuts_of, lagrangian_of, passes};
+use node_leaves::{cuts_of, lagrangian_of};
 use restricted_master::Pool;
 use std::alloc::Global;
 use tail_book::laws::every_book_is_sound;

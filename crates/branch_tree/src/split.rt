@@ -18,11 +18,10 @@ use crate::cheaper_plans::exchange_near;
 use crate::node_bound::LeastRoutes;
 use crate::split_pair::chosen_pair;
 use crate::step::End;
-use branch_marks::Marks;
 use branch_marks::laws::routes_of_weights_are_plan;
+use branch_marks::{Marks, bound_from, passes};
 use connection_net::Net;
 use dive_heuristic::{Dive, Diver};
-use node_leaves::{bound_from, passes};
 use std::alloc::Global;
 use tail_book::{Book, CostTable, Duals, Memory};
 

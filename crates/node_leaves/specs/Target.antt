@@ -1,8 +1,8 @@
--- The cost to undercut, and when a bound reaches it. For src/best.rt and src/bounds.rt.
-use Rattle.std.specs.Prelude.{◌≡◌, ◌⊎◌, ℕ, ℤ, ◌+◌, ◌*◌, ◌<◌, ◌≤◌, ⊤, List, [], ◌∷◌, map, Option, Some, None}
+-- The cost to undercut, and what has used it. For src/best.rt and others.
+use Rattle.std.specs.Prelude.{◌≡◌, ◌⊎◌, ℕ, ℤ, ◌+◌, ◌≤◌, ⊤, List, [], ◌∷◌, map, Option, Some, None}
 use Rattle.tail_book.specs.Seen.{BookSeen}
 use Rattle.tail_book.specs.TableSeen.{CostTableSeen}
-use Rattle.tail_book.specs.CostTable.{cost_unit, greatest_cost_in, plan_cost_in}
+use Rattle.tail_book.specs.CostTable.{greatest_cost_in, plan_cost_in}
 use Rattle.tail_book.specs.Truth.{SomePlanCostsBy, IsPlanIn}
 use Rattle.branch_marks.specs.Bound.{lagrangian, bound_of}
 use Rattle.branch_marks.specs.ProofTree.{Cover}
@@ -22,11 +22,6 @@ IsTarget table book target = (target ≡ no_target table) ⊎ SomePlanCostsBy (p
 abbrev pub IsBest : CostTableSeen → BookSeen → Option (List (List ℕ)) → ℕ → Type 0
 IsBest table book None target = target ≡ no_target table
 IsBest table book (Some plan) target = IsPlanIn table book target plan
-
--- the bound, in thousandths, passes what a plan of one cost unit less than the target comes to: costs are whole, so no
--- plan is cheaper than the target
-abbrev pub Passes : ℕ → ℕ → Type 0
-Passes bound target = cost_unit * target < bound + cost_unit
 
 -- the bound of duals and covers, in thousandths
 abbrev pub bound_under : List ℤ → List Cover → ℕ

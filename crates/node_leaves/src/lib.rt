@@ -3,7 +3,6 @@
 #![tactic(auto)]
 
 mod best;
-mod bounds;
 mod covers;
 pub mod laws;
 mod leaf;
@@ -17,7 +16,6 @@ mod stop;
 mod suggestions;
 
 pub use best::Best;
-pub use bounds::{bound_below, bound_from, passes};
 pub use covers::{note_bounded, note_stuck};
 pub use leaf::{PricedLeaf, lagrangian_of, price_leaf};
 pub use node_pricer::{NodePricer, PricedAll};

@@ -5,12 +5,11 @@ use Rattle.tail_book.specs.TableSeen.{CostTableSeen}
 use Rattle.tail_book.specs.CostTable.{plan_cost_in}
 use Rattle.tail_book.specs.Plan.{IsLegalPlan}
 use Rattle.branch_marks.specs.declared.fact.Fact.{Fact}
-use Rattle.branch_marks.specs.Bound.{AreLeastWeights, lagrangian, bound_of}
+use Rattle.branch_marks.specs.Bound.{AreLeastWeights, lagrangian, bound_of, Passes}
 use Rattle.branch_marks.specs.Settled.{AreRoutesOfWeights}
 use Rattle.branch_tree.specs.declared.node_bound.LeastRoutes.{LeastRoutes}
 use Rattle.branch_tree.specs.declared.node_bound.Weighed.{Weighed}
 use Rattle.branch_tree.specs.declared.node_bound.Weighed.TheVariants as weighed
-use Rattle.node_leaves.specs.Target.{Passes}
 use Rattle.branch_tree.specs.inside.StepParts.{IsEndFound}
 
 -- where the routes are a legal plan, the target is at most its cost

@@ -6,7 +6,7 @@ use Rattle.tail_book.specs.TableSeen.{CostTableSeen}
 use Rattle.tail_book.specs.Lookup.{aircraft}
 use Rattle.connection_net.specs.Seen.{NetSeen}
 use Rattle.branch_marks.specs.declared.fact.Fact.{Fact}
-use Rattle.branch_marks.specs.Bound.{AreLeastWeights, lagrangian, bound_of}
+use Rattle.branch_marks.specs.Bound.{AreLeastWeights, lagrangian, bound_of, Passes}
 use Rattle.branch_marks.specs.DeadEnds.{IsStuck}
 use Rattle.branch_marks.specs.Following.{FollowInTurn}
 use Rattle.branch_marks.specs.LogShown.{LogShown}
@@ -21,7 +21,6 @@ use Rattle.branch_tree.specs.Counted.{IsEndOf}
 use Rattle.node_leaves.specs.Node.{Ending, IsShownEnding}
 use Rattle.node_leaves.specs.NodeEvents.{step_events, ending_events}
 use Rattle.branch_tree.specs.Step.{IsTrueSplit, AnswersNode}
-use Rattle.node_leaves.specs.Target.{Passes}
 use Rattle.node_leaves.specs.inside.Leaf.{IsReady}
 
 -- the tools are of the book, and right for these marks

@@ -1,10 +1,9 @@
 use Rattle.std.proofs.Common.{◌≡◌, ℕ, ℤ, Option, rules, subst, to_z, of_z}
 use Rattle.std.specs.Int.{w128}
 use Rattle.std.proofs.lemmas.Int.{to_z-of_z}
-use Rattle.branch_marks.specs.Bound.{bound_of, rounded_up}
+use Rattle.branch_marks.specs.Bound.{bound_of, rounded_up, Passes}
 use Rattle.node_leaves.specs.declared.leaf.PricedLeaf.{PricedLeaf}
 use Rattle.branch_tree.specs.Closing.{IsLowest}
-use Rattle.node_leaves.specs.Target.{Passes}
 use Rattle.node_leaves.specs.inside.Leaf.{AnswersLeaf}
 use Rattle.branch_tree.proofs.LeastLeft.{bound_left, lowest_first, lowest_less}
 use Rattle.branch_tree.proofs.second_pass.lower.Goals as goal

@@ -1,10 +1,9 @@
 use Rattle.std.proofs.Common.{◌≡◌, ◌∙◌, ℕ, ℤ, pos, List, rules, refl, ap, sym, subst, to_z, of_z}
 use Rattle.std.proofs.lemmas.Int.{to_z-of_z}
 use Rattle.std.specs.Int.{w128}
-use Rattle.branch_marks.specs.Bound.{bound_of}
+use Rattle.branch_marks.specs.Bound.{bound_of, Passes}
 use Rattle.branch_marks.specs.Branches.{IsUndecided}
 use Rattle.dive_heuristic.specs.LeastRoutes.{AreLeastRoutes, IsEachInOne}
-use Rattle.node_leaves.specs.Target.{Passes}
 use Rattle.branch_tree.specs.Counted.{IsSplitOf}
 use Rattle.branch_tree.specs.Step.{IsTrueSplit}
 use Rattle.branch_tree.proofs.PairChoices.{least_routes, plan_passes}

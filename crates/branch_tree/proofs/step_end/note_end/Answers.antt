@@ -1,8 +1,7 @@
 use Rattle.std.proofs.Common.{◌≡◌, ◌∙◌, ℤ, List, map, refl, sym, subst}
-use Rattle.branch_marks.specs.Bound.{AreLeastWeights, lagrangian, bound_of}
+use Rattle.branch_marks.specs.Bound.{AreLeastWeights, lagrangian, bound_of, Passes}
 use Rattle.branch_tree.specs.declared.step.End.{End}
 use Rattle.node_leaves.specs.Node.{Stuck, Bounded, Split}
-use Rattle.node_leaves.specs.Target.{Passes}
 use Rattle.node_leaves.specs.inside.Leaf.{Whole}
 use Rattle.branch_tree.specs.inside.StepParts.{IsEndFound}
 use Rattle.branch_tree.proofs.step_end.note_end.Goals as goal

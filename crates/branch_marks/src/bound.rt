@@ -4,8 +4,7 @@
 //! exact: sums are of 128 bits, and nothing is subtracted, since a target may be 0.
 
 ghost use Rattle.std.specs.Prelude.{◌≡◌, ◌↔◌, ◌+◌, ◌/◌, pos, IsTrue, IfSome, IfNone};
-ghost use Rattle.branch_marks.specs.Bound.{bound_of, rounded_up};
-ghost use Rattle.node_leaves.specs.Target.{Passes};
+ghost use Rattle.branch_marks.specs.Bound.{bound_of, rounded_up, Passes};
 
 use tail_book::COST_UNIT;
 
