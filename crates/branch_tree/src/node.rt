@@ -23,7 +23,7 @@ use crate::node_bound::{Weighed, weigh};
 use crate::rounds::ascend;
 use crate::settled::settle_node;
 use crate::split::dive_and_take;
-use crate::step::End;
+use crate::step::NodeEnd;
 use crate::step_end::note_end;
 use crate::step_start::{keep_fitting, shut_and_tell};
 use crate::{Best, NodePricer, NodeTools, Step, Stop};
@@ -47,7 +47,7 @@ fn try_shortage(
     duals: &mut Duals,
     best: &mut Best,
     prices: &mut NodePricer,
-) -> Result<Option<End>, Memory>
+) -> Result<Option<NodeEnd>, Memory>
     requires ready { IsReady table.now book.now net.now marks.now prices.old }
     requires duals { AreDuals table.now book.now duals.old.values }
     requires best { IsBest table.now book.now best.old.plan best.old.target }
@@ -78,7 +78,7 @@ fn begin_root(
     duals: &mut Duals,
     best: &mut Best,
     tools: &mut NodeTools,
-) -> Result<Option<End>, Memory>
+) -> Result<Option<NodeEnd>, Memory>
     requires tools { AreToolsFor table.now book.now net.now marks.now tools.old }
     requires duals { AreDuals table.now book.now duals.old.values }
     requires best { IsBest table.now book.now best.old.plan best.old.target }
@@ -122,7 +122,7 @@ fn begin(
     best: &mut Best,
     tools: &mut NodeTools,
     is_root: bool,
-) -> Result<Option<End>, Memory>
+) -> Result<Option<NodeEnd>, Memory>
     requires tools { AreToolsFor table.now book.now net.now marks.now tools.old }
     requires duals { AreDuals table.now book.now duals.old.values }
     requires best { IsBest table.now book.now best.old.plan best.old.target }
@@ -151,7 +151,7 @@ fn find_end(
     best: &mut Best,
     tools: &mut NodeTools,
     is_root: bool,
-) -> Result<End, Memory>
+) -> Result<NodeEnd, Memory>
     requires tools { AreToolsFor table.now book.now net.now marks.now tools.old }
     requires somebody { HasNoHole book.now marks.now.facts }
     requires duals { AreDuals table.now book.now duals.old.values }

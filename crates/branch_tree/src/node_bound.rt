@@ -9,7 +9,7 @@ ghost use Rattle.node_leaves.specs.Target.{IsBest};
 ghost use Rattle.node_leaves.specs.inside.Leaf.{IsReady};
 ghost use Rattle.branch_tree.specs.inside.NodeBound.{IsWeighed};
 
-use crate::step::End;
+use crate::step::NodeEnd;
 use crate::{Best, NodePricer, PricedAll};
 use branch_marks::{Marks, passes};
 use connection_net::Net;
@@ -23,7 +23,7 @@ use tail_book::{Book, CostTable, Duals, Memory, Route};
 #[derive(Debug, Drop)]
 pub enum Weighed {
     /// The node ends so.
-    Ended(End),
+    Ended(NodeEnd),
     /// The Lagrangian sum leaves room below the target.
     Open(LeastRoutes),
 }
@@ -62,13 +62,13 @@ pub fn weigh(
     let cuts = cuts_of(alloc, book, pool, duals)?;
     let priced = prices.price_all(alloc, book, table, net, marks, duals, &cuts, slack)?;
     let (values, routes) = match priced {
-        PricedAll::Stuck(k) => return Ok(Weighed::Ended(End::Stuck(k))),
+        PricedAll::Stuck(k) => return Ok(Weighed::Ended(NodeEnd::Stuck(k))),
         PricedAll::Least { values, routes } => (values, routes),
     };
     best.try_routes(alloc, book, table, &routes)?;
     let sum = lagrangian_of(duals, &values);
     if passes(sum, best.target) {
-        return Ok(Weighed::Ended(End::Bounded(values)));
+        return Ok(Weighed::Ended(NodeEnd::Bounded(values)));
     }
     Ok(Weighed::Open(LeastRoutes {
         values,

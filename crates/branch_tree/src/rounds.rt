@@ -15,7 +15,7 @@ ghost use Rattle.branch_tree.specs.inside.NodeBound.{IsWeighed};
 
 use crate::new_routes::add_routes;
 use crate::node_bound::{Weighed, weigh};
-use crate::step::End;
+use crate::step::NodeEnd;
 use crate::{Best, NodePricer};
 use branch_marks::{Marks, passes};
 use connection_net::Net;
@@ -119,7 +119,7 @@ fn look(
     )?;
     try_pool(alloc, book, table, pool, duals, best, temperature)?;
     if passes(found.sum, best.target) {
-        return Ok(Weighed::Ended(End::Bounded(found.values)));
+        return Ok(Weighed::Ended(NodeEnd::Bounded(found.values)));
     }
     Ok(Weighed::Open(found))
 }
@@ -136,7 +136,7 @@ fn round(
     best: &mut Best,
     prices: &mut NodePricer,
     ascent: &mut Ascent,
-) -> Result<Option<End>, Memory>
+) -> Result<Option<NodeEnd>, Memory>
     requires ready { IsReady table.now book.now net.now marks.now prices.old }
     requires duals { AreDuals table.now book.now duals.old.values }
     requires center { AreDuals table.now book.now ascent.old.best }
@@ -209,7 +209,7 @@ pub fn ascend(
     duals: &mut Duals,
     best: &mut Best,
     prices: &mut NodePricer,
-) -> Result<Option<End>, Memory>
+) -> Result<Option<NodeEnd>, Memory>
     requires ready { IsReady table.now book.now net.now marks.now prices.old }
     requires duals { AreDuals table.now book.now duals.old.values }
     requires pool { IsFittingPool table.now book.now marks.now.facts pool.old }

@@ -17,7 +17,7 @@ ghost use Rattle.node_leaves.specs.inside.FittingPool.{IsFittingPool};
 use crate::new_routes::add_routes;
 use crate::node_bound::{Weighed, weigh};
 use crate::split::split;
-use crate::step::End;
+use crate::step::NodeEnd;
 use crate::{Best, NodePricer, NodeTools};
 use branch_marks::Marks;
 use branch_marks::laws::{least_in_is_least, settled_over_pool_is_settled};
@@ -38,7 +38,7 @@ fn begin(
     duals: &Duals,
     best: &mut Best,
     prices: &mut NodePricer,
-) -> Result<Option<End>, Memory>
+) -> Result<Option<NodeEnd>, Memory>
     requires ready { IsReady table.now book.now net.now marks.now prices.old }
     requires duals { AreDuals table.now book.now duals.now.values }
     requires pool { IsFittingPool table.now book.now marks.now.facts pool.old }
@@ -72,7 +72,7 @@ fn turn(
     duals: &Duals,
     best: &mut Best,
     tools: &mut NodeTools,
-) -> Result<Option<End>, Memory>
+) -> Result<Option<NodeEnd>, Memory>
     requires tools { AreToolsFor table.now book.now net.now marks.now tools.old }
     requires somebody { HasNoHole book.now marks.now.facts }
     requires settled { IsSettledOver table.now book.now pool.old.entries duals.now.values }
@@ -136,7 +136,7 @@ pub fn settle_node(
     duals: &mut Duals,
     best: &mut Best,
     tools: &mut NodeTools,
-) -> Result<End, Memory>
+) -> Result<NodeEnd, Memory>
     requires tools { AreToolsFor table.now book.now net.now marks.now tools.old }
     requires somebody { HasNoHole book.now marks.now.facts }
     requires duals { AreDuals table.now book.now duals.old.values }

@@ -17,7 +17,7 @@ use crate::Best;
 use crate::cheaper_plans::exchange_near;
 use crate::node_bound::LeastRoutes;
 use crate::split_pair::chosen_pair;
-use crate::step::End;
+use crate::step::NodeEnd;
 use branch_marks::laws::routes_of_weights_are_plan;
 use branch_marks::{Marks, bound_from, passes};
 use connection_net::Net;
@@ -99,7 +99,7 @@ pub fn split(
     best: &mut Best,
     found: LeastRoutes,
     diver: &mut Diver,
-) -> Result<End, Memory>
+) -> Result<NodeEnd, Memory>
     requires table { IsTableFor book.now table.now }
     requires net { net.now ≡ net_of book.now }
     requires marks { AreMarksOf book.now marks.now }
@@ -116,13 +116,13 @@ pub fn split(
     routes_of_weights_are_plan();
     let tally = &mut diver.tally;
     let Some(pair) = chosen_pair(book, table, marks, duals, &found.routes, tally) else {
-        return Ok(End::Bounded(found.values));
+        return Ok(NodeEnd::Bounded(found.values));
     };
     let dive = dive_and_use(alloc, book, table, net, marks, duals, best, diver)?;
     if passes(found.sum, best.target) {
-        return Ok(End::Bounded(found.values));
+        return Ok(NodeEnd::Bounded(found.values));
     }
-    Ok(End::Split {
+    Ok(NodeEnd::Split {
         pair,
         bound: bound_from(found.sum),
         routes: found.routes,

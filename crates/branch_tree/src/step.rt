@@ -29,7 +29,7 @@ pub enum Step {
 
 /// The end of a node in which no activity is a hole.
 #[derive(Debug, Drop)]
-pub enum End {
+pub enum NodeEnd {
     /// No legal route of this aircraft fits.
     Stuck(u32),
     /// The least weight of each aircraft, in thousandths of a cost unit, with which the Lagrangian sum reaches

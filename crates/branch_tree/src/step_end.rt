@@ -8,7 +8,7 @@ ghost use Rattle.branch_tree.specs.Step.{IsTrueStep};
 ghost use Rattle.node_leaves.specs.inside.Leaf.{IsReady, IsCutAtLeaf};
 ghost use Rattle.branch_tree.specs.inside.StepParts.{IsEndFound, IsEndNoted};
 
-use crate::step::End;
+use crate::step::NodeEnd;
 use crate::{NodePricer, Step, Stop};
 use branch_marks::laws::undecided_pairs_are_of_book;
 use branch_marks::{Event, Marks, TreeLog, bound_from};
@@ -27,7 +27,7 @@ pub fn note_end<L: TreeLog>(
     marks: &Marks,
     duals: &Duals,
     target: u64,
-    end: End,
+    end: NodeEnd,
     prices: &mut NodePricer,
     log: &mut L,
 ) -> Result<Step, Stop>
@@ -45,13 +45,13 @@ pub fn note_end<L: TreeLog>(
     every_book_is_sound(book);
     undecided_pairs_are_of_book();
     match end {
-        End::Stuck(k) => {
+        NodeEnd::Stuck(k) => {
             if let Err(stop) = note_stuck(alloc, book, table, net, marks, k, prices, log) {
                 return Err(stop);
             }
             Ok(Step::Stuck(k))
         }
-        End::Bounded(values) => {
+        NodeEnd::Bounded(values) => {
             if let Err(stop) = note_bounded(
                 alloc, book, table, net, marks, duals, &values, prices, log,
             ) {
@@ -59,7 +59,7 @@ pub fn note_end<L: TreeLog>(
             }
             Ok(Step::Bounded(bound_from(lagrangian_of(duals, &values))))
         }
-        End::Split {
+        NodeEnd::Split {
             pair,
             bound,
             routes,

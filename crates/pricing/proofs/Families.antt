@@ -24,7 +24,7 @@ use Rattle.label_store.specs.Seen.{StoreSeen}
 use Rattle.label_store.specs.Buckets.{row_at}
 use Rattle.label_store.specs.Store.{bucket_of, IsStore, IsRowOf}
 use Rattle.label_store.specs.inside.Laws.{IsCoveredAt}
-use Rattle.pricing.specs.declared.end.End.{End}
+use Rattle.pricing.specs.declared.end.RouteEnd.{RouteEnd}
 use Rattle.pricing.specs.Rows.{weight_of, counters_of, label_of, labels_of, route_to}
 use Rattle.pricing.specs.inside.Truth.{AreTrue}
 use Rattle.pricing.specs.inside.Filled.{AreFilled}
@@ -95,7 +95,7 @@ module _ (store : StoreSeen) (sound : IsStore store) where
           none.next b (below_node b lt) (subst (λ (a : ℕ). MayEnd marks k (After a)) (row_of_bucket b j lt has).place may) j has);
     })
 
-    pub least : ClosedFamiliesBound → FitsIsUsableToItsEnd → (end : End) → IsBook book → k < aircraft book → AreTrue table book marks k duals store
+    pub least : ClosedFamiliesBound → FitsIsUsableToItsEnd → (end : RouteEnd) → IsBook book → k < aircraft book → AreTrue table book marks k duals store
         → IsClosedFamily table book marks k duals (labels_of store) → IsLeastEnd book marks k store (activities book) (Some end)
         → IsLeastWeight table book marks k duals end.value × IsRouteOfWeight table book marks k duals end.value (route_to store end.row)
     least bound fits end sound_book hk truths family best =

@@ -24,14 +24,14 @@ use tail_book::{Book, Memory, Place, Route};
 
 /// A place where the aircraft may end: its weight there, and the row, none at the carry-in.
 #[derive(Clone, Copy, Debug)]
-pub struct End {
+pub struct RouteEnd {
     /// In thousandths of a cost unit.
     pub value: i64,
     pub row: Option<usize>,
 }
 
 // The lighter of two ends, where there was one.
-fn lighter(best: Option<End>, end: End) -> Option<End>
+fn lighter(best: Option<RouteEnd>, end: RouteEnd) -> Option<RouteEnd>
     ensures here { IsAtMost result end.value }
     ensures stays { (most : ℤ) → IsAtMost best most → IsAtMost result most }
     ensures one { (result ≡ best) ⊎ (result ≡ Some end) }
@@ -64,8 +64,8 @@ fn least_at(
     k: u32,
     store: &Store,
     b: u32,
-    best: Option<End>,
-) -> Option<End>
+    best: Option<RouteEnd>,
+) -> Option<RouteEnd>
     requires activity { b < activities book.now }
     requires nodes { length store.now.buckets ≡ activities book.now }
     requires may { MayEnd marks.now.facts k (After b) }
@@ -81,7 +81,7 @@ fn least_at(
         let value = weight_of(store, j);
         least = lighter(
             least,
-            End {
+            RouteEnd {
                 value,
                 row: Some(j),
             },
@@ -97,8 +97,8 @@ fn least_behind(
     k: u32,
     store: &Store,
     b: u32,
-    best: Option<End>,
-) -> Option<End>
+    best: Option<RouteEnd>,
+) -> Option<RouteEnd>
     requires marks { AreMarksOf book.now marks.now }
     requires aircraft { k < aircraft book.now }
     requires activity { b < activities book.now }
@@ -115,14 +115,14 @@ fn least_behind(
 }
 
 // The end at the carry-in, if the aircraft may end there.
-fn first_end(book: &Book, marks: &Marks, k: u32, store: &Store) -> Option<End>
+fn first_end(book: &Book, marks: &Marks, k: u32, store: &Store) -> Option<RouteEnd>
     requires marks { AreMarksOf book.now marks.now }
     requires aircraft { k < aircraft book.now }
     ensures one { IfSome result (IsEnd book.now marks.now.facts k store.now) }
     ensures first { MayEnd marks.now.facts k Carry → IsAtMost result (pos 0) }
 {
     if marks.may_end(book, k, Place::Carry) {
-        Some(End {
+        Some(RouteEnd {
             value: 0,
             row: None,
         })
@@ -132,7 +132,7 @@ fn first_end(book: &Book, marks: &Marks, k: u32, store: &Store) -> Option<End>
 }
 
 /// The lightest end.
-pub fn least_end(book: &Book, marks: &Marks, k: u32, store: &Store) -> Option<End>
+pub fn least_end(book: &Book, marks: &Marks, k: u32, store: &Store) -> Option<RouteEnd>
     requires marks { AreMarksOf book.now marks.now }
     requires aircraft { k < aircraft book.now }
     requires nodes { length store.now.buckets ≡ activities book.now }

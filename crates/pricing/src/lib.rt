@@ -19,7 +19,7 @@ mod step;
 mod waiting;
 mod window;
 
-pub use end::{spelled, weight_of};
+pub use end::{RouteEnd, spelled, weight_of};
 pub use exact_price::price;
 pub use priced::Priced;
 pub use pricer::Pricer;

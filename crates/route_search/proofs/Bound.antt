@@ -18,18 +18,19 @@ use Rattle.branch_marks.specs.Marks.{Fits, FitsFrom, MayEnd}
 use Rattle.branch_marks.specs.Weights.{arc_weight, weight, weight_from, WeightIsAlong, IsRouteOfWeight}
 use Rattle.label_store.specs.Seen.{StoreSeen}
 use Rattle.label_store.specs.Buckets.{row_at}
+use Rattle.pricing.specs.declared.end.RouteEnd.{RouteEnd}
 use Rattle.pricing.specs.Rows.{weight_of, counters_of, route_to}
+use Rattle.pricing.specs.inside.Ends.{IsAtMost}
 use Rattle.pricing.specs.inside.Laws.{KeptRowsAreTrue}
 use Rattle.pricing.specs.inside.Truth.{first_row, AreTrue}
-use Rattle.route_search.specs.declared.end.End.{End}
 use Rattle.route_search.specs.declared.end.Ends.{Ends}
 use Rattle.route_search.specs.declared.found.Found.TheVariants.{Best, NoneWithin}
 use Rattle.route_search.specs.inside.Completion.{IsSmall}
-use Rattle.route_search.specs.inside.Ends.{IsAtMost, IsLimit, AreEnds}
+use Rattle.route_search.specs.inside.Ends.{IsLimit, AreEnds}
 use Rattle.route_search.specs.inside.Laws.{BestOrNoneWithin, FittingRestsAreSmall, IsClamped, ClampedCutsFindTheSame}
 use Rattle.route_search.specs.inside.Reach.{GoesOn, AreDone}
 
-at_most_more : (best : Option End) (most more : ℤ) → most ≤ℤ more → IsAtMost best most → IsAtMost best more
+at_most_more : (best : Option RouteEnd) (most more : ℤ) → most ≤ℤ more → IsAtMost best most → IsAtMost best more
 at_most_more None most more le at_most = at_most
 at_most_more (Some end) most more le at_most = omega (arith, ints, le, at_most)
 
@@ -126,7 +127,7 @@ module _ (itself : EachAtMostItself) (chains : EachAtMostChains) (order : StepsK
         | inr lt ↦ beyond cut w (subst (λ (v : ℤ). v <ℤ w) limit lt)
       ]
 
-  least_within : (end : End) → ((w : ℤ) → IsAtMost ends.best w → end.value ≤ℤ w) → end.value ≤ℤ ends.limit → (route : List ℕ) → IsLegalRoute book k route
+  least_within : (end : RouteEnd) → ((w : ℤ) → IsAtMost ends.best w → end.value ≤ℤ w) → end.value ≤ℤ ends.limit → (route : List ℕ) → IsLegalRoute book k route
       → Fits book marks k route → end.value ≤ℤ weight table book k duals route
   least_within end most limit route legal fits =
       let w = weight table book k duals route in
@@ -135,10 +136,10 @@ module _ (itself : EachAtMostItself) (chains : EachAtMostChains) (order : StepsK
         | inr lt ↦ lower_yet end.value ends.limit w limit lt
       ]
 
-  attains : KeptRowsAreTrue → FitsIsUsableToItsEnd → IsBook book → k < aircraft book → AreTrue table book marks k duals store → (end : End) → ends.best ≡ Some end
+  attains : KeptRowsAreTrue → FitsIsUsableToItsEnd → IsBook book → k < aircraft book → AreTrue table book marks k duals store → (end : RouteEnd) → ends.best ≡ Some end
       → IsRouteOfWeight table book marks k duals end.value (route_to store end.row)
   attains kept fits sound_book hk truths end is =
-      let one = subst (λ (best : Option End). AreEnds book marks k store cut (activities book) (record { best = best; limit = ends.limit })) is all in
+      let one = subst (λ (best : Option RouteEnd). AreEnds book marks k store cut (activities book) (record { best = best; limit = ends.limit })) is all in
       let truth = kept table book marks k duals store sound_book hk truths end.row one.one.kept in
       record {
         legal = truth.legal;
@@ -146,15 +147,15 @@ module _ (itself : EachAtMostItself) (chains : EachAtMostChains) (order : StepsK
         weighs = sym (ap weight_of truth.values) ∙ one.one.weighs;
       }
 
-  exact_for : KeptRowsAreTrue → FitsIsUsableToItsEnd → IsBook book → k < aircraft book → AreTrue table book marks k duals store → (best : Option End) → ends.best ≡ best
+  exact_for : KeptRowsAreTrue → FitsIsUsableToItsEnd → IsBook book → k < aircraft book → AreTrue table book marks k duals store → (best : Option RouteEnd) → ends.best ≡ best
       → BestOrNoneWithin table book marks k duals store cut best
-  exact_for kept fits sound_book hk truths None is = none_within (subst (λ (best : Option End). IsLimit cut best ends.limit) is all.limit)
-      (λ w at_most. subst (λ (best : Option End). IsAtMost best w) is at_most)
+  exact_for kept fits sound_book hk truths None is = none_within (subst (λ (best : Option RouteEnd). IsLimit cut best ends.limit) is all.limit)
+      (λ w at_most. subst (λ (best : Option RouteEnd). IsAtMost best w) is at_most)
   exact_for kept fits sound_book hk truths (Some end) is =
-      let limit = subst (λ (best : Option End). IsLimit cut best ends.limit) is all.limit in
+      let limit = subst (λ (best : Option RouteEnd). IsLimit cut best ends.limit) is all.limit in
       let one = attains kept fits sound_book hk truths end is in (
         record {
-          least = least_within end (λ w at_most. subst (λ (best : Option End). IsAtMost best w) is at_most) limit.0;
+          least = least_within end (λ w at_most. subst (λ (best : Option RouteEnd). IsAtMost best w) is at_most) limit.0;
           attained = (route_to store end.row, one);
         },
         one,

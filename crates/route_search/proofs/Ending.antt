@@ -14,22 +14,23 @@ use Rattle.branch_marks.specs.Marks.{MayEnd}
 use Rattle.label_store.specs.Seen.{StoreSeen}
 use Rattle.label_store.specs.Buckets.{row_at}
 use Rattle.label_store.specs.Store.{bucket_of, IsStore, IsRowOf}
+use Rattle.pricing.specs.declared.end.RouteEnd.{RouteEnd}
 use Rattle.pricing.specs.Rows.{weight_of}
-use Rattle.route_search.specs.declared.end.End.{End}
+use Rattle.pricing.specs.inside.Ends.{IsEnd, IsAtMost}
 use Rattle.route_search.specs.declared.end.Ends.{Ends}
-use Rattle.route_search.specs.inside.Ends.{IsEnd, IsAtMost, IsLimit, IsLeastAt, AreEnds, AreNoHeavier}
+use Rattle.route_search.specs.inside.Ends.{IsLimit, IsLeastWithinLimitAt, AreEnds, AreNoHeavier}
 use Rattle.route_search.specs.inside.Reach.{Grows}
 use Rattle.route_search.proofs.Growing.{row_of_bucket}
 
 pub at_most_trans : (one two three : ℤ) → one ≤ℤ two → two ≤ℤ three → one ≤ℤ three
 at_most_trans one two three first next = omega (arith, ints, first, next)
 
-pub limit_is_below : (cut : ℤ) (best : Option End) (limit : ℤ) → IsLimit cut best limit → limit ≤ℤ cut
+pub limit_is_below : (cut : ℤ) (best : Option RouteEnd) (limit : ℤ) → IsLimit cut best limit → limit ≤ℤ cut
 limit_is_below cut None limit is = omega (arith, ints, is)
 limit_is_below cut (Some end) limit is = is.1
 
 -- what is at most the best end is at most what the best end is at most
-pub lightest : (best : Option End) (value : ℤ) → IfSome best (λ known. value ≤ℤ known.value) → (most : ℤ) → IsAtMost best most → value ≤ℤ most
+pub lightest : (best : Option RouteEnd) (value : ℤ) → IfSome best (λ known. value ≤ℤ known.value) → (most : ℤ) → IsAtMost best most → value ≤ℤ most
 lightest None value le most at_most = absurd at_most
 lightest (Some end) value le most at_most = at_most_trans value end.value most le at_most
 
@@ -53,7 +54,7 @@ module _ (book : BookSeen) (marks : List Fact) (k : ℕ) where
         weighs = ap weight_of (grows.rows.rows j kept) ∙ end.weighs;
       }
 
-  best_stays : (m : ℕ) (old new : StoreSeen) (best : Option End) → Grows m old new → IfSome best (IsEnd book marks k old) → IfSome best (IsEnd book marks k new)
+  best_stays : (m : ℕ) (old new : StoreSeen) (best : Option RouteEnd) → Grows m old new → IfSome best (IsEnd book marks k old) → IfSome best (IsEnd book marks k new)
   best_stays m old new None grows one = tt
   best_stays m old new (Some end) grows one = end_stays m old new end.value end.row grows one
 
@@ -72,7 +73,7 @@ module _ (book : BookSeen) (marks : List Fact) (k : ℕ) where
 
   -- one bucket more
   pub ends_one_more : (store : StoreSeen) (cut : ℤ) (x : ℕ) (old new : Ends) → AreEnds book marks k store cut x old → IfSome new.best (IsEnd book marks k store)
-      → IsLeastAt marks k store new x → AreNoHeavier old new → IsLimit cut new.best new.limit → AreEnds book marks k store cut (x + 1) new
+      → IsLeastWithinLimitAt marks k store new x → AreNoHeavier old new → IsLimit cut new.best new.limit → AreEnds book marks k store cut (x + 1) new
   ends_one_more store cut x old new all one here lighter limit = record {
     one = one;
     limit = limit;
@@ -80,16 +81,16 @@ module _ (book : BookSeen) (marks : List Fact) (k : ℕ) where
     next = λ y lt. elim (cases_lt y x) [
       | inl less ↦ (λ may j has le. lighter.best (weight_of (row_at store.rows j))
           (all.next y less may j has (at_most_trans (weight_of (row_at store.rows j)) new.limit old.limit le lighter.limit)))
-      | inr more ↦ (let at : x ≡ y = omega (arith, lt, more) in subst (λ (a : ℕ). IsLeastAt marks k store new a) at here)
+      | inr more ↦ (let at : x ≡ y = omega (arith, lt, more) in subst (λ (a : ℕ). IsLeastWithinLimitAt marks k store new a) at here)
     ];
   }
 
   -- one row more
-  pub best_one_more : (store : StoreSeen) (old new : Option End) (end : End) → IfSome old (IsEnd book marks k store) → IsEnd book marks k store end
+  pub best_one_more : (store : StoreSeen) (old new : Option RouteEnd) (end : RouteEnd) → IfSome old (IsEnd book marks k store) → IsEnd book marks k store end
       → ((new ≡ old) ⊎ (new ≡ Some end)) → IfSome new (IsEnd book marks k store)
   best_one_more store old new end one this is = elim is [
-    | inl same ↦ subst (λ (best : Option End). IfSome best (IsEnd book marks k store)) (sym same) one
-    | inr last ↦ subst (λ (best : Option End). IfSome best (IsEnd book marks k store)) (sym last) this
+    | inl same ↦ subst (λ (best : Option RouteEnd). IfSome best (IsEnd book marks k store)) (sym same) one
+    | inr last ↦ subst (λ (best : Option RouteEnd). IfSome best (IsEnd book marks k store)) (sym last) this
   ]
 
   pub here_one_more : (store : StoreSeen) (there : List ℕ) (i : ℕ) (old new : Ends) → AreNoHeavier old new

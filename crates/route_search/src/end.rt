@@ -9,35 +9,28 @@ ghost use Rattle.branch_marks.specs.Marks.{MayEnd};
 ghost use Rattle.label_store.specs.Buckets.{row_at};
 ghost use Rattle.pricing.specs.Rows.{weight_of};
 ghost use Rattle.route_search.specs.inside.Completion.{IsBroad, IsSmall};
-ghost use Rattle.route_search.specs.inside.Ends.{IsAtMost, IsLimit, AreNoHeavier};
-ghost use Rattle.route_search.specs.inside.ForTask.{AreEndsFor, AreTrueFor, IsEndFor, IsLeastEndAtFor};
+ghost use Rattle.pricing.specs.inside.Ends.{IsAtMost};
+ghost use Rattle.route_search.specs.inside.Ends.{IsLimit, AreNoHeavier};
+ghost use Rattle.route_search.specs.inside.ForTask.{AreEndsFor, AreTrueFor, IsEndFor, IsLeastWithinLimitAtFor};
 ghost use Rattle.route_search.specs.inside.Task.{IsTask};
 
 use crate::task::{Task, every_task_is_sound};
 use label_store::Store;
 use label_store::laws::every_store_is_sound;
 use pricing::laws::true_rows_are_small;
-use pricing::weight_of;
+use pricing::{RouteEnd, weight_of};
 use tail_book::Place;
-
-/// A place where the aircraft may end: its weight there, and the row, none at the carry-in.
-#[derive(Clone, Copy, Debug)]
-pub struct End {
-    /// In thousandths of a cost unit.
-    pub value: i64,
-    pub row: Option<usize>,
-}
 
 /// The least end so far, and the weight beyond which nothing is looked for.
 #[derive(Clone, Copy, Debug)]
 pub struct Ends {
-    pub best: Option<End>,
+    pub best: Option<RouteEnd>,
     /// In thousandths of a cost unit.
     pub limit: i64,
 }
 
 // Whether an end is lighter than the least one so far.
-fn is_lighter(best: Option<End>, end: End) -> bool
+fn is_lighter(best: Option<RouteEnd>, end: RouteEnd) -> bool
     ensures lighter { result ≡ true → IfSome best (λ known. end.value ≤ℤ known.value) }
     ensures not { result ≡ false → IsAtMost best end.value }
 {
@@ -48,7 +41,7 @@ fn is_lighter(best: Option<End>, end: End) -> bool
 }
 
 // The limit where an end comes that is within it.
-fn lowered(ends: Ends, end: End, slack: u32) -> i64
+fn lowered(ends: Ends, end: RouteEnd, slack: u32) -> i64
     requires small { IsSmall end.value }
     requires within { end.value ≤ℤ ends.limit }
     ensures least { end.value ≤ℤ result }
@@ -58,7 +51,7 @@ fn lowered(ends: Ends, end: End, slack: u32) -> i64
 }
 
 // The ends with one more. The slack is how much heavier than the least route a route may be to be looked for.
-fn with_end(ends: Ends, end: End, slack: u32) -> Ends
+fn with_end(ends: Ends, end: RouteEnd, slack: u32) -> Ends
     requires small { IsSmall end.value }
     ensures here { end.value ≤ℤ ends.limit → IsAtMost result.best end.value }
     ensures no_heavier { AreNoHeavier ends result }
@@ -77,11 +70,11 @@ fn with_end(ends: Ends, end: End, slack: u32) -> Ends
 }
 
 // The end at a row.
-fn end_at(store: &Store, j: usize) -> End
+fn end_at(store: &Store, j: usize) -> RouteEnd
     requires { j < length store.now.rows }
     ensures { result ≡ record { value = weight_of (row_at store.now.rows j); row = Some j } }
 {
-    End {
+    RouteEnd {
         value: weight_of(store, j),
         row: Some(j),
     }
@@ -96,7 +89,7 @@ fn with_rows(task: &Task, store: &Store, x: u32, ends: Ends, slack: u32) -> Ends
     requires may { MayEnd task.now.marks.now.facts task.now.k (After x) }
     requires one { IfSome ends.best (IsEndFor task.now store.now) }
     ensures one { IfSome result.best (IsEndFor task.now store.now) }
-    ensures here { IsLeastEndAtFor task.now store.now result x }
+    ensures here { IsLeastWithinLimitAtFor task.now store.now result x }
     ensures no_heavier { AreNoHeavier ends result }
     ensures limit { (cut : ℤ) → IsLimit cut ends.best ends.limit → IsLimit cut result.best result.limit }
     ensures broad { IsBroad ends.limit → IsBroad result.limit }
@@ -121,7 +114,7 @@ pub fn with_ends_at(task: &Task, store: &Store, x: u32, ends: Ends, slack: u32) 
     requires truths { AreTrueFor task.now store.now }
     requires one { IfSome ends.best (IsEndFor task.now store.now) }
     ensures one { IfSome result.best (IsEndFor task.now store.now) }
-    ensures here { IsLeastEndAtFor task.now store.now result x }
+    ensures here { IsLeastWithinLimitAtFor task.now store.now result x }
     ensures no_heavier { AreNoHeavier ends result }
     ensures limit { (cut : ℤ) → IsLimit cut ends.best ends.limit → IsLimit cut result.best result.limit }
     ensures broad { IsBroad ends.limit → IsBroad result.limit }
@@ -145,7 +138,7 @@ pub fn first_ends(task: &Task, store: &Store, cut: i64, slack: u32) -> Ends
     if !task.marks.may_end(task.book, task.k, Place::Carry) {
         return ends;
     }
-    let end = End {
+    let end = RouteEnd {
         value: 0,
         row: None,
     };

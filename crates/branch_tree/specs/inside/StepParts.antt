@@ -13,8 +13,8 @@ use Rattle.branch_marks.specs.LogShown.{LogShown}
 use Rattle.branch_marks.specs.MarksSeen.{MarksSeen}
 use Rattle.branch_marks.specs.TreeLog.{Notes, NotesFront}
 use Rattle.dive_heuristic.specs.Divers.{IsDiverFor}
-use Rattle.branch_tree.specs.declared.step.End.{End}
-use Rattle.branch_tree.specs.declared.step.End.TheVariants as end
+use Rattle.branch_tree.specs.declared.step.NodeEnd.{NodeEnd}
+use Rattle.branch_tree.specs.declared.step.NodeEnd.TheVariants as end
 use Rattle.branch_tree.specs.declared.step.Step.{Step}
 use Rattle.branch_tree.specs.declared.tools.NodeTools.{NodeTools}
 use Rattle.branch_tree.specs.Counted.{IsEndOf}
@@ -29,7 +29,7 @@ pub record AreToolsFor (table : CostTableSeen) (book : BookSeen) (net : NetSeen)
   pub diver : IsDiverFor book table marks.facts tools.diver
 
 -- the end is right under these marks for the duals and the target
-abbrev pub IsEndFound : CostTableSeen → BookSeen → List Fact → List ℤ → ℕ → End → Type 0
+abbrev pub IsEndFound : CostTableSeen → BookSeen → List Fact → List ℤ → ℕ → NodeEnd → Type 0
 IsEndFound table book marks duals target (end.Stuck k) = (k < aircraft book) × IsStuck book marks k
 IsEndFound table book marks duals target (end.Bounded values) =
     AreLeastWeights table book marks duals values.items × Passes (bound_of (lagrangian duals values.items)) target

@@ -15,7 +15,7 @@ use Rattle.label_store.specs.declared.offered.Offered.{Offered}
 use Rattle.label_store.specs.Seen.{StoreSeen}
 use Rattle.label_store.specs.Store.{IsStore}
 use Rattle.label_store.specs.Offers.{Offers}
-use Rattle.pricing.specs.declared.end.End.{End}
+use Rattle.pricing.specs.declared.end.RouteEnd.{RouteEnd}
 use Rattle.pricing.specs.Rows.{weight_of, labels_of, route_to}
 use Rattle.pricing.specs.inside.Truth.{place_of, row_of, IsTrueAt, AreTrue, IsKept, IsNext}
 use Rattle.pricing.specs.inside.Filled.{AreFilled}
@@ -47,7 +47,7 @@ FilledStoresAreClosed = (table : CostTableSeen) (book : BookSeen) (marks : List 
 
 -- and a least end has the least weight, which the route to it attains
 abbrev pub LeastEndsAreLeast : Type 0
-LeastEndsAreLeast = (table : CostTableSeen) (book : BookSeen) (marks : List Fact) (k : ℕ) (duals : List ℤ) (store : StoreSeen) (end : End)
+LeastEndsAreLeast = (table : CostTableSeen) (book : BookSeen) (marks : List Fact) (k : ℕ) (duals : List ℤ) (store : StoreSeen) (end : RouteEnd)
     → IsBook book → k < aircraft book → IsStore store → length store.buckets ≡ activities book → AreTrue table book marks k duals store
     → IsClosedFamily table book marks k duals (labels_of store) → IsLeastEnd book marks k store (activities book) (Some end)
     → IsLeastWeight table book marks k duals end.value × IsRouteOfWeight table book marks k duals end.value (route_to store end.row)

@@ -1,5 +1,4 @@
--- Where an aircraft may end its route among the rows of a store, and the least of these ends as far as a limit.
--- For src/end.rt.
+-- The least of the ends of an aircraft's routes among the rows of a store, as far as a limit. For src/end.rt.
 use Rattle.std.specs.Prelude.{◌≡◌, ℕ, ℤ, pos, ◌<◌, ◌≤ℤ◌, List, Contains, Option, None, Some, IfSome}
 use Rattle.tail_book.specs.Seen.{BookSeen}
 use Rattle.tail_book.specs.declared.place.Place.TheVariants.{Carry, After}
@@ -8,30 +7,19 @@ use Rattle.branch_marks.specs.Marks.{MayEnd}
 use Rattle.label_store.specs.Seen.{StoreSeen}
 use Rattle.label_store.specs.Buckets.{row_at}
 use Rattle.label_store.specs.Store.{bucket_of}
+use Rattle.pricing.specs.declared.end.RouteEnd.{RouteEnd}
 use Rattle.pricing.specs.Rows.{weight_of}
-use Rattle.pricing.specs.inside.Truth.{place_of, row_of, IsKept}
-use Rattle.route_search.specs.declared.end.End.{End}
+use Rattle.pricing.specs.inside.Ends.{IsEnd, IsAtMost}
 use Rattle.route_search.specs.declared.end.Ends.{Ends}
 
--- aircraft k may end at this row, or at its carry-in where it is none, with this weight
-pub record IsEnd (book : BookSeen) (marks : List Fact) (k : ℕ) (store : StoreSeen) (end : End) : Type 0 where
-  pub kept : IsKept store end.row
-  pub may : MayEnd marks k (place_of store end.row)
-  pub weighs : weight_of (row_of book k store end.row) ≡ end.value
-
--- there is an end, and it weighs at most this
-abbrev pub IsAtMost : Option End → ℤ → Type 0
-IsAtMost None most = ⊥
-IsAtMost (Some end) most = end.value ≤ℤ most
-
 -- where there is no end yet the limit is the cut, and the limit is never below the least end
-abbrev pub IsLimit : ℤ → Option End → ℤ → Type 0
+abbrev pub IsLimit : ℤ → Option RouteEnd → ℤ → Type 0
 IsLimit cut None limit = limit ≡ cut
 IsLimit cut (Some end) limit = (end.value ≤ℤ limit) × (limit ≤ℤ cut)
 
 -- it weighs at most what any row of the bucket of x within the limit does, where aircraft k may end behind x
-abbrev pub IsLeastAt : List Fact → ℕ → StoreSeen → Ends → ℕ → Type 0
-IsLeastAt marks k store ends x = MayEnd marks k (After x) → (j : ℕ) → Contains (bucket_of store x) j
+abbrev pub IsLeastWithinLimitAt : List Fact → ℕ → StoreSeen → Ends → ℕ → Type 0
+IsLeastWithinLimitAt marks k store ends x = MayEnd marks k (After x) → (j : ℕ) → Contains (bucket_of store x) j
     → weight_of (row_at store.rows j) ≤ℤ ends.limit → IsAtMost ends.best (weight_of (row_at store.rows j))
 
 -- the best is an end, or there is none; it weighs at most what any end at the carry-in or in the buckets below n does that is
@@ -40,7 +28,7 @@ pub record AreEnds (book : BookSeen) (marks : List Fact) (k : ℕ) (store : Stor
   pub one : IfSome ends.best (IsEnd book marks k store)
   pub limit : IsLimit cut ends.best ends.limit
   pub first : MayEnd marks k Carry → pos 0 ≤ℤ ends.limit → IsAtMost ends.best (pos 0)
-  pub next : (x : ℕ) → x < n → IsLeastAt marks k store ends x
+  pub next : (x : ℕ) → x < n → IsLeastWithinLimitAt marks k store ends x
 
 -- the ends are no heavier than those before, and the limit has not risen
 pub record AreNoHeavier (old new : Ends) : Type 0 where

@@ -5,15 +5,16 @@ use Rattle.tail_book.specs.declared.place.Place.{Place}
 use Rattle.branch_marks.specs.Marks.{IsUsable}
 use Rattle.branch_marks.specs.Weights.{arc_weight}
 use Rattle.label_store.specs.Seen.{StoreSeen}
+use Rattle.pricing.specs.declared.end.RouteEnd.{RouteEnd}
+use Rattle.pricing.specs.inside.Ends.{IsEnd}
 use Rattle.pricing.specs.inside.Truth.{AreTrue, IsTrueAt, IsNext, first_row, row_of}
 use Rattle.route_search.specs.declared.completion.Way.{Way}
-use Rattle.route_search.specs.declared.end.End.{End}
 use Rattle.route_search.specs.declared.end.Ends.{Ends}
 use Rattle.route_search.specs.declared.found.Found.{Found}
 use Rattle.route_search.specs.declared.task.Task.{Task}
 use Rattle.route_search.specs.Found.{IsFoundWithin}
 use Rattle.route_search.specs.inside.Completion.{AreBehind, AreBehindFrom, IsBehind, IsCompletion, IsLeastAmong, IsWay, IsWayOrNone}
-use Rattle.route_search.specs.inside.Ends.{AreEnds, IsEnd, IsLeastAt}
+use Rattle.route_search.specs.inside.Ends.{AreEnds, IsLeastWithinLimitAt}
 use Rattle.route_search.specs.inside.Followers.{AreFollowers}
 use Rattle.route_search.specs.inside.Reach.{AreDone, AreTried, GoesOn, IsDone, IsTried}
 
@@ -84,11 +85,11 @@ abbrev pub AreDoneFor : Task → ℤ → StoreSeen → ℕ → Type 0
 AreDoneFor task limit store n = AreDone task.table.now task.book.now task.marks.now.facts task.k task.duals.now.values limit store n
 
 -- where the aircraft may end, and what is found
-abbrev pub IsEndFor : Task → StoreSeen → End → Type 0
+abbrev pub IsEndFor : Task → StoreSeen → RouteEnd → Type 0
 IsEndFor task store end = IsEnd task.book.now task.marks.now.facts task.k store end
 
-abbrev pub IsLeastEndAtFor : Task → StoreSeen → Ends → ℕ → Type 0
-IsLeastEndAtFor task store ends x = IsLeastAt task.marks.now.facts task.k store ends x
+abbrev pub IsLeastWithinLimitAtFor : Task → StoreSeen → Ends → ℕ → Type 0
+IsLeastWithinLimitAtFor task store ends x = IsLeastWithinLimitAt task.marks.now.facts task.k store ends x
 
 abbrev pub AreEndsFor : Task → StoreSeen → ℤ → ℕ → Ends → Type 0
 AreEndsFor task store cut n ends = AreEnds task.book.now task.marks.now.facts task.k store cut n ends

@@ -12,9 +12,9 @@ use Rattle.branch_marks.specs.Settled.{AreDuals}
 use Rattle.branch_marks.specs.Weights.{weight_from, WeighsAtLeast, IsLeastWeight, IsRouteOfWeight}
 use Rattle.label_store.specs.Seen.{StoreSeen}
 use Rattle.label_store.specs.Store.{IsStore}
+use Rattle.pricing.specs.declared.end.RouteEnd.{RouteEnd}
 use Rattle.pricing.specs.Rows.{route_to}
 use Rattle.pricing.specs.inside.Truth.{AreTrue}
-use Rattle.route_search.specs.declared.end.End.{End}
 use Rattle.route_search.specs.declared.end.Ends.{Ends}
 use Rattle.route_search.specs.declared.found.Found.{Found}
 use Rattle.route_search.specs.Found.{IsFoundWithin}
@@ -30,7 +30,7 @@ FittingRestsAreSmall = (table : CostTableSeen) (book : BookSeen) (marks : List F
 
 -- where all buckets are done as far as the limit, the best end has the least weight, which the route to it attains; and where
 -- there is none, each legal route that fits weighs more than the cut
-abbrev pub BestOrNoneWithin : CostTableSeen → BookSeen → List Fact → ℕ → List ℤ → StoreSeen → ℤ → Option End → Type 0
+abbrev pub BestOrNoneWithin : CostTableSeen → BookSeen → List Fact → ℕ → List ℤ → StoreSeen → ℤ → Option RouteEnd → Type 0
 BestOrNoneWithin table book marks k duals store cut None = WeighsAtLeast table book marks k duals (cut +ℤ pos 1)
 BestOrNoneWithin table book marks k duals store cut (Some end) =
     IsLeastWeight table book marks k duals end.value × IsRouteOfWeight table book marks k duals end.value (route_to store end.row) × (end.value ≤ℤ cut)

@@ -7,7 +7,7 @@ mod splits;
 mod steps;
 
 use super::{Failing, label};
-use answers::{Answer, Asked, End, ask, ask_of, two_flights};
+use answers::{Answer, Asked, Ended, ask, ask_of, two_flights};
 use branch_marks::{Event, Fact, MemTree, Pair};
 use branch_tree::{Best, OpenNode, OpenNodes, Stop, bound_below, passes};
 use std::alloc::Global;
@@ -51,7 +51,7 @@ fn stops_behind(
 ) -> Result<bool, Fail> {
     let mut log = Failing::new(alloc, room);
     let answer = ask(alloc, facts, dual, asked, &mut log)?;
-    Ok(matches!(answer.first, End::Stopped(Stop::Log)) && log.has_front(due, room))
+    Ok(matches!(answer.first, Ended::Stopped(Stop::Log)) && log.has_front(due, room))
 }
 
 // At which of these events a log that fails does not stop it as it has to, if there is one.
@@ -89,7 +89,7 @@ fn bound() -> [Event; 9] {
 #[test]
 fn bound_is_told(rt: HostRuntime) -> Result<(), Fail> {
     let (answer, is_told) = told(rt.alloc(), &[], 70_000, Asked::Leaf, &bound())?;
-    assert!(rt; matches!(answer.first, End::Bounded(120_000)));
+    assert!(rt; matches!(answer.first, Ended::Bounded(120_000)));
     assert!(rt; is_told);
     Ok(())
 }
@@ -100,7 +100,7 @@ fn stuck_is_told(rt: HostRuntime) -> Result<(), Fail> {
     let facts = [Fact::Must(0, 1), Fact::Cut(0, 1)];
     let due = [Event::Stuck(0), label(0, 60_000)];
     let (answer, is_told) = told(rt.alloc(), &facts, 70_000, Asked::Leaf, &due)?;
-    assert!(rt; matches!(answer.first, End::Stuck));
+    assert!(rt; matches!(answer.first, Ended::Stuck));
     assert!(rt; is_told);
     Ok(())
 }

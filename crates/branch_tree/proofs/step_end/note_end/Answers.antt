@@ -1,6 +1,6 @@
 use Rattle.std.proofs.Common.{◌≡◌, ◌∙◌, ℤ, List, map, refl, sym, subst}
 use Rattle.branch_marks.specs.Bound.{AreLeastWeights, lagrangian, bound_of, Passes}
-use Rattle.branch_tree.specs.declared.step.End.{End}
+use Rattle.branch_tree.specs.declared.step.NodeEnd.{NodeEnd}
 use Rattle.node_leaves.specs.Node.{Stuck, Bounded, Split}
 use Rattle.node_leaves.specs.inside.Leaf.{Whole}
 use Rattle.branch_tree.specs.inside.StepParts.{IsEndFound}
@@ -9,7 +9,7 @@ use Rattle.branch_tree.proofs.step_end.note_end.Goals as goal
 -- a split that was not told, or is torn
 pub returns-in-Err-note_one-clause-cut : goal.returns-in-Err-note_one-clause-cut
 returns-in-Err-note_one-clause-cut g c =
-    let found = subst (λ (e : End). IsEndFound c.args.table.now c.args.book.now c.args.marks.now.facts c.args.duals.now.values c.args.target e) c.in-Split.is c.requires.found in
+    let found = subst (λ (e : NodeEnd). IsEndFound c.args.table.now c.args.book.now c.args.marks.now.facts c.args.duals.now.values c.args.target e) c.in-Split.is c.requires.found in
     record {
       part = Whole (Split c.in-Split.pair c.args.duals.now.values c.in-Split.routes.items c.in-Split.dive);
       shown = found.undecided;
@@ -27,7 +27,7 @@ pub returns-in_default-note_bounded-clause-noted : goal.returns-in_default-note_
 returns-in_default-note_bounded-clause-noted g c =
     let noted = c.in_default-note_bounded.ensures.noted in
     let table = c.args.table.now in let book = c.args.book.now in let marks = c.args.marks.now.facts in let duals = c.args.duals.now.values in
-    let found = subst (λ (e : End). IsEndFound table book marks duals c.args.target e) c.in-Bounded.is c.requires.found in
+    let found = subst (λ (e : NodeEnd). IsEndFound table book marks duals c.args.target e) c.in-Bounded.is c.requires.found in
     let is : map (λ cover. cover.value) noted.covers ≡ c.in-Bounded.values.items = noted.least ∙ c.deref.ensures.value in
     record {
       ending = Bounded duals noted.covers;
@@ -43,7 +43,7 @@ returns-in_default-note_bounded-clause-noted g c =
 -- the split
 pub returns-in_default-note_one-clause-noted : goal.returns-in_default-note_one-clause-noted
 returns-in_default-note_one-clause-noted g c =
-    let found = subst (λ (e : End). IsEndFound c.args.table.now c.args.book.now c.args.marks.now.facts c.args.duals.now.values c.args.target e) c.in-Split.is c.requires.found in
+    let found = subst (λ (e : NodeEnd). IsEndFound c.args.table.now c.args.book.now c.args.marks.now.facts c.args.duals.now.values c.args.target e) c.in-Split.is c.requires.found in
     record {
       ending = Split c.in-Split.pair c.args.duals.now.values c.in-Split.routes.items c.in-Split.dive;
       shown = found.undecided;

@@ -3,10 +3,10 @@ use Rattle.std.specs.Prelude.{◌≤ℤ◌}
 use Rattle.std.proofs.lemmas.List.{get_or_default}
 use Rattle.label_store.specs.Buckets.{row_at}
 use Rattle.label_store.specs.Store.{bucket_of, IsRowOf}
+use Rattle.pricing.specs.declared.end.RouteEnd.{RouteEnd}
 use Rattle.pricing.specs.Rows.{weight_of}
-use Rattle.route_search.specs.declared.end.End.{End}
+use Rattle.pricing.specs.inside.Ends.{IsEnd, IsAtMost}
 use Rattle.route_search.specs.inside.Completion.{IsSmall}
-use Rattle.route_search.specs.inside.Ends.{IsEnd, IsAtMost}
 use Rattle.route_search.proofs.Ending.{end_at_row, best_one_more, here_one_more, heavier_trans}
 use Rattle.route_search.proofs.end.with_rows.Goals as goal
 
@@ -15,7 +15,7 @@ pub with_end-all-requires : goal.with_end-all-requires
 with_end-all-requires c =
     let small = c.true_rows_are_small.ensures c.args.task.now.table.now c.args.task.now.book.now c.args.task.now.marks.now.facts c.args.task.now.k c.args.task.now.duals.now.values c.args.store.now (Some c.at-j.result)
     c.every_task_is_sound.ensures.book c.every_task_is_sound.ensures.table c.requires.task.table c.requires.task.duals (c.requires.truths c.at-j.result c.at-j.ensures.kept) in
-    record { small = subst (λ (end : End). IsSmall end.value) (sym c.end_at-end.ensures) small }
+    record { small = subst (λ (end : RouteEnd). IsSmall end.value) (sym c.end_at-end.ensures) small }
 
 -- one row more
 pub loop-i-preserved : goal.loop-i-preserved
@@ -37,7 +37,7 @@ loop-i-preserved c =
       one = best_one_more c.args.task.now.book.now c.args.task.now.marks.now.facts c.args.task.now.k store old.best new.best c.end_at-end.result inv.one (subst (IsEnd c.args.task.now.book.now c.args.task.now.marks.now.facts c.args.task.now.k store) (sym c.end_at-end.ensures) this) ensures.one;
       here = here_one_more c.args.task.now.book.now c.args.task.now.marks.now.facts c.args.task.now.k store bucket i old new ensures.no_heavier inv.here
           (subst (λ (j : ℕ). weight_of (row_at store.rows j) ≤ℤ old.limit → IsAtMost new.best (weight_of (row_at store.rows j))) at
-          (subst (λ (end : End). end.value ≤ℤ old.limit → IsAtMost new.best end.value) c.end_at-end.ensures ensures.here));
+          (subst (λ (end : RouteEnd). end.value ≤ℤ old.limit → IsAtMost new.best end.value) c.end_at-end.ensures ensures.here));
       no_heavier = heavier_trans c.args.ends old new inv.no_heavier ensures.no_heavier;
       limit = λ cut is. ensures.limit cut (inv.limit cut is);
       broad = λ broad. ensures.broad (inv.broad broad);

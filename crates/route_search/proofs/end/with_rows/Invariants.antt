@@ -3,8 +3,9 @@ use Rattle.std.specs.Prelude.{IfSome, ◌≤ℤ◌}
 use Rattle.label_store.specs.Buckets.{row_at}
 use Rattle.label_store.specs.Store.{bucket_of}
 use Rattle.pricing.specs.Rows.{weight_of}
+use Rattle.pricing.specs.inside.Ends.{IsEnd, IsAtMost}
 use Rattle.route_search.specs.inside.Completion.{IsBroad}
-use Rattle.route_search.specs.inside.Ends.{IsEnd, IsAtMost, IsLimit, AreNoHeavier}
+use Rattle.route_search.specs.inside.Ends.{IsLimit, AreNoHeavier}
 use Rattle.route_search.proofs.end.with_rows.Given as goal
 
 -- they are no heavier than before, nor than the rows at places before i that are within the limit

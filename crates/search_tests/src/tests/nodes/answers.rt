@@ -31,7 +31,7 @@ pub enum Asked {
 
 /// How pricing a leaf or a step ended.
 #[derive(Clone, Copy)]
-pub enum End {
+pub enum Ended {
     Hole(u32),
     Stuck,
     Bounded(i128),
@@ -39,11 +39,11 @@ pub enum End {
     Stopped(Stop),
 }
 
-impl End {
+impl Ended {
     /// Whether it is a bound of so many cost units, rounded up.
     pub fn is_bound(self, units: u64) -> bool {
         let most = units as i128 * 1_000;
-        matches!(self, End::Bounded(sum) if most - 1_000 < sum && sum <= most)
+        matches!(self, Ended::Bounded(sum) if most - 1_000 < sum && sum <= most)
     }
 }
 
@@ -51,26 +51,26 @@ impl End {
 /// stands for both.
 #[derive(Clone, Copy)]
 pub struct Answer {
-    pub first: End,
-    pub again: End,
+    pub first: Ended,
+    pub again: Ended,
     pub target: u64,
 }
 
-fn leaf_end(leaf: Result<PricedLeaf, Stop>) -> End {
+fn leaf_end(leaf: Result<PricedLeaf, Stop>) -> Ended {
     match leaf {
-        Ok(PricedLeaf::Stuck) => End::Stuck,
-        Ok(PricedLeaf::Bounded(sum)) => End::Bounded(sum),
-        Err(stop) => End::Stopped(stop),
+        Ok(PricedLeaf::Stuck) => Ended::Stuck,
+        Ok(PricedLeaf::Bounded(sum)) => Ended::Bounded(sum),
+        Err(stop) => Ended::Stopped(stop),
     }
 }
 
-fn step_end(step: &Result<Step, Stop>) -> End {
+fn step_end(step: &Result<Step, Stop>) -> Ended {
     match step {
-        Ok(Step::Hole(a)) => End::Hole(*a),
-        Ok(Step::Stuck(_)) => End::Stuck,
-        Ok(Step::Bounded(sum)) => End::Bounded(*sum),
-        Ok(Step::Split { .. }) => End::Split,
-        Err(stop) => End::Stopped(*stop),
+        Ok(Step::Hole(a)) => Ended::Hole(*a),
+        Ok(Step::Stuck(_)) => Ended::Stuck,
+        Ok(Step::Bounded(sum)) => Ended::Bounded(*sum),
+        Ok(Step::Split { .. }) => Ended::Split,
+        Err(stop) => Ended::Stopped(*stop),
     }
 }
 

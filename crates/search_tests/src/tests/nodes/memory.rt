@@ -1,15 +1,15 @@
 //! Steps on a node for which memory may run out. The test here holds where any one allocation fails, and where none does;
 //! `tests/each_allocation` runs it with each of them failing in turn.
 
-use super::answers::{Answer, Asked, End, ask};
+use super::answers::{Answer, Asked, Ended, ask};
 use branch_marks::{Fact, MemTree};
 use branch_tree::Stop;
 use std::alloc::Global;
 use std::process::{Abort, ExitCode, Termination};
 use std::test::Fail;
 
-fn is_short(end: End) -> bool {
-    matches!(end, End::Stopped(Stop::Memory))
+fn is_short(end: Ended) -> bool {
+    matches!(end, Ended::Stopped(Stop::Memory))
 }
 
 // Whether both steps ended with a bound of so many cost units, but for one at most that ran out of memory, and left this

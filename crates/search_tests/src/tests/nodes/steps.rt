@@ -1,6 +1,6 @@
 //! Steps on nodes of the book of two flights, worked by hand: what they answer, the target they leave, and what is told.
 
-use super::answers::{Asked, End, ask};
+use super::answers::{Asked, Ended, ask};
 use super::{first_passed, told, told_of};
 use branch_marks::{Event, Fact, NoLog};
 use small_books::there_and_back;
@@ -35,7 +35,7 @@ const HOLE: [Event; 3] = [
 #[test]
 fn hole_is_told_after_its_steps(rt: HostRuntime) -> Result<(), Fail> {
     let (answer, is_told) = told(rt.alloc(), &NOBODY_OUT, 0, Asked::Step, &HOLE)?;
-    assert!(rt; matches!(answer.first, End::Hole(0)));
+    assert!(rt; matches!(answer.first, Ended::Hole(0)));
     assert!(rt; is_told);
     Ok(())
 }
@@ -59,7 +59,7 @@ const LATE: [Event; 3] = [
 fn late_flight_is_a_hole(rt: HostRuntime) -> Result<(), Fail> {
     let book = there_and_back(rt.alloc(), &[0], 31)?;
     let (answer, is_told) = told_of(rt.alloc(), &book, &[], 0, Asked::Step, &LATE)?;
-    assert!(rt; matches!(answer.first, End::Hole(1)));
+    assert!(rt; matches!(answer.first, Ended::Hole(1)));
     assert!(rt; is_told);
     Ok(())
 }
