@@ -1,6 +1,6 @@
 -- The offset at a moment is that of the last change at or before it: where the changes up to a place come by the moment,
 -- and those behind it later, the last of the former decides.
-use Rattle.std.proofs.Common.{◌≡◌, ◌<◌, ◌≤◌, ◌+◌, ℕ, ℤ, zero, suc, true, false, List, [], ◌∷◌, length, get_or, refl, sym, subst, inl, inr, arith}
+use Rattle.std.proofs.Common.{◌≡◌, ◌<◌, ℕ, ℤ, zero, suc, true, false, List, [], ◌∷◌, length, get_or, refl, sym, subst, inl, inr, arith}
 use Rattle.std.specs.Prelude.{AllPairs, ◌<ℤ◌}
 use Rattle.std.specs.List.{AllWithin}
 use Rattle.std.specs.List.Sorted.{IsPartitionedBy}
