@@ -13,7 +13,6 @@ use Rattle.tail_book.specs.declared.outcome.Outcome.{Outcome}
 use Rattle.tail_book.specs.declared.outcome.Outcome.TheVariants.{Optimal, Infeasible, Between, Above}
 use Rattle.branch_marks.specs.declared.fact.Fact.{Fact}
 use Rattle.branch_marks.specs.Bound.{bound_of, rounded_up, Passes}
-use Rattle.node_leaves.specs.declared.leaf.PricedLeaf.{PricedLeaf}
 use Rattle.node_leaves.specs.declared.leaf.PricedLeaf.TheVariants as leaf
 use Rattle.branch_tree.specs.declared.limit.Limit.{Limit}
 use Rattle.branch_tree.specs.declared.limit.Limit.TheVariants.{Free, Nodes}

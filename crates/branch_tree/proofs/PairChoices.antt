@@ -1,16 +1,15 @@
 -- The pair that least routes choose. What comes directly after what in a route is read off its places. A link of a route that
 -- fits is usable, so it is not cut; and where it isn't tied, it is undecided.
-use Rattle.std.proofs.Common.{◌≡◌, ℕ, ℤ, zero, suc, ◌+◌, ◌<◌, ◌≤◌, inl, inr, true, false, arith, List, [], ◌∷◌, length, refl, sym, subst}
-use Rattle.std.proofs.lemmas.Bool.{eqb-true, eq-eqb, or_cases, or_left, or_right, and_parts, both_ways, cases_order}
+use Rattle.std.proofs.Common.{◌≡◌, ℕ, ℤ, zero, suc, ◌<◌, ◌≤◌, inl, inr, true, false, arith, List, [], ◌∷◌, length, refl, sym, subst}
+use Rattle.std.proofs.lemmas.Bool.{eqb-true, eq-eqb, or_cases, or_left, or_right, and_parts, both_ways}
 use Rattle.std.specs.Cmp.Derive.{both_true}
 use Rattle.std.proofs.lemmas.List.Elements.{All-contains}
-use Rattle.std.specs.Prelude.{nat_eq, ◌&&◌, IfSome, IfNone, All, Contains, Option, Some, None, slice_index_or}
+use Rattle.std.specs.Prelude.{nat_eq, ◌&&◌, Contains, slice_index_or}
 use Rattle.tail_book.specs.Seen.{BookSeen}
 use Rattle.tail_book.specs.TableSeen.{CostTableSeen}
 use Rattle.tail_book.specs.declared.place.Place.{Place}
 use Rattle.tail_book.specs.declared.place.Place.TheVariants.{Carry, After}
 use Rattle.tail_book.specs.Lookup.{activities, aircraft}
-use Rattle.tail_book.specs.Plan.{times_flown, route_of}
 use Rattle.tail_book.specs.CostTable.{plan_cost_in}
 use Rattle.branch_marks.specs.declared.fact.Fact.{Fact}
 use Rattle.branch_marks.specs.declared.fact.Fact.TheVariants.{Cut}
@@ -23,7 +22,7 @@ use Rattle.branch_marks.specs.Marks.{LetsGo, IsUsable, FitsFrom, Fits}
 use Rattle.branch_marks.specs.Settled.{AreRoutesOfWeights, RoutesOfWeightsArePlan}
 use Rattle.branch_marks.specs.Weights.{WeighsAtLeast}
 use Rattle.dive_heuristic.specs.Choice.{IsCarrierOf}
-use Rattle.dive_heuristic.specs.LeastRoutes.{AreLeastRoutes, IsInOne, IsEachInOne}
+use Rattle.dive_heuristic.specs.LeastRoutes.{AreLeastRoutes, IsEachInOne}
 use Rattle.branch_tree.specs.Choice.{IsPairAt}
 use Rattle.branch_tree.specs.inside.NodeBound.{IsUsedPlan}
 

@@ -2,7 +2,7 @@
 -- open, or it was opened by that line: a node closes the leaf before it, and so do a plan and a claim, while a dual, a header and
 -- a flier stand where no leaf is open.
 use Rattle.std.specs.Prelude.{⊤, not, nat_lt, nat_le, slice_set, ◌+ℤ◌, ◌==◌, ◌&&◌}
-use Rattle.std.proofs.Common.{◌≡◌, ◌+◌, ℕ, Bool, true, false, List, [], ◌∷◌, ◌++◌, Option, Some, None, Result, Ok, Err, length, refl, sym, ap, subst, arith}
+use Rattle.std.proofs.Common.{◌≡◌, ◌+◌, ℕ, Bool, true, false, List, [], ◌∷◌, ◌++◌, Option, Some, None, Result, Ok, length, refl, sym, ap, subst, arith}
 use Rattle.std.proofs.lemmas.Bool.{eqb-true}
 use Rattle.tail_book.specs.Lookup.{activities, aircraft}
 use Rattle.tail_book.specs.Seen.{BookSeen}
@@ -25,7 +25,7 @@ use Rattle.cert_checker.specs.Certificate.{asked_of, claimed_cost}
 use Rattle.cert_checker.specs.Reasons.{has_claimed_plan, reaches}
 use Rattle.cert_checker.specs.Step.{after_leaf, at_node, done_section, is_pair_of, judge_claim, next_owed, owed_with, owes, rest_owed}
 use Rattle.cert_checker.specs.Step.{take_claim_in, take_cover_in, take_dual_in, take_event, take_fly_in, take_header_in, take_line}
-use Rattle.cert_checker.specs.State.{BoundLeaf, OpenLeaf, State, Section, Start, InTree, InBound, InPlan, Claimed}
+use Rattle.cert_checker.specs.State.{OpenLeaf, State, Section, Start, InTree, InBound, InPlan, Claimed}
 use Rattle.cert_checker.specs.Verdict.{is_label}
 use Rattle.cert_checker.specs.declared.verdict.Reason.{Reason}
 use Rattle.cert_checker.specs.declared.verdict.Reason.TheVariants.{BadPlan, KnownFact, NotAlive, NotFollowing, OutOfBox, OutOfPlace, Unfinished, WeakBound}

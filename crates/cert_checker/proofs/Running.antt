@@ -10,7 +10,7 @@ use Rattle.cert_lines.specs.Grammar.{IsLine}
 use Rattle.cert_lines.specs.OneSpelling.{SpelledLinesAreRead}
 use Rattle.cert_lines.specs.Reading.{line_of}
 use Rattle.cert_lines.specs.Spelling.{spelling}
-use Rattle.cert_checker.specs.Step.{after_leaf, at_node, owes, take_line}
+use Rattle.cert_checker.specs.Step.{after_leaf, owes, take_line}
 use Rattle.cert_checker.specs.State.{State, InTree}
 use Rattle.cert_checker.specs.Verdict.{at_line, end_with, is_label, leaf_fails, take_read, verdict_from}
 use Rattle.cert_checker.specs.declared.verdict.Reason.{Reason}

@@ -21,7 +21,7 @@ use Rattle.cert_checker.specs.Step.{take_label_in, take_line}
 use Rattle.cert_checker.specs.Verdict.{at_line, claimed_at, end_with, failed, first_state, is_label}
 use Rattle.cert_checker.specs.Verdict.{judge_line, leaf_fails, take_read, take_text, verdict, verdict_from}
 use Rattle.cert_checker.specs.declared.verdict.Reason.{Reason}
-use Rattle.cert_checker.specs.declared.verdict.Reason.TheVariants.{BadLine, NotAlive, OpenCover, OutOfPlace, Unfinished}
+use Rattle.cert_checker.specs.declared.verdict.Reason.TheVariants.{NotAlive, OpenCover, OutOfPlace}
 use Rattle.cert_checker.specs.declared.verdict.Verdict.{Verdict}
 use Rattle.cert_checker.specs.declared.verdict.Verdict.TheVariants.{No}
 use Rattle.cert_checker.specs.inside.ToldLines.{HaveSameLines, labels_first, told_with}

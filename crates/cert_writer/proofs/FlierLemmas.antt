@@ -2,12 +2,12 @@
 -- an aircraft where nobody is noted yet. By the routes that are left: the flier is who is noted, or, where nobody is,
 -- the first of these routes that has the activity. Within a route by its activities, one and then the others. Nobody is
 -- noted as a number as well, that of the routes, so it is below it that an aircraft k counts as somebody.
-use Rattle.std.proofs.Common.{◌≡◌, ◌∙◌, ℕ, ◌<◌, ◌+◌, ◌≤◌, inl, inr, Bool, true, false, cond, arith, List, [], ◌∷◌, length, refl, sym, ap, subst, set, drop, length-set, get_or}
+use Rattle.std.proofs.Common.{◌≡◌, ◌∙◌, ℕ, ◌<◌, ◌+◌, ◌≤◌, inl, inr, Bool, true, false, arith, List, [], ◌∷◌, length, refl, sym, ap, subst, set, drop, length-set, get_or}
 use Rattle.std.proofs.lemmas.Bool.{cases_eq, eq-eqb, ne_eqb}
 use Rattle.std.proofs.lemmas.Grind.{same_number_lists}
-use Rattle.std.proofs.lemmas.List.{get_or-set_same, get_or-set_other, drop_all, drop_more, get_or-replicate, length-replicate}
+use Rattle.std.proofs.lemmas.List.{get_or-set_same, get_or-set_other, drop_all, drop_more}
 use Rattle.std.proofs.lemmas.List.FromFn.{length-map-range_with_len, get_or-map-range_with_len}
-use Rattle.std.specs.Prelude.{◌&&◌, ◌||◌, if◌then◌else◌, nat_eq, not, replicate}
+use Rattle.std.specs.Prelude.{◌&&◌, ◌||◌, if◌then◌else◌, nat_eq}
 use Rattle.tail_book.specs.Numbers.{contains}
 use Rattle.tail_book.specs.Fliers.{flier, fliers_of}
 use Rattle.cert_writer.specs.inside.Noting.{noted, NotesRoute}

@@ -18,7 +18,6 @@ use Rattle.node_leaves.specs.Node.{Ending, Hole, Stuck, Bounded, Split, Node}
 use Rattle.branch_tree.specs.SearchTree.{IsOutcomeOf}
 use Rattle.branch_tree.specs.declared.limit.Limit.{Limit}
 use Rattle.cert_lines.specs.Grammar.{IsLine, IsLineClaim}
-use Rattle.cert_lines.specs.declared.cert_line.CertLine.{CertLine}
 use Rattle.cert_lines.specs.declared.cert_line.CertLine.TheVariants as line
 use Rattle.cert_lines.specs.PlanLines.{fly_lines, plan_lines}
 use Rattle.cert_checker.specs.Certificate.{header_of}

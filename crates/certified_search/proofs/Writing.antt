@@ -1,14 +1,13 @@
 -- What a sink holds of a certificate after each of its parts: the header, the events of the search, the plan and the
 -- claim. Each part comes behind the ones before, so where one fails the sink holds a front of what was due: of a begun
 -- tree while the search runs, and of the whole certificate once it has ended.
-use Rattle.std.proofs.Common.{◌≡◌, ◌∙◌, inl, inr, ◌≤◌, ◌-◌, ℕ, List, [], ◌∷◌, ◌++◌, map, Option, Some, None, refl, sym, ap, subst, append_assoc, arith}
+use Rattle.std.proofs.Common.{◌≡◌, ◌∙◌, inl, inr, ◌-◌, ℕ, List, [], ◌∷◌, ◌++◌, map, Option, Some, None, refl, sym, ap, subst, append_assoc, arith}
 use Rattle.std.proofs.lemmas.List.{append-nil, map-append}
 use Rattle.tail_book.specs.Lookup.{activities}
 use Rattle.tail_book.specs.Seen.{BookSeen}
 use Rattle.tail_book.specs.declared.outcome.Outcome.{Outcome}
 use Rattle.tail_book.specs.CostTable.{costs_of}
 use Rattle.tail_book.specs.inside.Sound.{IsBook}
-use Rattle.tail_book.specs.Faults.{HasRisen}
 use Rattle.tail_outside.specs.Outside.{Adds, AddsFront}
 use Rattle.tail_outside.specs.Shown.{SinkShown}
 use Rattle.branch_marks.specs.TreeLog.{IsCut}

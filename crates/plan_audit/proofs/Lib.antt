@@ -8,7 +8,6 @@ mod Legality
 mod Unbroken
 mod Deciding
 mod Converse
-mod Listed
 mod ToldLemmas
 mod KeptLegs
 mod KeptRoutes

@@ -8,10 +8,9 @@ use Rattle.std.proofs.lemmas.List.{append-nil, take_all, take-append-le}
 use Rattle.std.proofs.lemmas.List.Folds.{list_all-append}
 use Rattle.tail_book.specs.Name.{is_name}
 use Rattle.tail_text.specs.Bad.{bad}
-use Rattle.tail_text.specs.declared.codes.TheConstants.{SHAPE, TOO_MANY}
 use Rattle.tail_text.specs.NameText.{name_of}
 use Rattle.tail_text.specs.declared.bad.Bad.{Bad}
-use Rattle.plan_report.specs.PlanText.{ids_in, refused}
+use Rattle.plan_report.specs.PlanText.{ids_in}
 use Rattle.tail_book.specs.declared.limits.TheConstants.{ACTIVITY_LIMIT}
 
 named : (test : Bool) (text name : List ℕ) → is_name text ≡ test → Ok name ≡ name_of text → (name ≡ text) × (is_name text ≡ true)

@@ -1,7 +1,7 @@
 -- The later lines of a plan file, one by one: those that were read stand before what is left, and each turn takes one
 -- line. What the lines give is always what was read, joined to what the lines that are left give. So the first line
 -- that is refused, or is one too many, decides for the whole, and its place is the number of lines read plus 2.
-use Rattle.std.proofs.Common.{◌≡◌, ◌∙◌, ◌<◌, ◌≤◌, ℕ, ◌+◌, ◌-◌, true, false, length-append, List, [], ◌∷◌, ◌++◌, Result, Ok, Err, length, refl, arith, nat_lt}
+use Rattle.std.proofs.Common.{◌≡◌, ◌∙◌, ◌<◌, ◌≤◌, ℕ, ◌+◌, ◌-◌, true, length-append, List, [], ◌∷◌, ◌++◌, Result, Ok, Err, length, refl, arith, nat_lt}
 use Rattle.std.proofs.lemmas.Bool.Decides.{nat_tests}
 use Rattle.std.proofs.lemmas.List.{append-nil}
 use Rattle.tail_book.specs.Seen.{RawLineSeen}

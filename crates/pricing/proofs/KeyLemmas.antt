@@ -1,7 +1,7 @@
 -- A key, written counter by counter. It begins with the weight and the moment of arrival; what is written, with the
 -- keys of the counters that are left behind it, is the whole key at each step. So with no counter left what is written
 -- is the key. It has two values more than there are counters.
-use Rattle.std.proofs.Common.{append_assoc, append-nil, suc, ◌≡◌, ℕ, ℤ, pos, ◌+◌, ◌<◌, ◌≤◌, ◌-ℤ◌, cond, Bool, arith, refl, List, [], ◌∷◌, ◌++◌, length, get_or, drop, sym, ◌∙◌, ap, ap₂}
+use Rattle.std.proofs.Common.{append_assoc, append-nil, suc, ◌≡◌, ℕ, ℤ, pos, ◌+◌, ◌<◌, ◌≤◌, Bool, arith, refl, List, [], ◌∷◌, ◌++◌, length, get_or, drop, sym, ◌∙◌, ap, ap₂}
 use Rattle.std.proofs.lemmas.List.{drop_more, drop_all}
 use Rattle.tail_book.specs.Seen.{BookSeen, CounterSeen}
 use Rattle.tail_book.specs.Lookup.{end_of}

@@ -2,7 +2,7 @@
 -- that waited before is where it was, and the new one is an entry as the others are. What was held in any line stays
 -- held, since what is covered stays covered while keys come. Flights enter in order of their ends: so once one has not
 -- waited long enough, none behind it has.
-use Rattle.std.proofs.Common.{◌≡◌, ℕ, ℤ, ◌+◌, ◌+ℤ◌, ◌≤ℤ◌, ◌<ℤ◌, ◌<◌, inl, inr, arith, refl, List, [], ◌∷◌, ◌++◌, length, subst, sym, ap, ◌∙◌, get_or}
+use Rattle.std.proofs.Common.{◌≡◌, ℕ, ℤ, ◌+◌, ◌+ℤ◌, ◌≤ℤ◌, ◌<ℤ◌, ◌<◌, inl, inr, arith, List, [], ◌∷◌, ◌++◌, length, subst, sym, ap, ◌∙◌, get_or}
 use Rattle.std.specs.Prelude.{None}
 use Rattle.std.proofs.lemmas.Bool.{cases_lt}
 use Rattle.std.proofs.lemmas.Int.{ints}
@@ -20,7 +20,7 @@ use Rattle.pricing.specs.declared.waiting.Waiting.{Waiting}
 use Rattle.pricing.specs.declared.window.Window.{Window}
 use Rattle.pricing.specs.inside.Growth.{Grows}
 use Rattle.pricing.specs.inside.Waiting.{AreFlights, AreHeld, ArePending, HaveEntered, IsHeld, IsEntryOf, IsEntry, IsWaiting, Joins, MayWait, enters_after, label_at, place_at, window_at}
-use Rattle.label_store.proofs.Growing.{grows_refl, grows_trans}
+use Rattle.label_store.proofs.Growing.{grows_trans}
 
 module _ (book : BookSeen) (marks : List Fact) (stand : Stand) (windows : List Window) (store : StoreSeen) where
   -- what is an entry is one where its window, its label, its activity and its key are the same

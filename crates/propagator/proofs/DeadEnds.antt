@@ -3,7 +3,7 @@
 -- and no other, and may make only its predecessors dead: these are flagged, and lie below. Where it is not, it is
 -- passed.
 use Rattle.std.specs.Prelude.{◌≢◌, not, nat_eq}
-use Rattle.std.proofs.Common.{◌≡◌, ◌∙◌, ℕ, ℤ, ◌<◌, ◌+◌, Bool, false, inl, inr, List, [], ◌∷◌, ◌++◌, sym, ap, subst, arith, get_or, length, Option, None}
+use Rattle.std.proofs.Common.{◌≡◌, ◌∙◌, ℕ, ℤ, ◌<◌, ◌+◌, Bool, inl, inr, List, [], ◌∷◌, ◌++◌, sym, ap, subst, arith, get_or, length, Option, None}
 use Rattle.std.proofs.lemmas.Bool.{both_ways, cond-true, cond-false, true_from_ne_false, cases_order}
 use Rattle.std.proofs.Math.ListN.{set}
 use Rattle.std.proofs.lemmas.List.{length-set, get_or-set_other, ext_get_or}

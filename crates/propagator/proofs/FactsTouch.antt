@@ -5,25 +5,24 @@
 -- due, and what lies before them is to be asked. A Must of its own takes the links over it and the ends before it: all
 -- floors behind it become due, and all is to be asked. What has no flag keeps its links.
 use Rattle.std.specs.Prelude.{◌≢◌, ◌&&◌, ◌||◌, not, nat_eq, nat_le}
-use Rattle.std.proofs.Common.{◌≡◌, ◌∙◌, ℕ, ℤ, ◌<◌, ◌≤◌, ◌+◌, Bool, true, false, inl, inr, arith, List, [], ◌∷◌, ◌++◌, length, get_or, refl, sym, ap, subst, Option, None}
+use Rattle.std.proofs.Common.{◌≡◌, ◌∙◌, ℕ, ℤ, ◌<◌, ◌≤◌, ◌+◌, Bool, true, false, inl, inr, arith, List, [], ◌∷◌, ◌++◌, length, refl, sym, ap, subst, Option, None}
 use Rattle.std.proofs.lemmas.Bool.{both_ways, false_from_ne_true, ne_eqb, eq-eqb, le-leb, or_left, or_right}
 use Rattle.std.proofs.lemmas.Bool.Decides.{eqb_tells}
 use Rattle.tail_book.specs.Seen.{BookSeen}
 use Rattle.tail_book.specs.declared.place.Place.{Place}
 use Rattle.tail_book.specs.declared.place.Place.TheVariants.{Carry, After}
-use Rattle.tail_book.specs.Lookup.{activities, aircraft}
+use Rattle.tail_book.specs.Lookup.{activities}
 use Rattle.tail_book.specs.Numbers.{contains}
 use Rattle.connection_net.specs.inside.Laws.{PredecessorsAreLinks, SuccessorsAreLinks}
 use Rattle.connection_net.specs.Net.{net_of, predecessors_in, successors_in}
 use Rattle.branch_marks.specs.declared.fact.Fact.{Fact}
 use Rattle.branch_marks.specs.declared.fact.Fact.TheVariants.{Bar, Must, Cut, Tie}
 use Rattle.branch_marks.specs.MarkTests.{is_alive, is_before, is_usable, lets_go}
-use Rattle.branch_marks.specs.inside.MarkTests.{AliveDecides, UsableDecides, MayEndDecides}
+use Rattle.branch_marks.specs.inside.MarkTests.{UsableDecides, MayEndDecides}
 use Rattle.branch_marks.specs.Floors.{stepped_floor, floors}
 use Rattle.branch_marks.specs.Following.{IsDeadBy}
 use Rattle.floor_rows.specs.inside.FloorRow.{FloorRowSeen, floor_in, IsSetAt}
-use Rattle.floor_rows.specs.inside.LeastOver.{floor_of, brought, least_at, FloorsAreLeast, BroughtTells}
-use Rattle.propagator.specs.inside.Settling.{IsSettledFor}
+use Rattle.floor_rows.specs.inside.LeastOver.{brought, least_at, BroughtTells}
 use Rattle.propagator.specs.inside.SameFor.{SameFor}
 use Rattle.propagator.specs.inside.Touching.{is_set, AreSetToo, AreSetFrom, IsTouched, LosesOnly}
 use Rattle.propagator.proofs.MoreMarks.{alive_more, alive_kept, alive_at_kept, usable_more, usable_kept, end_kept, same_brings, barred, elsewhere_alive}

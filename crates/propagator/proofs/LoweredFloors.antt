@@ -3,8 +3,8 @@
 -- them is as good as the first. The pass may end early: where what stands at b is no higher than the floor, what is
 -- left lowers nothing, and so it is the floor. And where a step's values lower nothing, whether the link is usable need
 -- not be asked.
-use Rattle.std.specs.Prelude.{◌≢◌, All, if◌then◌else◌}
-use Rattle.std.proofs.Common.{◌≡◌, ◌∙◌, ℕ, ℤ, ◌<◌, ◌≤◌, ◌+◌, ◌-◌, Bool, true, false, List, [], ◌∷◌, ◌++◌, length, take, get_or, ap, arith, refl, sym, subst, Option, None, Some}
+use Rattle.std.specs.Prelude.{◌≢◌, All}
+use Rattle.std.proofs.Common.{◌≡◌, ◌∙◌, ℕ, ℤ, ◌<◌, ◌≤◌, ◌+◌, ◌-◌, List, [], ◌∷◌, ◌++◌, length, take, get_or, ap, arith, refl, sym, subst, Option, None, Some}
 use Rattle.std.specs.Int.{int_min}
 use Rattle.std.proofs.lemmas.Int.{ints, clamps}
 use Rattle.std.proofs.lemmas.List.{take_more}

@@ -1,9 +1,8 @@
 -- A front of some facts is a front of these with more behind them. So a propagator that is kept for marks is kept for
 -- marks that have grown since: what it knows is of the first n facts, which are still the first. Once all facts are
 -- shut and their floors stand in the rows, all of them are such a front.
-use Rattle.std.proofs.Common.{◌≡◌, ℕ, List, ◌++◌, length, take, arith, sym, subst, Option, None, Some}
+use Rattle.std.proofs.Common.{◌≡◌, ℕ, List, ◌++◌, take, arith, sym, subst, Option, None, Some}
 use Rattle.std.proofs.lemmas.List.{take-append-le, length-append}
-use Rattle.std.proofs.Math.Seq.{take-length}
 use Rattle.tail_book.specs.Seen.{BookSeen}
 use Rattle.branch_marks.specs.declared.fact.Fact.{Fact}
 use Rattle.branch_marks.specs.Following.{IsShut}

@@ -2,11 +2,10 @@
 -- and is none of the numbers that were set. So it chains, by induction over the numbers, and to set more flags than
 -- needed is never wrong. The same for a row from which a floor is taken: it is gone at its number, and all others are
 -- as they were.
-use Rattle.std.specs.Prelude.{◌≢◌, ◌||◌}
-use Rattle.std.proofs.Common.{◌≡◌, ◌∙◌, ℕ, ◌<◌, ◌≤◌, ◌+◌, Bool, true, false, inl, inr, arith, List, [], ◌∷◌, length, get_or, refl, sym, ap, subst, below_more, None}
+use Rattle.std.specs.Prelude.{◌≢◌}
+use Rattle.std.proofs.Common.{◌≡◌, ◌∙◌, ℕ, ◌<◌, ◌≤◌, Bool, false, arith, List, length, get_or, refl, ap, subst, None}
 use Rattle.std.proofs.Math.ListN.{set}
-use Rattle.std.proofs.lemmas.Bool.{both_ways, false_from_ne_true, ne_eqb}
-use Rattle.std.proofs.lemmas.Bool.Decides.{eqb_tells}
+use Rattle.std.proofs.lemmas.Bool.{false_from_ne_true}
 use Rattle.std.proofs.lemmas.List.{get_or-set_other, length-set}
 use Rattle.std.proofs.lemmas.Grind.{get_or-set_at}
 use Rattle.tail_book.specs.Numbers.{contains}

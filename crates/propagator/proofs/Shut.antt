@@ -6,7 +6,7 @@ use Rattle.tail_book.specs.Seen.{BookSeen}
 use Rattle.tail_book.specs.Lookup.{aircraft}
 use Rattle.branch_marks.specs.declared.fact.Fact.{Fact}
 use Rattle.branch_marks.specs.declared.fact.Fact.TheVariants.{Bar, Must, Cut, Tie}
-use Rattle.branch_marks.specs.Following.{IsOnlyCarrier, IsDeadConnection, IsShut, IsShutForFloors}
+use Rattle.branch_marks.specs.Following.{IsOnlyCarrier, IsDeadConnection, IsShut}
 use Rattle.floor_rows.specs.inside.FloorRow.{FloorRowSeen}
 use Rattle.propagator.specs.inside.Settling.{StandBelow}
 use Rattle.propagator.specs.inside.Cutting.{NothingNewFollows}

@@ -26,11 +26,10 @@ use Rattle.propagator.specs.Keeping.{KeepsFront, KeepsSeen}
 use Rattle.floor_rows.specs.inside.FloorRow.{FloorRowSeen}
 use Rattle.propagator.specs.inside.Rows.{floors_in}
 use Rattle.propagator.specs.inside.Settling.{IsSettledFor, StandBelow}
-use Rattle.propagator.specs.inside.Suspects.{is_suspect, LowersPasses, IsNoted, AreNoted}
-use Rattle.propagator.specs.inside.Moves.{KeepsFlags, MovesAll}
+use Rattle.propagator.specs.inside.Suspects.{is_suspect, IsNoted, AreNoted}
+use Rattle.propagator.specs.inside.Moves.{MovesAll}
 use Rattle.propagator.specs.inside.Touching.{is_set}
 use Rattle.propagator.proofs.MoreMarks.{alive_kept, usable_kept}
-use Rattle.propagator.proofs.MovedFloors.{still_on}
 use Rattle.propagator.proofs.OnlyCarriers.{at_some}
 use Rattle.propagator.proofs.SeenFront.{front_on}
 

@@ -7,11 +7,10 @@ use Rattle.std.proofs.lemmas.Bool.{both_ways, cases_eq}
 use Rattle.std.specs.Prelude.{if◌then◌else◌, IsSome, is_some}
 use Rattle.tail_book.specs.Seen.{BookSeen}
 use Rattle.tail_book.specs.TableSeen.{CostTableSeen}
-use Rattle.tail_book.specs.Lookup.{activities}
 use Rattle.tail_book.specs.CostTable.{cost_unit}
 use Rattle.branch_marks.specs.Bound.{bound_of}
 use Rattle.branch_marks.specs.Pool.{Pooled, sum_in}
-use Rattle.restricted_master.specs.inside.Moving.{is_due, IsSettledAt, IsWork, Sweeps, Visits}
+use Rattle.restricted_master.specs.inside.Moving.{is_due, IsSettledAt, Sweeps, Visits}
 
 bound_is : (z : ℤ) → pos 0 ≤ℤ z → pos (bound_of z) ≡ z
 bound_is (pos n) le = refl

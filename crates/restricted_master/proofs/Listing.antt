@@ -7,7 +7,7 @@ use Rattle.std.specs.Prelude.{All, nat_eq, ◌||◌, filter, if◌then◌else◌
 use Rattle.std.specs.List.{flat_map, range_with_len}
 use Rattle.std.proofs.lemmas.Bool.{cases_eq, eq-eqb, eqb-true}
 use Rattle.std.proofs.lemmas.Grind.{flat_map-append}
-use Rattle.std.proofs.lemmas.List.{append_assoc, append-nil, length-set, take_more, get_or-set_same, get_or-set_other}
+use Rattle.std.proofs.lemmas.List.{append-nil, length-set, take_more, get_or-set_same, get_or-set_other}
 use Rattle.std.proofs.lemmas.List.Elements.{All-nil, All-cons, filter-append}
 use Rattle.std.proofs.lemmas.List.Folds.{list_any-append}
 use Rattle.tail_book.specs.declared.place.Place.{Place}
@@ -15,7 +15,7 @@ use Rattle.tail_book.specs.declared.place.Place.TheVariants.{After}
 use Rattle.tail_book.specs.Numbers.{contains}
 use Rattle.tail_book.specs.inside.Rising.{IsRisingFrom}
 use Rattle.restricted_master.specs.Seen.{PoolSeen}
-use Rattle.restricted_master.specs.Pool.{aircraft_at, route_at}
+use Rattle.restricted_master.specs.Pool.{aircraft_at}
 use Rattle.restricted_master.specs.Lists.{is_of, has, numbers_of, in_order, list_at}
 use Rattle.restricted_master.specs.inside.Listing.{AreOwn, AreListedBy, GrowBy, GrowByOne}
 

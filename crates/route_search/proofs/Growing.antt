@@ -2,7 +2,7 @@
 -- that what it gives is covered, passes a limit of a counter, or is past the limit of weight; covered stays covered,
 -- and the limit only falls, so what was tried stays tried. An activity's bucket is done once all that may come next was
 -- tried from each of its rows, and those rows are still what they were.
-use Rattle.std.proofs.Common.{◌≡◌, ℕ, ℤ, ◌+ℤ◌, ◌-ℤ◌, ◌≤ℤ◌, ◌<ℤ◌, suc, ◌+◌, ◌<◌, ◌≤◌, arith, inl, inr, List, ◌∷◌, length, get_or, sym, subst}
+use Rattle.std.proofs.Common.{◌≡◌, ℕ, ℤ, ◌+ℤ◌, ◌-ℤ◌, ◌≤ℤ◌, ◌<ℤ◌, suc, ◌+◌, ◌<◌, ◌≤◌, arith, inl, inr, List, length, get_or, sym, subst}
 use Rattle.std.specs.Prelude.{pos}
 use Rattle.std.specs.List.{Contains}
 use Rattle.std.proofs.lemmas.Bool.{cases_lt}
@@ -13,7 +13,7 @@ use Rattle.tail_book.specs.TableSeen.{CostTableSeen}
 use Rattle.tail_book.specs.declared.place.Place.{Place}
 use Rattle.tail_book.specs.declared.place.Place.TheVariants.{Carry, After}
 use Rattle.branch_marks.specs.declared.fact.Fact.{Fact}
-use Rattle.branch_marks.specs.Marks.{IsUsable, FitsFrom}
+use Rattle.branch_marks.specs.Marks.{IsUsable}
 use Rattle.branch_marks.specs.Weights.{arc_weight, weight_from}
 use Rattle.label_store.specs.Seen.{StoreSeen}
 use Rattle.label_store.specs.Buckets.{row_at}

@@ -3,12 +3,12 @@
 use Rattle.std.proofs.Common.{◌≡◌, ◌∙◌, ◌<◌, ◌≤◌, ℕ, ◌+◌, Bool, true, false, sym, List, [], ◌∷◌, ◌++◌, Result, Ok, Err, length, take, refl, arith, nat_lt, nat_le, length-take, ap}
 use Rattle.std.proofs.lemmas.Bool.{le-leb, le-ltb, lt-leb, lt-ltb, ltb-false, ltb-true}
 use Rattle.std.proofs.lemmas.List.{append-nil, length_push, take_all, take-append-le}
-use Rattle.std.proofs.lemmas.List.Elements.{All-nil, All-push}
+use Rattle.std.proofs.lemmas.List.Elements.{All-push}
 use Rattle.std.specs.Prelude.{All}
 use Rattle.tail_book.specs.declared.limits.TheConstants.{ITEM_LIMIT}
 use Rattle.tail_text.specs.Checks.{look_each}
 use Rattle.tail_text.specs.declared.codes.TheConstants.{TOO_MANY}
-use Rattle.tail_text.specs.inside.Joined.{joined, joined-bad, joined-good, joined-nil}
+use Rattle.tail_text.specs.inside.Joined.{joined, joined-bad, joined-good}
 use Rattle.table_records.specs.Lists.{items_of}
 
 -- what is read of these parts stands before what those give that are left, the first of it is kept, and an item too
