@@ -71,11 +71,11 @@ impl Judging {
     {
         every_book_is_sound(book);
         let (n, c) = (book.activities.len(), book.rules.counters.len());
-        let branches = Branches::new(alloc, book)?;
         let duals = vec![in alloc; 0; n]?;
         let starts = vec![in alloc; 0; n]?;
-        let row = FloorRow::new(alloc, n, c)?;
         let counters = vec![in alloc; 0; c]?;
+        let row = FloorRow::new(alloc, n, c)?;
+        let branches = Branches::new(alloc, book)?;
         Ok(Judging {
             lines: 0,
             part: Part::Start,

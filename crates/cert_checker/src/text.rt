@@ -7,7 +7,7 @@ ghost use Rattle.std.specs.Prelude.{◌≡◌, ◌<◌, ◌≤◌, ◌+◌, ◌^
 ghost use Rattle.branch_marks.specs.Events.{IsNotable};
 ghost use Rattle.cert_lines.specs.Grammar.{IsLine};
 ghost use Rattle.cert_checker.specs.Step.{take_event, take_line};
-ghost use Rattle.cert_checker.specs.Verdict.{end_with, failed, is_label, take_read, take_text, verdict};
+ghost use Rattle.cert_checker.specs.Verdict.{end_with, failed, first_state, is_label, take_read, take_text, verdict};
 ghost use Rattle.cert_checker.specs.inside.Kept.{Answers, Gives, IsJudging, state_of};
 ghost use Rattle.cert_checker.specs.inside.Means.{AreMeansOf};
 
@@ -167,6 +167,31 @@ impl Judging {
             _ => failed(self.lines + 1, Reason::Unfinished),
         }
     }
+
+    // The verdict on a text of which no line was taken yet.
+    fn judge_lines(
+        &mut self,
+        alloc: Global,
+        book: &Book,
+        means: &Means,
+        text: &[u8],
+    ) -> Result<Verdict, Memory>
+        requires judging { IsJudging book.now self.old }
+        requires first { state_of self.old ≡ first_state }
+        requires means { AreMeansOf book.now means.now }
+        ensures verdict { IfOk result (λ answer. answer ≡ verdict book.now text.now) }
+    {
+        let mut lines = Parts::new(text, b'\n');
+        while let Some(next) = lines.take() {
+            if lines.is_done() {
+                return Ok(self.end(next));
+            }
+            if let Some(verdict) = self.take(alloc, book, means, next)? {
+                return Ok(verdict);
+            }
+        }
+        Ok(self.end(&[]))
+    }
 }
 
 /// The verdict on a text: whether it is accepted as a certificate of the book, and for which claim, or its first failure.
@@ -174,15 +199,14 @@ pub fn judge(alloc: Global, book: &Book, text: &[u8]) -> Result<Verdict, Memory>
     ensures verdict { IfOk result (λ answer. answer ≡ verdict book.now text.now) }
 {
     let means = Means::of(alloc, book)?;
+    judge_by(alloc, book, &means, text)
+}
+
+// The verdict on a text by what is read of the book.
+fn judge_by(alloc: Global, book: &Book, means: &Means, text: &[u8]) -> Result<Verdict, Memory>
+    requires means { AreMeansOf book.now means.now }
+    ensures verdict { IfOk result (λ answer. answer ≡ verdict book.now text.now) }
+{
     let mut judging = Judging::new(alloc, book)?;
-    let mut lines = Parts::new(text, b'\n');
-    while let Some(next) = lines.take() {
-        if lines.is_done() {
-            return Ok(judging.end(next));
-        }
-        if let Some(verdict) = judging.take(alloc, book, &means, next)? {
-            return Ok(verdict);
-        }
-    }
-    Ok(judging.end(&[]))
+    judging.judge_lines(alloc, book, means, text)
 }
