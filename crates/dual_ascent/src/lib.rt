@@ -16,6 +16,6 @@ mod powers;
 
 pub use ascent::Ascent;
 pub use climber::Climber;
-
-#[cfg(test)]
-mod tests;
+pub use demand::{Share, WHOLE, part_of, rise};
+pub use groups::{Groups, Member};
+pub use powers::{OCTAVE, ONE, Powers};

@@ -1,5 +1,6 @@
-//! What pricing, the search within a cut, dives and the plan finder answer on small books.
+//! What pricing, the search within a cut, dives and the plan finder answer on small books, and the numbers of ascents.
 
+mod ascents;
 mod asks;
 mod books;
 mod dives;

@@ -1,8 +1,6 @@
-//! Powers, logarithms and demands, beside what they are by hand.
+//! What ascents of duals are made of: powers, logarithms, demands and groups, beside what they are by hand.
 
-use crate::demand::{Share, WHOLE, part_of, rise};
-use crate::groups::{Groups, Member};
-use crate::powers::{OCTAVE, ONE, Powers};
+use dual_ascent::{Groups, Member, OCTAVE, ONE, Powers, Share, WHOLE, part_of, rise};
 use std::test::Fail;
 
 // Exponents, with the powers of two.
