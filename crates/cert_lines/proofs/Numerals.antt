@@ -1,11 +1,11 @@
--- A number has one spelling: what is read as a number is what is written of it, and what is written is read as it.
+-- A number has one spelling: what is read as a number is what is written of it.
 --
 -- The tests of a numeral say that std's digits with no zero in front stand there, and those are what is written of
 -- their value. A minus is no digit, so a value below 0 has one spelling too.
 use Rattle.std.proofs.Common.{◌≡◌, ◌∙◌, ◌≤◌, ◌<◌, ◌^◌, ℕ, zero, suc, Bool, true, false, List, Some, Result, Ok, Err, length, get_or, nat_le, nat_lt, ◌==◌, ◌&&◌, not, refl, sym, ap, arith}
 use Rattle.std.proofs.lemmas.Bool.{and_parts, leb-true}
 use Rattle.std.proofs.lemmas.Bool.Decides.{nat_tests}
-use Rattle.std.proofs.lemmas.Fmt.{decimal_digit, decimal_nonempty, decimal-digits_value, digits_decimal, digits_value-decimal, first_decimal}
+use Rattle.std.proofs.lemmas.Fmt.{decimal-digits_value}
 use Rattle.std.proofs.lemmas.Str.Parse.{FoldsDigits, IsDigitsTest, IsNumeralModel, numerals_by_fold}
 use Rattle.std.specs.Char.{is_ascii_digit}
 use Rattle.std.specs.Fmt.{decimal}
@@ -59,31 +59,6 @@ number_written max n ds room e =
     let parts = and_parts (is_numeral ds) (nat_le (value_after 0 ds) max) given.0 in
     let most = leb-true (value_after 0 ds) max parts.1 in
     (numeral_written ds parts.0 (omega (arith, most)) ∙ ap decimal given.1, omega (arith, most, given.1))
-
--- what is written of a number is a numeral of that value
-and_false : (b c : Bool) → c ≡ false → (b && c) ≡ false
-and_false true c e = e
-and_false false c e = refl
-
-not_zero : (d : ℕ) → 48 < d → (d == 48) ≡ false
-not_zero d h = grind (arith, nat_tests)
-
-no_leading_zero : (n : ℕ) → n < 2 ^ 64 → has_leading_zero (decimal n) ≡ false
-no_leading_zero zero small = let e = decimal_digit 0 (omega arith) in rw e refl
-no_leading_zero (suc n) small = and_false (nat_lt 1 (length (decimal (suc n)))) _ (not_zero _ (first_decimal (suc n) (omega arith) small))
-
-not_empty : (n : ℕ) → 0 < n → (n == 0) ≡ false
-not_empty n h = grind (arith, nat_tests)
-
-pub decimal_digits : (n : ℕ) → n < 2 ^ 64 → list_all is_ascii_digit (decimal n) ≡ true
-decimal_digits n small = digits_decimal model n small
-
-within : (n max : ℕ) → n ≤ max → nat_le n max ≡ true
-within n max h = grind (arith, nat_tests)
-
-pub number_read : (max n : ℕ) → n < 2 ^ 64 → n ≤ max → number_of max (decimal n) ≡ Ok n
-number_read max n small fits =
-    rw (not_empty _ (decimal_nonempty n small), no_leading_zero n small, decimal_digits n small, digits_value-decimal model n small, within n max fits) refl
 
 -- what a number of an answer is
 pub ok_is : (r : Result ℕ Bad) (n : ℕ) → result_ok r ≡ Some n → r ≡ Ok n

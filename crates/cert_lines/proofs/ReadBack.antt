@@ -32,7 +32,7 @@ use Rattle.cert_lines.specs.OneSpelling.{SpelledLinesAreRead, SpelledLinesAreSho
 use Rattle.cert_lines.specs.Reading.{line_in}
 use Rattle.cert_lines.specs.Spelling.{behind, claim_line_words, event_words, spaced, words_of}
 use Rattle.cert_lines.specs.Words.{counters_of, number_and_value, two_numbers}
-use Rattle.cert_lines.proofs.Numerals.{decimal_digits}
+use Rattle.tail_text.proofs.DecimalLemmas.{decimal-digits}
 use Rattle.cert_lines.proofs.Values.{amount_read, large_read, small_read, value_read}
 
 -- a word of a line: each byte comes behind the space, and there are few
@@ -50,7 +50,7 @@ digit_behind : (c : ℕ) → is_ascii_digit c ≡ true → 33 ≤ c
 digit_behind c e = let parts = and_parts (nat_le 48 c) (nat_le c 57) e in omega (arith, leb-true 48 c parts.0)
 
 digits_behind : (n : ℕ) → n < 2 ^ 64 → All (λ c. 33 ≤ c) (decimal n)
-digits_behind n small = let each = AllPass-from_list_all is_ascii_digit (decimal n) (decimal_digits n small) in λ k d lt. digit_behind (get_or (decimal n) k d) (each k d lt)
+digits_behind n small = let each = AllPass-from_list_all is_ascii_digit (decimal n) (decimal-digits n small) in λ k d lt. digit_behind (get_or (decimal n) k d) (each k d lt)
 
 number_word : (n : ℕ) → n < 2 ^ 64 → IsWord (decimal n)
 number_word n small = record { behind = digits_behind n small; few = length-decimal-le 20 n (omega arith) (omega (arith, small)) small }
@@ -194,7 +194,7 @@ claim_read (Optimal cost) h = rw (large_read cost h) refl
 claim_read Infeasible h = refl
 claim_read (Limit low None) h = rw (large_read low h) refl
 claim_read (Limit low (Some high)) h =
-    rw (large_read low (omega (arith, h.0, h.1)), no_hyphen (decimal high) (decimal_digits high h.0) (bytes_eq (decimal high) (codes "-")) refl, large_read high h.0, is_below low high h.1) refl
+    rw (large_read low (omega (arith, h.0, h.1)), no_hyphen (decimal high) (decimal-digits high h.0) (bytes_eq (decimal high) (codes "-")) refl, large_read high h.0, is_below low high h.1) refl
 
 one_is : decimal 1 ≡ codes "1"
 one_is = decimal_digit 1 (omega arith)

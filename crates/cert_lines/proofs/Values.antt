@@ -15,7 +15,8 @@ use Rattle.branch_marks.specs.Events.{IsLineNumber, IsLineValue, IsLineCounter}
 use Rattle.cert_lines.specs.declared.cert_line.TheConstants.{VALUE_LIMIT}
 use Rattle.cert_lines.specs.Grammar.{IsLineCost}
 use Rattle.cert_lines.specs.Words.{small, large, amount, value, negated, below_zero}
-use Rattle.cert_lines.proofs.Numerals.{decimal_digits, number_read, number_written, ok_is}
+use Rattle.cert_lines.proofs.Numerals.{number_written, ok_is}
+use Rattle.tail_text.proofs.DecimalLemmas.{decimal-digits, number_of-decimal}
 use Rattle.cert_lines.proofs.Steps.{through_map, through_then, through_either}
 
 pub small_written : (word : List ℕ) (n : ℕ) → small word ≡ Some n → (word ≡ decimal n) × IsLineNumber n
@@ -24,7 +25,7 @@ small_written word n e =
     (told.0, omega (arith, told.1))
 
 pub small_read : (n : ℕ) → IsLineNumber n → small (decimal n) ≡ Some n
-small_read n fits = rw (number_read 4_294_967_295 n (omega (arith, fits)) (omega (arith, fits))) refl
+small_read n fits = rw (number_of-decimal 4_294_967_295 n (omega (arith, fits)) (omega (arith, fits))) refl
 
 pub large_written : (word : List ℕ) (n : ℕ) → large word ≡ Some n → (word ≡ decimal n) × IsLineCost n
 large_written word n e =
@@ -32,7 +33,7 @@ large_written word n e =
     (told.0, omega (arith, told.1))
 
 pub large_read : (n : ℕ) → IsLineCost n → large (decimal n) ≡ Some n
-large_read n fits = rw (number_read 18_446_744_073_709_551_615 n fits (omega (arith, fits))) refl
+large_read n fits = rw (number_of-decimal 18_446_744_073_709_551_615 n fits (omega (arith, fits))) refl
 
 -- a word writes this counter, which a line spells
 abbrev WritesCounter : List ℕ → ℤ → Type 0
@@ -46,7 +47,7 @@ amount_written word v e =
 pub amount_read : (v : ℤ) → IsLineCounter v → amount (signed_decimal v) ≡ Some v
 amount_read (pos n) fits =
     let most : n ≤ VALUE_LIMIT = omega (arith, ints, fits.most) in
-    rw (number_read VALUE_LIMIT n (omega (arith, most)) most) refl
+    rw (number_of-decimal VALUE_LIMIT n (omega (arith, most)) most) refl
 amount_read (negsuc n) fits = absurd (omega (arith, ints, fits.least))
 
 -- a word writes this value, which a line spells
@@ -83,7 +84,7 @@ pub value_read : (v : ℤ) → IsLineValue v → value (signed_decimal v) ≡ So
 value_read (pos n) fits =
     let most : n ≤ VALUE_LIMIT = omega (arith, ints, fits.most) in
     let small : n < 2 ^ 64 = omega (arith, most) in
-    no_minus (decimal n) (decimal_nonempty n small) (decimal_digits n small) ∙ amount_read (pos n) (record { least = omega (arith, ints); most = fits.most })
+    no_minus (decimal n) (decimal_nonempty n small) (decimal-digits n small) ∙ amount_read (pos n) (record { least = omega (arith, ints); most = fits.most })
 value_read (negsuc n) fits =
     let most : suc n ≤ VALUE_LIMIT = omega (arith, ints, fits.least) in
-    rw (number_read VALUE_LIMIT (suc n) (omega (arith, most)) most) refl
+    rw (number_of-decimal VALUE_LIMIT (suc n) (omega (arith, most)) most) refl

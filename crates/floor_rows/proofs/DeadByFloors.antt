@@ -11,7 +11,7 @@ use Rattle.branch_marks.specs.Following.{IsDeadBy, IsDead}
 use Rattle.floor_rows.specs.inside.LeastOver.{floor_of}
 use Rattle.floor_rows.specs.inside.Neighbours.{goes_on_from, SuccessorsTell}
 
-none_of : (floor : Option (List ℤ)) → is_some floor ≡ false → floor ≡ None
+pub none_of : (floor : Option (List ℤ)) → is_some floor ≡ false → floor ≡ None
 none_of None e = refl
 none_of (Some values) e = absurd (both_ways true e refl)
 

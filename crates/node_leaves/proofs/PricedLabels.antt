@@ -4,7 +4,7 @@
 use Rattle.std.proofs.Common.{◌≡◌, ◌∙◌, ℕ, suc, ℤ, ◌+◌, ◌<◌, ◌≤◌, ◌≤ℤ◌, arith, sym, subst, List, [], ◌∷◌, ◌++◌, length, map, Some}
 use Rattle.std.specs.Prelude.{All, AllPairs, slice_index_or}
 use Rattle.std.specs.List.{concat}
-use Rattle.std.proofs.lemmas.List.Elements.{All-nil, All-append, All-map, All-contains, All-contains_itself}
+use Rattle.std.proofs.lemmas.List.Elements.{All-append, All-map, All-contains, All-contains_itself}
 use Rattle.std.proofs.lemmas.List.Kept.{AllPairs-cons}
 use Rattle.tail_book.specs.Seen.{BookSeen}
 use Rattle.tail_book.specs.TableSeen.{CostTableSeen}
@@ -23,13 +23,9 @@ use Rattle.branch_marks.specs.Weights.{weight, WeighsAtLeast}
 use Rattle.label_store.specs.Seen.{StoreSeen}
 use Rattle.label_store.specs.Buckets.{row_at}
 use Rattle.label_store.specs.Store.{node_of, parent_of, bucket_of, IsStore, IsRowOf}
+use Rattle.pricing.proofs.Families.{concat_all}
 use Rattle.pricing.specs.Rows.{weight_of, counters_of, label_of, labels_of, route_to, route_within}
 use Rattle.node_leaves.specs.inside.PricedStore.{IsPricedStore}
-
-concat_all : (P : ℕ → Type 0) (lists : List (List ℕ)) → ((b : ℕ) → b < length lists → All P (slice_index_or lists b [])) → All P (concat lists)
-concat_all P [] each = All-nil P
-concat_all P (list ∷ rest) each =
-    All-append P list (concat rest) (each 0 (omega arith)) (concat_all P rest (λ b lt. each (suc b) (omega (arith, lt))))
 
 -- numbers that come in buckets, the nodes of each bucket larger than those of the bucket before it
 module _ (label_at : ℕ → Label) where

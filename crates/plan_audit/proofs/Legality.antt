@@ -11,7 +11,6 @@ use Rattle.tail_book.specs.Lookup.{activities, aircraft}
 use Rattle.tail_book.specs.declared.place.Place.{Place}
 use Rattle.tail_book.specs.declared.place.Place.TheVariants.{Carry, After}
 use Rattle.tail_book.specs.Curfew.{is_curfewed}
-use Rattle.tail_book.specs.Counters.{step_from}
 use Rattle.tail_book.specs.inside.Sound.{IsBook}
 use Rattle.tail_book.specs.Allowed.{is_permitted}
 use Rattle.tail_book.specs.LegalTests.{is_allowed, is_allowed_at, is_link, within_limits, is_legal_from, is_legal_route}
@@ -24,6 +23,7 @@ use Rattle.plan_audit.specs.declared.broken.Broken.TheVariants as rule
 use Rattle.plan_audit.specs.inside.Met.{IsMetOf}
 use Rattle.plan_audit.specs.Kept.{next_route, route_met, legs_from}
 use Rattle.plan_audit.specs.Rules.{not_allowed, curfews, no_links, past_limits_at, values_before, values_after, past_limits}
+use Rattle.tail_book.proofs.Order.{step_count}
 use Rattle.plan_audit.proofs.CountLemmas.{carry_width}
 
 pub both : (p q : Bool) → p ≡ true → q ≡ true → (p && q) ≡ true
@@ -76,13 +76,6 @@ within-by leg c (counter ∷ counters) (value ∷ values) same e =
     first : (t : Bool) → (if t then [] else rule.Counter leg.tail leg.activity c ∷ []) ≡ [] → t ≡ true
     first true e = refl
     first false e = cc
-
-pub step_width : (book : BookSeen) (k : ℕ) (x : Place) (b c : ℕ) (counters : List CounterSeen) (values : List ℤ) → length values ≡ length counters
-    → length (step_from book k x b c counters values) ≡ length counters
-step_width book k x b c [] values same = refl
-step_width book k x b c (counter ∷ counters) [] same = absurd (omega (arith, same))
-step_width book k x b c (counter ∷ counters) (value ∷ values) same =
-    let rest = step_width book k x b (c + 1) counters values (omega (arith, same)) in omega (arith, rest)
 
 -- a list of legs that breaks no rule of legs
 pub record IsUnbroken (book : BookSeen) (values : List ℤ) (legs : List Leg) : Type 0 where
@@ -141,7 +134,7 @@ module _ (book : BookSeen) (sound : IsBook book) where
       let allowed = leg_allowed values leg legs flier within h in
       let linked : is_link book k x b ≡ true =
       link-by (is_connected book k x b) (is_allowed_at book k x) (is_allowed book k b) (leg_connected values leg legs h) before allowed in
-      let wide = step_width book k x b 0 book.rules.counters (values_before book k x values) width in
+      let wide = step_count book k x b (values_before book k x values) width in
       let limits = within-by leg 0 book.rules.counters after wide
       (first_empty (past_limits_at leg 0 book.rules.counters after) (past_limits book after legs) h.limits) in
       let rest = routes_legal k (After b) after met (All-tail (IsMetOf book) (Activity b) met all) flier allowed wide (later values leg legs h) in (

@@ -28,7 +28,7 @@ use Rattle.plan_audit.specs.Rules.{past_limits_at, values_before, values_after, 
 use Rattle.maint_counters.specs.inside.StepTable.{no_counter}
 use Rattle.plan_audit.specs.inside.Told.{IsPastLimit}
 use Rattle.plan_audit.proofs.CountLemmas.{carry_width}
-use Rattle.plan_audit.proofs.Legality.{step_width}
+use Rattle.tail_book.proofs.Order.{step_count}
 use Rattle.plan_audit.proofs.ToldLemmas.{empty_has, cons_cases, cons_here, order_of, AreOf}
 use Rattle.plan_audit.proofs.KeptLegs.{nothing_comes, route_behind, first_same, rest_same}
 
@@ -227,7 +227,7 @@ module _ (book : BookSeen) (sound : IsBook book) where
       by false e here there at = there at
   coming_limits (Activity a ∷ met) k x values all width i b c =
       let after = step book k x a (values_before book k x values) in
-      let wide = step_width book k x a 0 book.rules.counters (values_before book k x values) width in
+      let wide = step_count book k x a (values_before book k x values) width in
       let rest = coming_limits met k (After a) after (All-tail (IsMetOf book) (Activity a) met all) wide i b c in (
         (λ e at. next_limit book k x a values (next_route met) (legs_from k (After a) met) i b c e wide rest.0 at.0 at.1 at.2 at.3),
         (λ at. Contains-append_right (past_limits_at (record { tail = k; from = x; activity = a }) 0 book.rules.counters after) (past_limits book after (legs_from k (After a) met)) (rule.Counter i b c) (rest.1 at)),

@@ -23,6 +23,7 @@ use Rattle.plan_audit.specs.Kept.{route_met, kept, legs_met}
 use Rattle.plan_audit.specs.inside.LegCost.{legs_cost}
 use Rattle.plan_audit.specs.Rules.{unknown, twice, uncovered, not_allowed, curfews, no_links, past_limits}
 use Rattle.plan_audit.specs.Broken.{broken, broken_by}
+use Rattle.plan_audit.proofs.Deciding.{routes-legal}
 use Rattle.plan_audit.proofs.WellMet.{names_well_met}
 use Rattle.plan_audit.proofs.Along.{kept_cost, kept_times, count_one}
 use Rattle.plan_audit.proofs.Legality.{both, negated, none_first, none_later, first_empty, second_empty, IsUnbroken, routes_legal_first}
@@ -70,11 +71,6 @@ none_passes f p s (suc n) e a least most = elim (cases_Bool (s == a)) [
       none_passes f p (s + 1) n (none_later f p s (range_with_len (s + 1) n) e) a (omega (arith, other, least)) (omega (arith, most)))
 ]
 
-all_below : (book : BookSeen) (plan : List (List ℕ)) (m : ℕ) → ((k : ℕ) → k < m → is_legal_route book k (route_of plan k) ≡ true) → are_legal_below book plan m ≡ true
-all_below book plan zero each = refl
-all_below book plan (suc m) each =
-    both (is_legal_route book m (route_of plan m)) (are_legal_below book plan m) (each m (omega arith)) (all_below book plan m (λ k lt. each k (omega (arith, lt))))
-
 once_below : (plan : List (List ℕ)) (n : ℕ) → ((a : ℕ) → a < n → times_flown plan a ≡ 1) → are_flown_once_below plan n ≡ true
 once_below plan zero each = refl
 once_below plan (suc n) each =
@@ -97,7 +93,7 @@ kept_passes book sound raw e =
     (none_passes rule.Uncovered (λ b. not (contains (activities_met met) b)) 0 (activities book) parts.uncovered a (omega arith) (omega (arith, within)))) in
     both (length (kept book raw) == aircraft book) _ (eq-eqb (length (kept book raw)) (aircraft book) (length-map-range_with_len (route_met met) 0 (aircraft book)))
     (both (are_legal_below book (kept book raw) (aircraft book)) _
-    (all_below book (kept book raw) (aircraft book) (λ k within. ap (is_legal_route book k) (kept_route book raw k within) ∙ routes k))
+    (routes-legal book (kept book raw) (aircraft book) (λ k within. ap (is_legal_route book k) (kept_route book raw k within) ∙ routes k))
     (once_below (kept book raw) (activities book) once))
 
 pub unbroken_is_legal : LegalPlanDecides → (book : BookSeen) → IsBook book → (raw : RawPlanSeen) → broken book raw ≡ []

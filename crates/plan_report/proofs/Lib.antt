@@ -2,7 +2,6 @@ pub mod SinkLemmas
 pub mod Writable
 pub mod IdLemmas
 pub mod LineLemmas
-pub mod DecimalLemmas
 pub mod NameBytes
 pub mod CountLemmas
 pub mod TextLemmas

@@ -23,7 +23,7 @@ use Rattle.plan_report.specs.Report.{aircraft_line, aircraft_lines}
 use Rattle.tail_book.specs.declared.limits.TheConstants.{ACTIVITY_LIMIT, TAIL_LIMIT}
 use Rattle.tail_text.specs.declared.refusal.TheConstants.{SIZE_LIMIT}
 use Rattle.plan_report.proofs.CountLemmas.{at_most}
-use Rattle.plan_report.proofs.DecimalLemmas.{decimal-digits, number_of-decimal}
+use Rattle.tail_text.proofs.DecimalLemmas.{decimal-digits, number_of-decimal}
 use Rattle.plan_report.proofs.NameBytes.{Lacks, lacks}
 use Rattle.plan_report.proofs.NamedLines.{aircraft_lines-ended, length-line, line_texts, lines_lack, lines_read}
 use Rattle.plan_report.proofs.TextLemmas.{ended, lines_of-text}

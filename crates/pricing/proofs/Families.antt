@@ -37,10 +37,15 @@ concat_has [] b j lt has = absurd (omega (arith, lt))
 concat_has (list ∷ rest) zero j lt has = Contains-append_left list (concat rest) j has
 concat_has (list ∷ rest) (suc b) j lt has = Contains-append_right list (concat rest) j (concat_has rest b j (omega (arith, lt)) has)
 
-concat_all : (P : ℕ → Type 0) (lists : List (List ℕ)) → ((b : ℕ) → b < length lists → All P (slice_index_or lists b [])) → All P (concat lists)
+pub concat_all : (P : ℕ → Type 0) (lists : List (List ℕ)) → ((b : ℕ) → b < length lists → All P (slice_index_or lists b [])) → All P (concat lists)
 concat_all P [] each = All-nil P
 concat_all P (list ∷ rest) each =
     All-append P list (concat rest) (each 0 (omega arith)) (concat_all P rest (λ b lt. each (suc b) (omega (arith, lt))))
+
+-- a row that is nowhere larger than a label's weight and counters
+pub lighter : (row : List ℤ) (w : ℤ) (values : List ℤ) → EachAtMost row (w ∷ values) → (weight_of row ≤ℤ w) × EachAtMost (counters_of row) values
+lighter [] w values most = absurd most
+lighter (v ∷ others) w values most = (most.0, most.1)
 
 module _ (store : StoreSeen) (sound : IsStore store) where
   -- a row of a bucket is kept, and has its node
@@ -50,10 +55,6 @@ module _ (store : StoreSeen) (sound : IsStore store) where
   pub each_label : (P : Label → Type 0) → ((b : ℕ) → b < length store.buckets → (j : ℕ) → Contains (bucket_of store b) j → P (label_of store j)) → All P (labels_of store)
   each_label P each = All-map P (label_of store) (concat store.buckets) (concat_all (λ (j : ℕ). P (label_of store j)) store.buckets
       (λ b lt i d less. each b lt (slice_index_or (bucket_of store b) i d) (All-contains_itself (bucket_of store b) i d less)))
-
-  lighter : (row : List ℤ) (w : ℤ) (values : List ℤ) → EachAtMost row (w ∷ values) → (weight_of row ≤ℤ w) × EachAtMost (counters_of row) values
-  lighter [] w values most = absurd most
-  lighter (v ∷ others) w values most = (most.0, most.1)
 
   label_covers : (b : ℕ) (w : ℤ) (values : List ℤ) → b < length store.buckets → IsCoveredAt store b (w ∷ values)
       → IsCoveredBy (labels_of store) (record { at = b; weight = w; counters = values })

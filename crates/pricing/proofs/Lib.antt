@@ -1,7 +1,7 @@
 mod Steps
 mod Routes
 mod Truths
-mod Families
+pub mod Families
 mod Growing
 mod Predecessors
 mod Filling

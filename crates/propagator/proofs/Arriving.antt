@@ -1,9 +1,9 @@
 -- Adding Bars of one aircraft. Each leaves all other aircraft the same and makes nothing alive for its own, and so do
 -- several, one after the other. Where the aircraft is alive at an activity and has no floor there, the activity is dead
 -- for it, so its Bar follows.
-use Rattle.std.specs.Prelude.{Result, Ok, Err, OnOk, OnErr, is_some}
-use Rattle.std.proofs.Common.{◌≡◌, ◌∙◌, ℕ, ℤ, true, false, List, [], ◌∷◌, ◌++◌, refl, sym, subst, Option, None, Some}
-use Rattle.std.proofs.lemmas.Bool.{and_parts, both_ways}
+use Rattle.std.specs.Prelude.{Result, Ok, Err, OnOk, OnErr}
+use Rattle.std.proofs.Common.{◌≡◌, ◌∙◌, ℕ, List, [], ◌∷◌, ◌++◌, refl, sym, subst}
+use Rattle.std.proofs.lemmas.Bool.{and_parts}
 use Rattle.tail_book.specs.Seen.{BookSeen}
 use Rattle.branch_marks.specs.declared.fact.Fact.{Fact}
 use Rattle.branch_marks.specs.declared.fact.Fact.TheVariants.{Bar}
@@ -42,7 +42,3 @@ pub at_either : {T E : Type 0} (P : List Fact → Type 0) (result : Result T E) 
     → P next → P old → P new
 at_either P (Ok v) old new next ok err p q = subst P (sym ok) p
 at_either P (Err e) old new next ok err p q = subst P (sym err) q
-
-pub none_of : (floor : Option (List ℤ)) → is_some floor ≡ false → floor ≡ None
-none_of None e = refl
-none_of (Some values) e = absurd (both_ways true e refl)

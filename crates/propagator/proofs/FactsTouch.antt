@@ -60,6 +60,12 @@ must_loses book marks k c j ne = record {
   end = λ x. ap (λ (t : Bool). not (t && is_before x c)) (ne_eqb j k ne);
 }
 
+-- a Tie lets go what neither begins at its first end nor ends at its second
+pub lets_past : (p q : Bool) → p ≡ false → q ≡ false → ((not p || q) && (not q || p)) ≡ true
+lets_past true q e f = absurd (both_ways true e refl)
+lets_past false true e f = absurd (both_ways true f refl)
+lets_past false false e f = refl
+
 module _ (tells : BroughtTells) (usable : UsableDecides) (ends : MayEndDecides) (book : BookSeen) (marks : List Fact) (fact : Fact) (k c : ℕ) (loses : LosesOnly book marks fact k c) where
   rest_usable : (x b : ℕ) → x ≢ c → b ≢ c → is_usable book (marks ++ fact ∷ []) k (After x) b ≡ is_usable book marks k (After x) b
   rest_usable x b nx nb = usable_kept book marks fact k (After x) b (loses.rest x nx) (loses.rest b nb) (loses.go (After x) b)
@@ -178,12 +184,6 @@ module _ (tells : BroughtTells) (usable : UsableDecides) (ends : MayEndDecides) 
   never_usable x b e =
       usable_more book marks (Tie c d) k x b (alive_at_kept book marks (Tie c d) k (λ a. alive_kept book marks (Tie c d) k a refl) x) (alive_kept book marks (Tie c d) k b refl)
       ∙ ap (λ (t : Bool). t && lets_go k x b (Tie c d)) e
-
-  -- a Tie lets go what neither begins at its first end nor ends at its second
-  lets_past : (p q : Bool) → p ≡ false → q ≡ false → ((not p || q) && (not q || p)) ≡ true
-  lets_past true q e f = absurd (both_ways true e refl)
-  lets_past false true e f = absurd (both_ways true f refl)
-  lets_past false false e f = refl
 
   -- with a Tie the floors behind both ends are due, and what lies before them is to be asked
   pub tie_touches : SuccessorsAreLinks → PredecessorsAreLinks → (row : FloorRowSeen) (due mid due' ask half ask' : List Bool)

@@ -29,6 +29,7 @@ use Rattle.propagator.specs.inside.Settling.{IsSettledFor, StandBelow}
 use Rattle.propagator.specs.inside.Suspects.{is_suspect, IsNoted, AreNoted}
 use Rattle.propagator.specs.inside.Moves.{MovesAll}
 use Rattle.propagator.specs.inside.Touching.{is_set}
+use Rattle.propagator.proofs.FactsTouch.{lets_past}
 use Rattle.propagator.proofs.MoreMarks.{alive_kept, usable_kept}
 use Rattle.propagator.proofs.OnlyCarriers.{at_some}
 use Rattle.propagator.proofs.SeenFront.{front_on}
@@ -132,11 +133,6 @@ module _ (leave arrive : List Bool) (pass : List ℕ) (j : ℕ) where
         | inr apart ↦ absurd (both_ways (lets_go j (After a) b (Tie c d)) off (lets_past (nat_eq a c) (nat_eq d b) other.0 apart.0))
       ]
     ]
-      where
-        lets_past : (p q : Bool) → p ≡ false → q ≡ false → ((not p || q) && (not q || p)) ≡ true
-        lets_past true q e f = absurd (both_ways true e refl)
-        lets_past false true e f = absurd (both_ways true f refl)
-        lets_past false false e f = refl
 
     link_noted : (fact : Fact) → IsNoted leave arrive pass fact → lets_link j a b fact ≡ false → (is_suspect leave arrive pass a b ≡ true) ⊎ (fact ≡ Cut a b)
     link_noted fact noted off = elim (cases_Bool (lets_fly j a fact)) [

@@ -18,6 +18,7 @@ use Rattle.branch_marks.specs.Marks.{Fits, FitsFrom, MayEnd}
 use Rattle.branch_marks.specs.Weights.{arc_weight, weight, weight_from, WeightIsAlong, IsRouteOfWeight}
 use Rattle.label_store.specs.Seen.{StoreSeen}
 use Rattle.label_store.specs.Buckets.{row_at}
+use Rattle.pricing.proofs.Families.{lighter}
 use Rattle.pricing.specs.declared.end.RouteEnd.{RouteEnd}
 use Rattle.pricing.specs.Rows.{weight_of, counters_of, route_to}
 use Rattle.pricing.specs.inside.Ends.{IsAtMost}
@@ -33,10 +34,6 @@ use Rattle.route_search.specs.inside.Reach.{GoesOn, AreDone}
 at_most_more : (best : Option RouteEnd) (most more : ℤ) → most ≤ℤ more → IsAtMost best most → IsAtMost best more
 at_most_more None most more le at_most = at_most
 at_most_more (Some end) most more le at_most = omega (arith, ints, le, at_most)
-
-lighter : (row : List ℤ) (w : ℤ) (values : List ℤ) → EachAtMost row (w ∷ values) → (weight_of row ≤ℤ w) × EachAtMost (counters_of row) values
-lighter [] w values most = absurd most
-lighter (v ∷ others) w values most = (most.0, most.1)
 
 nothing_more : (near so_far : ℤ) → near ≤ℤ so_far → near ≤ℤ (so_far +ℤ pos 0)
 nothing_more near so_far le = omega (arith, ints, le)

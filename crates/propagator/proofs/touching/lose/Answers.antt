@@ -1,7 +1,7 @@
 use Rattle.std.proofs.Common.{◌<◌, ◌∙◌, ap, arith, sym, length}
 use Rattle.connection_net.specs.Seen.{NetSeen}
 use Rattle.connection_net.specs.Net.{successors_in, predecessors_in}
-use Rattle.propagator.proofs.Arriving.{none_of}
+use Rattle.floor_rows.proofs.DeadByFloors.{none_of}
 use Rattle.floor_rows.specs.inside.FloorRow.{floor_in}
 use Rattle.propagator.proofs.SetFlags.{set_by, cleared}
 use Rattle.propagator.proofs.FactsTouch.{lost_before, lost_now}
