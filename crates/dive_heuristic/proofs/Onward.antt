@@ -20,9 +20,9 @@ use Rattle.dive_heuristic.specs.Choice.{IsChoice}
 use Rattle.dive_heuristic.specs.LeastRoutes.{AreLeastRoutes, IsEachInOne}
 use Rattle.dive_heuristic.specs.Dive.{AreSteps, StepsWait, DiveEnd, IsEnd, IsDive, HasNoHole, marks_after}
 use Rattle.dive_heuristic.specs.inside.DiveSteps.{AreForced, GoesOn, StandsAt}
-use Rattle.dive_heuristic.specs.declared.least_routes.Found.{Found}
-use Rattle.dive_heuristic.specs.declared.least_routes.Found.TheVariants as found
-use Rattle.dive_heuristic.specs.inside.Kept.{FitsWithFewer, AreFound, HasBegun}
+use Rattle.dive_heuristic.specs.declared.least_routes.FirstRoutes.{FirstRoutes}
+use Rattle.dive_heuristic.specs.declared.least_routes.FirstRoutes.TheVariants as found
+use Rattle.dive_heuristic.specs.inside.Kept.{FitsWithFewer, AreFirstRoutes, HasBegun}
 use Rattle.dive_heuristic.specs.inside.Laws.{MoreFactsLeaveNoMore}
 use Rattle.dive_heuristic.proofs.Forced.{go_forced, go_both}
 
@@ -79,7 +79,7 @@ module _ (table : CostTableSeen) (book : BookSeen) (duals : List ℤ) where
       fewer book marks _ k (route_of routes k) (subst (λ (m : List Fact). Fits book m k (route_of routes k)) goes.marks (least.each k hk).fits)
 
 -- what is told of the first routes, with shut marks where nobody is missing
-pub has_begun : (table : CostTableSeen) (book : BookSeen) (marks : List Fact) (duals : List ℤ) (first : Found) → IsShut book marks → HasNoHole book marks
-    → AreFound table book marks duals first → HasBegun table book marks duals first
+pub has_begun : (table : CostTableSeen) (book : BookSeen) (marks : List Fact) (duals : List ℤ) (first : FirstRoutes) → IsShut book marks → HasNoHole book marks
+    → AreFirstRoutes table book marks duals first → HasBegun table book marks duals first
 has_begun table book marks duals (found.Routes routes) shut somebody least = record { shut = shut; somebody = somebody; least = least }
 has_begun table book marks duals (found.Dead end) shut somebody dead = dead

@@ -26,7 +26,7 @@ use crate::dive_choice::choice;
 use crate::dive_steps::{choose, propagate};
 use crate::diver::Diver;
 use crate::laws::{choices_are_undecided, fits_with_fewer, more_facts_leave_no_more};
-use crate::least_routes::{Found, first_routes, renew};
+use crate::least_routes::{FirstRoutes, first_routes, renew};
 use branch_marks::Marks;
 use branch_marks::laws::{branches_leave_fewer, following_facts_are_new};
 use connection_net::Net;
@@ -145,7 +145,7 @@ fn begin(
     marks: &mut Marks,
     steps: &mut Vec<DiveStep>,
     diver: &mut Diver,
-) -> Result<Found, Memory>
+) -> Result<FirstRoutes, Memory>
     requires asked { IsAsked book.now table.now net.now duals.now.values }
     requires marks { AreMarksOf book.now marks.old }
     requires diver { IsDiverFor book.now table.now marks.old.facts diver.old }
@@ -158,7 +158,7 @@ fn begin(
     following_facts_are_new();
     let end = propagate(alloc, book, net, marks, steps, &mut diver.propagator)?;
     if let Some(end) = end {
-        return Ok(Found::Dead(end));
+        return Ok(FirstRoutes::Dead(end));
     }
     let found = first_routes(alloc, book, table, net, duals, marks, diver)?;
     Ok(found)
@@ -186,8 +186,8 @@ fn dive_from(
     let mut steps = Vec::new(alloc);
     let found = begin(alloc, book, table, net, duals, marks, &mut steps, diver)?;
     let mut routes = match found {
-        Found::Routes(routes) => routes,
-        Found::Dead(end) => return Ok(Dive::Dead { steps, end }),
+        FirstRoutes::Routes(routes) => routes,
+        FirstRoutes::Dead(end) => return Ok(Dive::Dead { steps, end }),
     };
     let end = go_down(
         alloc,

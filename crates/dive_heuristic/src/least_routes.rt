@@ -11,7 +11,7 @@ ghost use Rattle.dive_heuristic.specs.LeastRoutes.{IsLeastRoute, AreLeastRoutes}
 ghost use Rattle.dive_heuristic.specs.Dive.{IsDeadEnd};
 ghost use Rattle.dive_heuristic.specs.Divers.{IsDiverFor};
 ghost use Rattle.dive_heuristic.specs.inside.DiveSteps.{IsAsked};
-ghost use Rattle.dive_heuristic.specs.inside.Kept.{AreLowRoutes, AreFound};
+ghost use Rattle.dive_heuristic.specs.inside.Kept.{AreLowRoutes, AreFirstRoutes};
 
 use crate::answer::DeadEnd;
 use crate::diver::Diver;
@@ -24,7 +24,7 @@ use tail_book::{Book, CostTable, Duals, Memory, Route};
 
 /// The first routes of a dive, or why there are none.
 #[derive(Debug, Drop)]
-pub enum Found {
+pub enum FirstRoutes {
     /// A route of least weight for each aircraft.
     Routes(Vec<Route>),
     /// An aircraft has no route.
@@ -67,11 +67,11 @@ pub fn first_routes(
     duals: &Duals,
     marks: &Marks,
     diver: &mut Diver,
-) -> Result<Found, Memory>
+) -> Result<FirstRoutes, Memory>
     requires asked { IsAsked book.now table.now net.now duals.now.values }
     requires marks { AreMarksOf book.now marks.now }
     requires diver { IsDiverFor book.now table.now marks.now.facts diver.old }
-    ensures found { IfOk result (AreFound table.now book.now marks.now.facts duals.now.values) }
+    ensures found { IfOk result (AreFirstRoutes table.now book.now marks.now.facts duals.now.values) }
     ensures diver { IsDiverFor book.now table.now marks.now.facts diver.new }
 {
     every_book_is_sound(book);
@@ -79,10 +79,10 @@ pub fn first_routes(
     for k in 0..book.tails.len() as u32 {
         match least_route(book, table, net, duals, marks, k, diver)? {
             Some(route) => routes.push(route)?,
-            None => return Ok(Found::Dead(DeadEnd::Stuck(k))),
+            None => return Ok(FirstRoutes::Dead(DeadEnd::Stuck(k))),
         }
     }
-    Ok(Found::Routes(routes))
+    Ok(FirstRoutes::Routes(routes))
 }
 
 /// Prices those aircraft again whose routes no longer fit; a dead end where one of them is stuck.

@@ -17,7 +17,7 @@ use branch_marks::Marks;
 use connection_net::Net;
 use label_store::Store;
 use pricing::{Priced, Pricer};
-use route_search::{Found, RouteSearch, Suggestions};
+use route_search::{LeastWithin, RouteSearch, Suggestions};
 use std::alloc::Global;
 use tail_book::{Book, CostTable, Duals, Memory, Route};
 
@@ -106,11 +106,11 @@ impl NodePricer {
             .search
             .least_route(book, table, net, marks, duals, k, far, slack)?;
         match found {
-            Found::Best { value, route } => {
+            LeastWithin::Best { value, route } => {
                 self.suggest_routes(book, table, net, marks, duals, k, &value, slack)?;
                 Ok(Priced::Best { value, route })
             }
-            Found::NoneWithin => self.fill(book, table, net, marks, duals, k),
+            LeastWithin::NoneWithin => self.fill(book, table, net, marks, duals, k),
         }
     }
 

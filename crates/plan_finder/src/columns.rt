@@ -20,7 +20,7 @@ use branch_marks::Marks;
 use maint_counters::is_legal_route;
 use pool_plans::Weights;
 use restricted_master::{Pool, PoolAdd, number_of};
-use route_search::{Found, RouteSearch, Suggestions};
+use route_search::{LeastWithin, RouteSearch, Suggestions};
 use std::alloc::Global;
 use tail_book::laws::{every_book_is_sound, legal_routes_rise};
 use tail_book::{Duals, Memory, Route};
@@ -309,11 +309,11 @@ impl Columns {
             .search
             .least_route(book, table, net, marks, duals, k, cut, slack)?;
         match found {
-            Found::Best { value, route } => {
+            LeastWithin::Best { value, route } => {
                 self.add(alloc, problem, marks, k, &route.0)?;
                 Ok(Some(value))
             }
-            Found::NoneWithin => Ok(None),
+            LeastWithin::NoneWithin => Ok(None),
         }
     }
 

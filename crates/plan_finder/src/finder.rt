@@ -20,7 +20,7 @@ use crate::repairing::{Price, repair};
 use crate::restarting::restart;
 use crate::soft_dive::{Course, MANY, soft_dive};
 use branch_marks::Marks;
-use pool_plans::{Found, SoftPlan};
+use pool_plans::{JudgedPlan, SoftPlan};
 use restricted_master::{Pool, number_of};
 use std::alloc::Global;
 use tail_book::{Duals, Memory, Plan, Route};
@@ -165,7 +165,7 @@ fn cheapen(
     problem: &Problem,
     columns: &mut Columns,
     ground: &Ground,
-    best: &mut Found,
+    best: &mut JudgedPlan,
 ) -> Result<(), Memory>
     requires problem { IsProblem problem.now }
     requires marks { AreMarksOf problem.now.book.now ground.now.marks.now }
@@ -189,7 +189,7 @@ fn cheapened(
     columns: &mut Columns,
     ground: &Ground,
     routes: Vec<Route>,
-) -> Result<Option<Found>, Memory>
+) -> Result<Option<JudgedPlan>, Memory>
     requires problem { IsProblem problem.now }
     requires marks { AreMarksOf problem.now.book.now ground.now.marks.now }
     requires duals { AreDuals problem.now.table.now problem.now.book.now ground.now.duals.now.values }
@@ -212,7 +212,7 @@ fn found_by(
     sought: &Sought,
     columns: &mut Columns,
     pool: &Pool,
-) -> Result<Option<Found>, Memory>
+) -> Result<Option<JudgedPlan>, Memory>
     requires problem { IsProblem problem.now }
     requires marks { AreMarksOf problem.now.book.now sought.now.marks.now }
     requires duals { AreDuals problem.now.table.now problem.now.book.now sought.now.duals.now.values }
@@ -262,7 +262,7 @@ fn find_with(
     sought: &Sought,
     columns: &mut Columns,
     pool: &mut Pool,
-) -> Result<Option<Found>, Memory>
+) -> Result<Option<JudgedPlan>, Memory>
     requires problem { IsProblem problem.now }
     requires marks { AreMarksOf problem.now.book.now sought.now.marks.now }
     requires duals { AreDuals problem.now.table.now problem.now.book.now sought.now.duals.now.values }
@@ -289,7 +289,7 @@ pub fn find_by_dives(
     problem: &Problem,
     sought: &Sought,
     pool: &mut Pool,
-) -> Result<Option<Found>, Memory>
+) -> Result<Option<JudgedPlan>, Memory>
     requires problem { IsProblem problem.now }
     requires marks { AreMarksOf problem.now.book.now sought.now.marks.now }
     requires duals { AreDuals problem.now.table.now problem.now.book.now sought.now.duals.now.values }
@@ -310,7 +310,7 @@ fn climb(
     problem: &Problem,
     columns: &mut Columns,
     ground: &Ground,
-    best: &mut Found,
+    best: &mut JudgedPlan,
 ) -> Result<(), Memory>
     requires problem { IsProblem problem.now }
     requires marks { AreMarksOf problem.now.book.now ground.now.marks.now }
@@ -331,7 +331,7 @@ fn climb_near(
     problem: &Problem,
     sought: &Sought,
     columns: &mut Columns,
-    best: &mut Found,
+    best: &mut JudgedPlan,
 ) -> Result<(), Memory>
     requires problem { IsProblem problem.now }
     requires marks { AreMarksOf problem.now.book.now sought.now.marks.now }
@@ -356,7 +356,7 @@ fn exchange_in(
     alloc: Global,
     problem: &Problem,
     sought: &Sought,
-    best: &mut Found,
+    best: &mut JudgedPlan,
 ) -> Result<(), Memory>
     requires problem { IsProblem problem.now }
     requires marks { AreMarksOf problem.now.book.now sought.now.marks.now }
@@ -375,7 +375,7 @@ pub fn exchange(
     problem: &Problem,
     sought: &Sought,
     plan: &Plan,
-) -> Result<Option<Found>, Memory>
+) -> Result<Option<JudgedPlan>, Memory>
     requires problem { IsProblem problem.now }
     requires marks { AreMarksOf problem.now.book.now sought.now.marks.now }
     requires duals { AreDuals problem.now.table.now problem.now.book.now sought.now.duals.now.values }

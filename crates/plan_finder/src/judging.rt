@@ -12,7 +12,7 @@ ghost use Rattle.plan_finder.specs.Problem.{IsProblem};
 use crate::problem::Problem;
 use branch_marks::Marks;
 use plan_audit::audit_plan;
-use pool_plans::Found;
+use pool_plans::JudgedPlan;
 use std::alloc::Global;
 use tail_book::laws::every_book_is_sound;
 use tail_book::{Memory, Plan, Route};
@@ -58,14 +58,14 @@ pub fn judge(
     problem: &Problem,
     marks: &Marks,
     routes: Vec<Route>,
-) -> Result<Option<Found>, Memory>
+) -> Result<Option<JudgedPlan>, Memory>
     requires problem { IsProblem problem.now }
     requires marks { AreMarksOf problem.now.book.now marks.now }
     ensures { IfOk result (λ found. IfSome found (λ plan. IsFittingPlan problem.now.table.now problem.now.book.now marks.now.facts plan.cost plan.plan)) }
 {
     let plan = Plan(routes);
     match cost_of(alloc, problem, marks, &plan)? {
-        Some(cost) => Ok(Some(Found { plan, cost })),
+        Some(cost) => Ok(Some(JudgedPlan { plan, cost })),
         None => Ok(None),
     }
 }

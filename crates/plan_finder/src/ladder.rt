@@ -17,7 +17,7 @@ use crate::judging::judge;
 use crate::neighbourhood::{Neighbourhood, room_for};
 use crate::problem::Problem;
 use crate::window::{replan_aircraft, replan_window};
-use pool_plans::{Found, Part, Tried, furthest_first, kept_beside};
+use pool_plans::{JudgedPlan, Part, Tried, furthest_first, kept_beside};
 use restricted_master::Pool;
 use std::alloc::Global;
 use tail_book::{Memory, Route};
@@ -73,7 +73,7 @@ fn take_cheaper(
     alloc: Global,
     problem: &Problem,
     ground: &Ground,
-    best: &mut Found,
+    best: &mut JudgedPlan,
     routes: Option<Vec<Route>>,
 ) -> Result<(), Memory>
     requires problem { IsProblem problem.now }
@@ -142,7 +142,7 @@ impl Ladder {
     }
 
     /// Whether a plan is to be made cheaper: work is left, and it is not within less than a cost unit of the bound.
-    pub fn is_open(&self, columns: &Columns, best: &Found) -> bool {
+    pub fn is_open(&self, columns: &Columns, best: &JudgedPlan) -> bool {
         !columns.is_spent() && room_for(self.bound, best.cost) >= 0
     }
 
@@ -153,7 +153,7 @@ impl Ladder {
         problem: &Problem,
         columns: &mut Columns,
         ground: &Ground,
-        best: &mut Found,
+        best: &mut JudgedPlan,
         from: u32,
         to: u32,
     ) -> Result<(), Memory>
@@ -184,7 +184,7 @@ impl Ladder {
         problem: &Problem,
         columns: &mut Columns,
         ground: &Ground,
-        best: &mut Found,
+        best: &mut JudgedPlan,
         width: u32,
     ) -> Result<(), Memory>
         requires problem { IsProblem problem.now }
@@ -214,7 +214,7 @@ impl Ladder {
         problem: &Problem,
         columns: &mut Columns,
         ground: &Ground,
-        best: &mut Found,
+        best: &mut JudgedPlan,
         kept: &[bool],
     ) -> Result<(), Memory>
         requires problem { IsProblem problem.now }
@@ -244,7 +244,7 @@ impl Ladder {
         problem: &Problem,
         columns: &mut Columns,
         ground: &Ground,
-        best: &mut Found,
+        best: &mut JudgedPlan,
         order: &[usize],
         first: usize,
         from: usize,
@@ -270,7 +270,7 @@ impl Ladder {
         problem: &Problem,
         columns: &mut Columns,
         ground: &Ground,
-        best: &mut Found,
+        best: &mut JudgedPlan,
         order: &[usize],
         aircraft: usize,
     ) -> Result<(), Memory>
@@ -303,7 +303,7 @@ impl Ladder {
         problem: &Problem,
         columns: &mut Columns,
         ground: &Ground,
-        plan: &Found,
+        plan: &JudgedPlan,
     ) -> Result<Vec<usize>, Memory>
         requires problem { IsProblem problem.now }
         requires marks { AreMarksOf problem.now.book.now ground.now.marks.now }
@@ -325,7 +325,7 @@ impl Ladder {
         problem: &Problem,
         columns: &mut Columns,
         ground: &Ground,
-        best: &mut Found,
+        best: &mut JudgedPlan,
         aircraft: usize,
     ) -> Result<(), Memory>
         requires problem { IsProblem problem.now }
@@ -347,7 +347,7 @@ impl Ladder {
         problem: &Problem,
         columns: &mut Columns,
         ground: &Ground,
-        best: &mut Found,
+        best: &mut JudgedPlan,
     ) -> Result<(), Memory>
         requires problem { IsProblem problem.now }
         requires marks { AreMarksOf problem.now.book.now ground.now.marks.now }
@@ -375,7 +375,7 @@ impl Ladder {
         problem: &Problem,
         columns: &mut Columns,
         ground: &Ground,
-        best: &mut Found,
+        best: &mut JudgedPlan,
     ) -> Result<(), Memory>
         requires problem { IsProblem problem.now }
         requires marks { AreMarksOf problem.now.book.now ground.now.marks.now }

@@ -16,7 +16,7 @@ use crate::ground::Ground;
 use crate::judging::judge;
 use crate::problem::Problem;
 use crate::repairing::{Price, repair};
-use pool_plans::{Found, SoftPlan};
+use pool_plans::{JudgedPlan, SoftPlan};
 use restricted_master::Pool;
 use std::alloc::Global;
 use tail_book::{Memory, Route};
@@ -91,7 +91,7 @@ fn near_plan(
     columns: &mut Columns,
     given: &Given,
     pool: &Pool,
-) -> Result<Option<Found>, Memory>
+) -> Result<Option<JudgedPlan>, Memory>
     requires problem { IsProblem problem.now }
     requires marks { AreMarksOf problem.now.book.now sought.now.marks.now }
     requires duals { AreDuals problem.now.table.now problem.now.book.now sought.now.duals.now.values }
@@ -119,7 +119,7 @@ fn mend_with(
     columns: &mut Columns,
     given: &Given,
     pool: &mut Pool,
-) -> Result<Option<Found>, Memory>
+) -> Result<Option<JudgedPlan>, Memory>
     requires problem { IsProblem problem.now }
     requires marks { AreMarksOf problem.now.book.now sought.now.marks.now }
     requires duals { AreDuals problem.now.table.now problem.now.book.now sought.now.duals.now.values }
@@ -149,7 +149,7 @@ pub fn mend(
     sought: &Sought,
     given: &Given,
     pool: &mut Pool,
-) -> Result<Option<Found>, Memory>
+) -> Result<Option<JudgedPlan>, Memory>
     requires problem { IsProblem problem.now }
     requires marks { AreMarksOf problem.now.book.now sought.now.marks.now }
     requires duals { AreDuals problem.now.table.now problem.now.book.now sought.now.duals.now.values }

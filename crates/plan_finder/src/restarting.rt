@@ -15,7 +15,7 @@ use crate::ladder::Ladder;
 use crate::problem::Problem;
 use crate::soft_dive::{Course, soft_dive};
 use branch_marks::Marks;
-use pool_plans::{Found, marks_beside, mixed};
+use pool_plans::{JudgedPlan, marks_beside, mixed};
 use std::alloc::Global;
 use tail_book::{Memory, Route};
 
@@ -85,7 +85,7 @@ fn take_climbed(
     columns: &mut Columns,
     ground: &Ground,
     ladder: &mut Ladder,
-    best: &mut Found,
+    best: &mut JudgedPlan,
     routes: Vec<Route>,
 ) -> Result<(), Memory>
     requires problem { IsProblem problem.now }
@@ -114,7 +114,7 @@ fn dive(
     columns: &mut Columns,
     ground: &Ground,
     ladder: &mut Ladder,
-    best: &mut Found,
+    best: &mut JudgedPlan,
     marks: &Marks,
     course: Course,
 ) -> Result<(), Memory>
@@ -140,7 +140,7 @@ fn marks_in(
     alloc: Global,
     problem: &Problem,
     marks: &Marks,
-    best: &Found,
+    best: &JudgedPlan,
     turn: usize,
     eighths: u64,
 ) -> Result<Marks, Memory>
@@ -159,7 +159,7 @@ fn dive_beside(
     columns: &mut Columns,
     ground: &Ground,
     ladder: &mut Ladder,
-    best: &mut Found,
+    best: &mut JudgedPlan,
     turn: usize,
     eighths: u64,
 ) -> Result<(), Memory>
@@ -184,7 +184,7 @@ fn start_over(
     columns: &mut Columns,
     ground: &Ground,
     ladder: &mut Ladder,
-    best: &mut Found,
+    best: &mut JudgedPlan,
     turn: usize,
     how: Start,
 ) -> Result<(), Memory>
@@ -220,7 +220,7 @@ pub fn restart(
     columns: &mut Columns,
     ground: &Ground,
     ladder: &mut Ladder,
-    best: &mut Found,
+    best: &mut JudgedPlan,
 ) -> Result<(), Memory>
     requires problem { IsProblem problem.now }
     requires own { AreMarksOf problem.now.book.now ground.now.marks.now }

@@ -11,7 +11,7 @@ use crate::ground::Ground;
 use crate::neighbourhood::{Neighbourhood, improve};
 use crate::problem::Problem;
 use branch_marks::Marks;
-use pool_plans::{Found, marks_beside, marks_outside};
+use pool_plans::{JudgedPlan, marks_beside, marks_outside};
 use std::alloc::Global;
 use tail_book::{Duals, Memory, Route};
 
@@ -22,7 +22,7 @@ fn replan(
     columns: &mut Columns,
     duals: &Duals,
     marks: &Marks,
-    plan: &Found,
+    plan: &JudgedPlan,
     kept: &[bool],
 ) -> Result<Option<Vec<Route>>, Memory>
     requires problem { IsProblem problem.now }
@@ -48,7 +48,7 @@ pub fn replan_window(
     problem: &Problem,
     columns: &mut Columns,
     ground: &Ground,
-    plan: &Found,
+    plan: &JudgedPlan,
     from: u32,
     to: u32,
 ) -> Result<Option<Vec<Route>>, Memory>
@@ -69,7 +69,7 @@ pub fn replan_aircraft(
     problem: &Problem,
     columns: &mut Columns,
     ground: &Ground,
-    plan: &Found,
+    plan: &JudgedPlan,
     kept: &[bool],
 ) -> Result<Option<Vec<Route>>, Memory>
     requires problem { IsProblem problem.now }

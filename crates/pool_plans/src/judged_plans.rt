@@ -17,7 +17,7 @@ use tail_book::{Book, CostTable, Duals, Memory, Plan, Route};
 
 /// A legal plan and its cost, in cost units.
 #[derive(Drop)]
-pub struct Found {
+pub struct JudgedPlan {
     pub plan: Plan,
     pub cost: u64,
 }
@@ -103,7 +103,7 @@ pub fn find_plan(
     duals: &Duals,
     target: u64,
     turns: u64,
-) -> Result<Option<Found>, Memory>
+) -> Result<Option<JudgedPlan>, Memory>
     requires table { IsTableFor book.now table.now }
     ensures { IfOk result (λ found. IfSome found (λ plan. IsPlanIn table.now book.now plan.cost plan.plan)) }
 {
@@ -116,10 +116,15 @@ pub fn find_plan(
 }
 
 // The plan with its cost, where it is legal.
-fn judge(alloc: Global, book: &Book, table: &CostTable, plan: Plan) -> Result<Option<Found>, Memory>
+fn judge(
+    alloc: Global,
+    book: &Book,
+    table: &CostTable,
+    plan: Plan,
+) -> Result<Option<JudgedPlan>, Memory>
     requires table { IsTableFor book.now table.now }
     ensures { IfOk result (λ found. IfSome found (λ plan. IsPlanIn table.now book.now plan.cost plan.plan)) }
 {
     let cost = audit_plan(alloc, book, table, &plan)?;
-    Ok(cost.map(|cost| Found { plan, cost }))
+    Ok(cost.map(|cost| JudgedPlan { plan, cost }))
 }

@@ -21,7 +21,7 @@ mod tried;
 mod weights;
 
 pub use fixing::{fix, marks_beside, marks_outside};
-pub use judged_plans::{Found, find_cover, find_plan};
+pub use judged_plans::{JudgedPlan, find_cover, find_plan};
 pub use leads::{Lead, WHOLE, leads_of};
 pub use mixing::mixed;
 pub use slice::{ALL, Slice};

@@ -25,7 +25,7 @@ use Rattle.pricing.specs.inside.Ends.{IsAtMost}
 use Rattle.pricing.specs.inside.Laws.{KeptRowsAreTrue}
 use Rattle.pricing.specs.inside.Truth.{first_row, AreTrue}
 use Rattle.route_search.specs.declared.end.Ends.{Ends}
-use Rattle.route_search.specs.declared.found.Found.TheVariants.{Best, NoneWithin}
+use Rattle.route_search.specs.declared.least_within.LeastWithin.TheVariants.{Best, NoneWithin}
 use Rattle.route_search.specs.inside.Completion.{IsSmall}
 use Rattle.route_search.specs.inside.Ends.{IsLimit, AreEnds}
 use Rattle.route_search.specs.inside.Laws.{BestOrNoneWithin, FittingRestsAreSmall, IsClamped, ClampedCutsFindTheSame}

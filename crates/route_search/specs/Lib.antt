@@ -1,3 +1,3 @@
-pub mod Found
+pub mod LeastWithin
 pub mod Search
 pub mod inside

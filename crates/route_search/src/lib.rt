@@ -5,8 +5,8 @@ mod added;
 mod completion;
 mod end;
 mod followers;
-mod found;
 mod laws;
+mod least_within;
 mod reach;
 mod rest;
 mod rests;
@@ -15,6 +15,6 @@ mod step;
 mod suggest;
 mod task;
 
-pub use found::Found;
+pub use least_within::LeastWithin;
 pub use search::RouteSearch;
 pub use suggest::Suggestions;

@@ -14,7 +14,7 @@ ghost use Rattle.tail_book.specs.CostTable.{IsTableFor};
 ghost use Rattle.connection_net.specs.Net.{net_of};
 ghost use Rattle.branch_marks.specs.inside.MarkTables.{AreMarksOf};
 ghost use Rattle.branch_marks.specs.Settled.{AreDuals};
-ghost use Rattle.route_search.specs.Found.{IsFoundWithin};
+ghost use Rattle.route_search.specs.LeastWithin.{IsFoundWithin};
 ghost use Rattle.route_search.specs.Search.{IsSearchOf};
 ghost use Rattle.route_search.specs.inside.Completion.{IsBroad};
 ghost use Rattle.route_search.specs.inside.Laws.{IsClamped};
@@ -28,7 +28,7 @@ use crate::end::{Ends, first_ends, with_ends_at};
 use crate::reach::{begin, go_on};
 use crate::rests::Rests;
 use crate::task::{Task, every_task_is_sound};
-use crate::{Found, Suggestions, laws};
+use crate::{LeastWithin, Suggestions, laws};
 use branch_marks::Marks;
 use connection_net::Net;
 use label_store::Store;
@@ -108,7 +108,7 @@ fn found(
     slack: u32,
     row: &mut [i64],
     store: &mut Store,
-) -> Result<Found, Memory>
+) -> Result<LeastWithin, Memory>
     requires task { IsTask task.now }
     requires behind { AreBehindFor task.now behind.now }
     requires cut { IsBroad cut }
@@ -125,10 +125,10 @@ fn found(
     let ends = search_rows(task, behind, cut, slack, row, store)?;
     every_store_is_sound(store);
     let Some(end) = ends.best else {
-        return Ok(Found::NoneWithin);
+        return Ok(LeastWithin::NoneWithin);
     };
     let route = spelled(alloc, store, end.row)?;
-    Ok(Found::Best {
+    Ok(LeastWithin::Best {
         value: end.value,
         route,
     })
@@ -169,7 +169,7 @@ impl RouteSearch {
         k: u32,
         cut: i64,
         slack: u32,
-    ) -> Result<Found, Memory>
+    ) -> Result<LeastWithin, Memory>
         requires search { IsSearchOf book.now self.old }
         requires table { IsTableFor book.now table.now }
         requires net { net.now ≡ net_of book.now }

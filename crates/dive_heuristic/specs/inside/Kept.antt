@@ -9,8 +9,8 @@ use Rattle.tail_book.specs.Route.{IsLegalRoute}
 use Rattle.branch_marks.specs.declared.fact.Fact.{Fact}
 use Rattle.branch_marks.specs.Marks.{Fits}
 use Rattle.branch_marks.specs.Weights.{weight, WeighsAtLeast}
-use Rattle.dive_heuristic.specs.declared.least_routes.Found.{Found}
-use Rattle.dive_heuristic.specs.declared.least_routes.Found.TheVariants as found
+use Rattle.dive_heuristic.specs.declared.least_routes.FirstRoutes.{FirstRoutes}
+use Rattle.dive_heuristic.specs.declared.least_routes.FirstRoutes.TheVariants as found
 use Rattle.dive_heuristic.specs.LeastRoutes.{IsLeastRoute, AreLeastRoutes}
 use Rattle.dive_heuristic.specs.Dive.{IsDeadEnd}
 use Rattle.dive_heuristic.specs.inside.DiveSteps.{StandsAt}
@@ -35,11 +35,11 @@ LeastRoutesStay = (table : CostTableSeen) (book : BookSeen) (marks more : List F
     → IsLeastRoute table book marks k duals route → Fits book (marks ++ more) k route → IsLeastRoute table book (marks ++ more) k duals route
 
 -- the first routes are of least weight, or there is a dead end
-abbrev pub AreFound : CostTableSeen → BookSeen → List Fact → List ℤ → Found → Type 0
-AreFound table book marks duals (found.Routes routes) = AreLeastRoutes table book marks duals routes.items
-AreFound table book marks duals (found.Dead end) = IsDeadEnd book marks end
+abbrev pub AreFirstRoutes : CostTableSeen → BookSeen → List Fact → List ℤ → FirstRoutes → Type 0
+AreFirstRoutes table book marks duals (found.Routes routes) = AreLeastRoutes table book marks duals routes.items
+AreFirstRoutes table book marks duals (found.Dead end) = IsDeadEnd book marks end
 
 -- where the first routes are found a dive stands before its first choice
-abbrev pub HasBegun : CostTableSeen → BookSeen → List Fact → List ℤ → Found → Type 0
+abbrev pub HasBegun : CostTableSeen → BookSeen → List Fact → List ℤ → FirstRoutes → Type 0
 HasBegun table book marks duals (found.Routes routes) = StandsAt table book marks duals routes.items
 HasBegun table book marks duals (found.Dead end) = IsDeadEnd book marks end

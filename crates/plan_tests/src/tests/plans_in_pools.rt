@@ -30,7 +30,12 @@ fn add(
 }
 
 // What is found below a cost, in a pool of each flight for each aircraft.
-fn found(alloc: Global, book: &Book, duals: [i64; 2], target: u64) -> Result<Option<Found>, Fail> {
+fn found(
+    alloc: Global,
+    book: &Book,
+    duals: [i64; 2],
+    target: u64,
+) -> Result<Option<JudgedPlan>, Fail> {
     own_costs_are_for_book();
     every_book_is_sound(book);
     let table = CostTable::of(alloc, book)?;

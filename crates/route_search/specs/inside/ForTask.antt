@@ -10,9 +10,9 @@ use Rattle.pricing.specs.inside.Ends.{IsEnd}
 use Rattle.pricing.specs.inside.Truth.{AreTrue, IsTrueAt, IsNext, first_row, row_of}
 use Rattle.route_search.specs.declared.completion.Way.{Way}
 use Rattle.route_search.specs.declared.end.Ends.{Ends}
-use Rattle.route_search.specs.declared.found.Found.{Found}
+use Rattle.route_search.specs.declared.least_within.LeastWithin.{LeastWithin}
 use Rattle.route_search.specs.declared.task.Task.{Task}
-use Rattle.route_search.specs.Found.{IsFoundWithin}
+use Rattle.route_search.specs.LeastWithin.{IsFoundWithin}
 use Rattle.route_search.specs.inside.Completion.{AreBehind, AreBehindFrom, IsBehind, IsCompletion, IsLeastAmong, IsWay, IsWayOrNone}
 use Rattle.route_search.specs.inside.Ends.{AreEnds, IsLeastWithinLimitAt}
 use Rattle.route_search.specs.inside.Followers.{AreFollowers}
@@ -94,5 +94,5 @@ IsLeastWithinLimitAtFor task store ends x = IsLeastWithinLimitAt task.marks.now.
 abbrev pub AreEndsFor : Task → StoreSeen → ℤ → ℕ → Ends → Type 0
 AreEndsFor task store cut n ends = AreEnds task.book.now task.marks.now.facts task.k store cut n ends
 
-abbrev pub IsFoundWithinFor : Task → ℤ → Found → Type 0
+abbrev pub IsFoundWithinFor : Task → ℤ → LeastWithin → Type 0
 IsFoundWithinFor task cut found = IsFoundWithin task.table.now task.book.now task.marks.now.facts task.k task.duals.now.values cut found

@@ -16,8 +16,8 @@ use Rattle.pricing.specs.declared.end.RouteEnd.{RouteEnd}
 use Rattle.pricing.specs.Rows.{route_to}
 use Rattle.pricing.specs.inside.Truth.{AreTrue}
 use Rattle.route_search.specs.declared.end.Ends.{Ends}
-use Rattle.route_search.specs.declared.found.Found.{Found}
-use Rattle.route_search.specs.Found.{IsFoundWithin}
+use Rattle.route_search.specs.declared.least_within.LeastWithin.{LeastWithin}
+use Rattle.route_search.specs.LeastWithin.{IsFoundWithin}
 use Rattle.route_search.specs.inside.Completion.{IsBroad, IsSmall}
 use Rattle.route_search.specs.inside.Ends.{AreEnds}
 use Rattle.route_search.specs.inside.Reach.{AreDone}
@@ -49,6 +49,6 @@ pub record IsClamped (cut clamped : ℤ) : Type 0 where
 
 -- no weight is so large that a clamped cut would find another answer
 abbrev pub ClampedCutsFindTheSame : Type 0
-ClampedCutsFindTheSame = (table : CostTableSeen) (book : BookSeen) (marks : List Fact) (k : ℕ) (duals : List ℤ) (cut clamped : ℤ) (found : Found)
+ClampedCutsFindTheSame = (table : CostTableSeen) (book : BookSeen) (marks : List Fact) (k : ℕ) (duals : List ℤ) (cut clamped : ℤ) (found : LeastWithin)
     → IsBook book → IsCostTable table → IsTableFor book table → AreDuals table book duals → IsClamped cut clamped
     → IsFoundWithin table book marks k duals clamped found → IsFoundWithin table book marks k duals cut found

@@ -12,7 +12,7 @@ use super::asks::{Ask, Case, first_wrong};
 use super::books::ByHand;
 use branch_marks::{Fact, Marks};
 use plan_finder::{Given, Problem, Sought, exchange, find_by_dives, mend};
-use pool_plans::Found;
+use pool_plans::JudgedPlan;
 use restricted_master::Pool;
 use std::alloc::Global;
 use std::test::Fail;
@@ -29,7 +29,7 @@ enum Want {
     Nothing,
 }
 
-fn is_wanted(answer: &Option<Found>, want: Want) -> bool {
+fn is_wanted(answer: &Option<JudgedPlan>, want: Want) -> bool {
     match (answer, want) {
         (Some(found), Want::Plan(routes, cost)) => {
             found.cost == cost && are_routes(&found.plan, routes)
@@ -45,7 +45,7 @@ fn found(
     alloc: Global,
     problem: &Problem,
     sought: &Sought,
-) -> Result<(Option<Found>, usize), Memory>
+) -> Result<(Option<JudgedPlan>, usize), Memory>
     requires problem { IsProblem problem.now }
     requires marks { AreMarksOf problem.now.book.now sought.now.marks.now }
     requires duals { AreDuals problem.now.table.now problem.now.book.now sought.now.duals.now.values }
@@ -127,7 +127,7 @@ fn mended(
     problem: &Problem,
     sought: &Sought,
     given: &Given,
-) -> Result<(Option<Found>, usize), Memory>
+) -> Result<(Option<JudgedPlan>, usize), Memory>
     requires problem { IsProblem problem.now }
     requires marks { AreMarksOf problem.now.book.now sought.now.marks.now }
     requires duals { AreDuals problem.now.table.now problem.now.book.now sought.now.duals.now.values }
@@ -183,7 +183,7 @@ fn are_same(first: &Plan, again: &Plan) -> bool {
 #[derive(Clone, Copy)]
 struct FindsTwice(u64);
 
-fn are_found(first: &Option<Found>, again: &Option<Found>, cost: u64) -> bool {
+fn are_found(first: &Option<JudgedPlan>, again: &Option<JudgedPlan>, cost: u64) -> bool {
     match (first, again) {
         (Some(first), Some(again)) => {
             first.cost == cost && again.cost == cost && are_same(&first.plan, &again.plan)

@@ -12,7 +12,7 @@ use super::books::{ByHand, MUSTS};
 use super::weights::{Weights, bits};
 use branch_marks::{Fact, Marks};
 use plan_finder::Problem;
-use route_search::{Found, RouteSearch};
+use route_search::{LeastWithin, RouteSearch};
 use std::alloc::Global;
 use std::test::Fail;
 use tail_book::*;
@@ -41,12 +41,12 @@ struct Want<'a> {
     known: Known<'a>,
 }
 
-fn is_wanted(answer: &Found, cut: i64, want: Want<'_>) -> bool {
+fn is_wanted(answer: &LeastWithin, cut: i64, want: Want<'_>) -> bool {
     match (answer, want.least) {
-        (Found::NoneWithin, None) => true,
-        (Found::NoneWithin, Some(least)) => cut < least,
-        (Found::Best { .. }, None) => false,
-        (Found::Best { value, route }, Some(least)) => {
+        (LeastWithin::NoneWithin, None) => true,
+        (LeastWithin::NoneWithin, Some(least)) => cut < least,
+        (LeastWithin::Best { .. }, None) => false,
+        (LeastWithin::Best { value, route }, Some(least)) => {
             *value == least && least <= cut && is_known(want.known, &route.0, least)
         }
     }

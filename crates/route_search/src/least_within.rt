@@ -5,7 +5,7 @@ use tail_book::Route;
 
 /// What an aircraft's routes weigh at least, as far as a cut.
 #[derive(Debug, Drop)]
-pub enum Found {
+pub enum LeastWithin {
     /// The least weight in thousandths of a cost unit, no more than the cut, and a legal route that fits the marks and weighs it.
     Best { value: i64, route: Route },
     /// Each legal route of the aircraft that fits the marks weighs more than the cut, or there is none.
