@@ -7,7 +7,7 @@ use tail_book::*;
 
 /// An activity: a flight or not, its airports, its start and its end, and whether it sets the first counter to 0.
 #[derive(Clone, Copy, Debug)]
-pub struct Row {
+pub struct SmallActivity {
     pub flight: bool,
     /// The airport from which it leads, and the one to which.
     pub leg: (u32, u32),
@@ -17,8 +17,8 @@ pub struct Row {
 }
 
 /// A flight.
-pub fn flight(leg: (u32, u32), time: (i64, i64)) -> Row {
-    Row {
+pub fn flight(leg: (u32, u32), time: (i64, i64)) -> SmallActivity {
+    SmallActivity {
         flight: true,
         leg,
         time,
@@ -27,7 +27,7 @@ pub fn flight(leg: (u32, u32), time: (i64, i64)) -> Row {
 }
 
 // The counters that a row sets to 0.
-fn resets(alloc: Global, row: Row) -> Result<Vec<u32>, Memory> {
+fn resets(alloc: Global, row: SmallActivity) -> Result<Vec<u32>, Memory> {
     let mut resets = Vec::new(alloc);
     if row.resets {
         resets.push(0)?;
@@ -53,7 +53,7 @@ pub fn named_flight(alloc: Global, id: Name, leg: (u32, u32), time: (i64, i64)) 
     }
 }
 
-fn activity(alloc: Global, id: Name, row: Row) -> Result<Activity, Memory> {
+fn activity(alloc: Global, id: Name, row: SmallActivity) -> Result<Activity, Memory> {
     let mut activity = named_flight(alloc, id, row.leg, row.time);
     activity.flight = row.flight;
     activity.resets = resets(alloc, row)?;
@@ -61,7 +61,7 @@ fn activity(alloc: Global, id: Name, row: Row) -> Result<Activity, Memory> {
 }
 
 /// The activities of these rows, of which at most ten count.
-pub fn activities(alloc: Global, rows: &[Row]) -> Result<Vec<Activity>, Memory> {
+pub fn activities(alloc: Global, rows: &[SmallActivity]) -> Result<Vec<Activity>, Memory> {
     let mut activities = Vec::new(alloc);
     for (name, row) in names_in_order().iter().zip(rows) {
         activities.push(activity(alloc, *name, *row)?)?;

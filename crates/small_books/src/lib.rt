@@ -12,7 +12,7 @@ mod rising;
 mod rule_rows;
 mod small_book;
 
-pub use activity_rows::{Row, activities, flight, named_flight};
+pub use activity_rows::{SmallActivity, activities, flight, named_flight};
 pub use aircraft::{named_tail, tails};
 pub use cost_table::costs;
 pub use duals::{are_duals, duals_of};

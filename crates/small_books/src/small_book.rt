@@ -1,7 +1,7 @@
 //! Books of activities, aircraft and rules, and the two with which many tests begin: a flight there and one back, and
 //! two flights at once. Rows that are no book are an error of the test.
 
-use crate::activity_rows::{Row, activities, flight};
+use crate::activity_rows::{SmallActivity, activities, flight};
 use crate::aircraft::tails;
 use crate::rule_rows::rules;
 use std::alloc::Global;
@@ -11,7 +11,7 @@ use tail_book::*;
 /// The book of these activities, an aircraft of each of these types, and types with this turn.
 pub fn book(
     alloc: Global,
-    rows: &[Row],
+    rows: &[SmallActivity],
     kinds: &[u32],
     turn: i64,
     counters: Vec<Counter>,
@@ -24,7 +24,12 @@ pub fn book(
 }
 
 /// A book without counters and bands.
-pub fn plain_book(alloc: Global, rows: &[Row], kinds: &[u32], turn: i64) -> Result<Book, Fail> {
+pub fn plain_book(
+    alloc: Global,
+    rows: &[SmallActivity],
+    kinds: &[u32],
+    turn: i64,
+) -> Result<Book, Fail> {
     book(alloc, rows, kinds, turn, Vec::new(alloc), Vec::new(alloc))
 }
 

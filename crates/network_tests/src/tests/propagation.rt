@@ -7,7 +7,9 @@ ghost use Rattle.branch_marks.specs.inside.MarkTables.{AreMarksOf};
 use branch_marks::{Fact, Marks};
 use connection_net::Net;
 use propagator::{Closed, close};
-use small_books::{Row, activities, book, counters, flight, marks, plain_book, rules, tails};
+use small_books::{
+    SmallActivity, activities, book, counters, flight, marks, plain_book, rules, tails,
+};
 use std::alloc::Global;
 use std::test::Fail;
 use tail_book::*;
@@ -24,7 +26,7 @@ fn hours(alloc: Global, limit: i64, stop: i64) -> Result<Vec<Counter>, Memory> {
 }
 
 // Flights to and fro, the first from ARN, of an hour each, from these minutes on.
-fn to_and_fro(alloc: Global, starts: &[i64]) -> Result<Vec<Row>, Memory> {
+fn to_and_fro(alloc: Global, starts: &[i64]) -> Result<Vec<SmallActivity>, Memory> {
     let (mut rows, mut leg) = (Vec::new(alloc), (ARN, OSL));
     for start in starts {
         rows.push(flight(leg, (*start, start.saturating_add(60))))?;
@@ -45,7 +47,7 @@ fn counting(alloc: Global, starts: &[i64]) -> Result<Book, Fail> {
 }
 
 // To OSL an hour's flight and one of half an hour, and an hour back.
-fn ways_and_back() -> [Row; 3] {
+fn ways_and_back() -> [SmallActivity; 3] {
     [
         flight((ARN, OSL), (360, 420)),
         flight((ARN, OSL), (370, 400)),

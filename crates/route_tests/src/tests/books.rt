@@ -1,7 +1,9 @@
 //! Books by hand.
 
 use branch_marks::Fact;
-use small_books::{Row, bands, book, counters, flight, plain_book, there_and_back, two_at_once};
+use small_books::{
+    SmallActivity, bands, book, counters, flight, plain_book, there_and_back, two_at_once,
+};
 use std::alloc::Global;
 use std::test::Fail;
 use tail_book::*;
@@ -33,7 +35,7 @@ fn twice(alloc: Global, limit: i64, resets: bool) -> Result<Book, Fail> {
     let rows = [
         flight((0, 1), (360, 420)),
         flight((1, 0), (450, 510)),
-        Row {
+        SmallActivity {
             flight: false,
             leg: (0, 0),
             time: (540, 585),

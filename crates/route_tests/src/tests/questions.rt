@@ -2,15 +2,15 @@
 
 use branch_marks::Fact;
 use dice::Dice;
-use small_books::{Row, bands, book, counters, flight};
+use small_books::{SmallActivity, bands, book, counters, flight};
 use std::alloc::Global;
 use std::test::Fail;
 use tail_book::*;
 
-fn row(dice: &mut Dice, start: i64) -> Row {
+fn row(dice: &mut Dice, start: i64) -> SmallActivity {
     let leg = (dice.below(2), dice.below(2));
     let row = flight(leg, (start, start.saturating_add(60)));
-    Row {
+    SmallActivity {
         flight: leg.0 != leg.1 || dice.below(2) > 0,
         resets: dice.below(6) == 0,
         ..row
@@ -18,7 +18,7 @@ fn row(dice: &mut Dice, start: i64) -> Row {
 }
 
 // Six activities, in order of their starts.
-fn rows(dice: &mut Dice, alloc: Global) -> Result<Vec<Row>, Memory> {
+fn rows(dice: &mut Dice, alloc: Global) -> Result<Vec<SmallActivity>, Memory> {
     let (mut rows, mut start) = (Vec::new(alloc), 100i64);
     for _ in 0..6 {
         rows.push(row(dice, start))?;

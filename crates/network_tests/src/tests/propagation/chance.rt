@@ -7,7 +7,7 @@ use super::{closed, made};
 use branch_marks::Fact;
 use dice::Dice;
 use propagator::Closed;
-use small_books::{Row, activities, flight, rules, tails};
+use small_books::{SmallActivity, activities, flight, rules, tails};
 use std::alloc::Global;
 use std::test::Fail;
 use tail_book::*;
@@ -73,7 +73,7 @@ fn few_tails(alloc: Global, dice: &mut Dice) -> Result<Vec<Tail>, Memory> {
 }
 
 // Six flights of up to an hour and a half, each a while after the one before.
-fn six_flights(alloc: Global, dice: &mut Dice) -> Result<Vec<Row>, Memory> {
+fn six_flights(alloc: Global, dice: &mut Dice) -> Result<Vec<SmallActivity>, Memory> {
     let (mut rows, mut start) = (Vec::new(alloc), 1000i64);
     for _ in 0..6 {
         let (from, long) = (dice.below(2), 20 + dice.below(70) as i64);

@@ -15,14 +15,14 @@ use dice::Dice;
 use dive_heuristic::{DeadEnd, Dive, DiveStep, dive};
 use plan_finder::Problem;
 use propagator::{Closed, close};
-use small_books::{Row, book, flight};
+use small_books::{SmallActivity, book, flight};
 use std::alloc::Global;
 use std::test::Fail;
 use tail_book::*;
 
 // Five flights of half an hour or an hour between three airports, in order of their starts. Two aircraft can fly them, as
 // far as places and times go.
-fn rows(dice: &mut Dice, alloc: Global) -> Result<Vec<Row>, Memory> {
+fn rows(dice: &mut Dice, alloc: Global) -> Result<Vec<SmallActivity>, Memory> {
     let (mut rows, mut start) = (Vec::new(alloc), 100i64);
     let (mut first, mut second) = ((0u32, 0i64), (0u32, 0i64));
     for _ in 0..5 {
