@@ -23,8 +23,8 @@ use Rattle.branch_marks.specs.Weights.{weight, WeighsAtLeast}
 use Rattle.label_store.specs.Seen.{StoreSeen}
 use Rattle.label_store.specs.Buckets.{row_at}
 use Rattle.label_store.specs.Store.{node_of, parent_of, bucket_of, IsStore, IsRowOf}
-use Rattle.pricing.proofs.Families.{concat_all}
 use Rattle.pricing.specs.Rows.{weight_of, counters_of, label_of, labels_of, route_to, route_within}
+use Rattle.pricing.proofs.Families.{concat_all}
 use Rattle.node_leaves.specs.inside.PricedStore.{IsPricedStore}
 
 -- numbers that come in buckets, the nodes of each bucket larger than those of the bucket before it

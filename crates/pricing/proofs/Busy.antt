@@ -19,16 +19,16 @@ use Rattle.branch_marks.specs.declared.fact.Fact.{Fact}
 use Rattle.branch_marks.specs.declared.fact.Fact.TheVariants.{Must}
 use Rattle.label_store.specs.Seen.{StoreSeen}
 use Rattle.label_store.specs.Store.{IsStore}
-use Rattle.pricing.specs.declared.airport.Airport.{Airport}
+use Rattle.pricing.specs.declared.airport.AirportLines.{AirportLines}
 use Rattle.pricing.specs.declared.stand.Stand.{Stand}
 use Rattle.pricing.specs.declared.window.Window.{Window}
 use Rattle.pricing.specs.inside.Growth.{Grows}
-use Rattle.pricing.specs.inside.Airports.{AreAirports, AreAirportsTo, AreAlike, AreBusy, AreFresh, AreGrounds, IsAirport, IsBusy, IsFloor, IsFreshAirport, IsLikeAirport, stand_at}
+use Rattle.pricing.specs.inside.Airports.{AreAirports, AreAirportsTo, AreAlike, AreBusy, AreFresh, AreGrounds, IsAirportOf, IsBusy, IsFloor, IsFreshAirport, IsLikeAirport, stand_at}
 use Rattle.pricing.specs.inside.Waiting.{AreFlights, AreWindows}
 use Rattle.pricing.proofs.Staying.{all_entered_stay, waiting_stays}
 
 -- an airport that is like one of the book is one
-pub like_airport : (bands : List Band) (book : BookSeen) (port : ℕ) (old new : Airport) → IsLikeAirport old new → IsAirport bands book port old → IsAirport bands book port new
+pub like_airport : (bands : List Band) (book : BookSeen) (port : ℕ) (old new : AirportLines) → IsLikeAirport old new → IsAirportOf bands book port old → IsAirportOf bands book port new
 like_airport bands book port old new like is = record {
   flights = subst (AreFlights book port) (sym like.flights) is.flights;
   grounds = subst (AreGrounds book port) (sym like.grounds) is.grounds;
@@ -40,7 +40,7 @@ like_airport bands book port old new like is = record {
   count = like.count ∙ is.count ∙ ap (λ (w : List Window). length w) (sym like.windows);
 }
 
-pub alike_airports : (bands : List Band) (book : BookSeen) (old new : List Airport) → AreAlike old new → AreAirports bands book old → AreAirports bands book new
+pub alike_airports : (bands : List Band) (book : BookSeen) (old new : List AirportLines) → AreAlike old new → AreAirports bands book old → AreAirports bands book new
 alike_airports bands book old new alike are = record {
   all = alike.all ∙ are.all;
   each = λ p d lt.
@@ -50,8 +50,8 @@ alike_airports bands book old new alike are = record {
 }
 
 -- where nothing waits, all that waits is as it should be
-pub fresh_is_busy : (bands : List Band) (book : BookSeen) (marks : List Fact) (port : ℕ) (stand : Stand) (store : StoreSeen) (airport : Airport)
-    → IsAirport bands book port airport → IsFreshAirport airport → IsBusy book marks stand store airport
+pub fresh_is_busy : (bands : List Band) (book : BookSeen) (marks : List Fact) (port : ℕ) (stand : Stand) (store : StoreSeen) (airport : AirportLines)
+    → IsAirportOf bands book port airport → IsFreshAirport airport → IsBusy book marks stand store airport
 fresh_is_busy bands book marks port stand store airport is fresh = record {
   waiting = record {
     roomy = is.roomy;
@@ -69,13 +69,13 @@ fresh_is_busy bands book marks port stand store airport is fresh = record {
   };
 }
 
-pub fresh_are_busy : (bands : List Band) (book : BookSeen) (marks : List Fact) (k floor : ℕ) (moment : ℤ) (store : StoreSeen) (airports : List Airport)
+pub fresh_are_busy : (bands : List Band) (book : BookSeen) (marks : List Fact) (k floor : ℕ) (moment : ℤ) (store : StoreSeen) (airports : List AirportLines)
     → AreAirports bands book airports → AreFresh airports → AreBusy book marks k floor moment store airports
 fresh_are_busy bands book marks k floor moment store airports are fresh p d lt =
     fresh_is_busy bands book marks p (stand_at book k floor moment p) store (get_or airports p d) (are.each p d lt) (fresh p d lt)
 
 -- what has waited long enough has at any later moment
-pub busy_later : (book : BookSeen) (marks : List Fact) (k floor port : ℕ) (before after : ℤ) (store : StoreSeen) (airport : Airport) → before ≤ℤ after
+pub busy_later : (book : BookSeen) (marks : List Fact) (k floor port : ℕ) (before after : ℤ) (store : StoreSeen) (airport : AirportLines) → before ≤ℤ after
     → IsBusy book marks (stand_at book k floor before port) store airport → IsBusy book marks (stand_at book k floor after port) store airport
 busy_later book marks k floor port before after store airport le busy = record {
   waiting = record {
@@ -105,7 +105,7 @@ busy_later book marks k floor port before after store airport le busy = record {
 -- and stays so while the bucket of an activity grows that starts no earlier
 pub busy_stays : (book : BookSeen) (is_book : IsBook book) (marks : List Fact) (stand : Stand) (forward : pos 0 ≤ℤ stand.turn) (b : ℕ) (of_book : b < activities book)
     (before : stand.moment ≤ℤ start_of book b) (old new : StoreSeen) → IsStore old → length old.buckets ≡ activities book → Grows b old new
-    → (airport : Airport) → IsBusy book marks stand old airport → IsBusy book marks stand new airport
+    → (airport : AirportLines) → IsBusy book marks stand old airport → IsBusy book marks stand new airport
 busy_stays book is_book marks stand forward b of_book before old new sound nodes grows airport busy = record {
   waiting = waiting_stays book is_book marks stand forward b of_book before old new sound nodes grows airport.windows.items airport.waiting busy.waiting;
   entered = all_entered_stay book is_book marks stand forward b of_book before old new sound nodes grows airport.windows.items airport.flights.items airport.waiting airport.entered.items busy.entered;
@@ -117,7 +117,7 @@ at_least x y least = grind (arith, ints)
 -- all of them, when an activity is done
 pub are_busy_stay : (book : BookSeen) (is_book : IsBook book) (marks : List Fact) (k floor : ℕ) (forward : pos 0 ≤ℤ type_turn book (kind_of book k)) (b : ℕ) (of_book : b < activities book)
     (before : ℤ) (earlier : before ≤ℤ start_of book b) (old new : StoreSeen) → IsStore old → length old.buckets ≡ activities book → Grows b old new
-    → (airports : List Airport) → AreBusy book marks k floor before old airports → AreBusy book marks k floor (start_of book b) new airports
+    → (airports : List AirportLines) → AreBusy book marks k floor before old airports → AreBusy book marks k floor (start_of book b) new airports
 are_busy_stay book is_book marks k floor forward b of_book before earlier old new sound nodes grows airports busy p d lt =
     busy_stays book is_book marks (stand_at book k floor (start_of book b) p) (at_least (type_turn book (kind_of book k)) (port_turn book p) forward) b of_book (omega (arith, ints)) old new sound nodes grows
     (get_or airports p d) (busy_later book marks k floor p before (start_of book b) old (get_or airports p d) earlier (busy p d lt))
@@ -135,8 +135,8 @@ pub turn_forward : (book : BookSeen) → IsBook book → (k : ℕ) → k < aircr
 turn_forward book sound k hk = (sound.rules.kinds (kind_of book k) no_type (sound.tails k no_tail hk).kind).turn.least
 
 -- with one airport changed in what waits there, all are airports of the book
-pub airports_with : (bands : List Band) (book : BookSeen) (airports : List Airport) (port : ℕ) (one : Airport) → AreAirports bands book airports → port < length airports
-    → ((d : Airport) → IsLikeAirport (get_or airports port d) one) → AreAirports bands book (slice_set airports port one)
+pub airports_with : (bands : List Band) (book : BookSeen) (airports : List AirportLines) (port : ℕ) (one : AirportLines) → AreAirports bands book airports → port < length airports
+    → ((d : AirportLines) → IsLikeAirport (get_or airports port d) one) → AreAirports bands book (slice_set airports port one)
 airports_with bands book airports port one are inside like = record {
   all = length-set airports port one ∙ are.all;
   each = λ p d lt. elim (cases_lt p port) [
@@ -144,8 +144,8 @@ airports_with bands book airports port one are inside like = record {
     | inr le ↦ elim (cases_lt port p) [
       | inl more ↦ other p d (within p lt) (omega (arith, more))
       | inr ge ↦ let same : port ≡ p = omega (arith, le, ge) in
-          subst (λ (q : ℕ). IsAirport bands book q (get_or (slice_set airports port one) q d)) same
-          (subst (IsAirport bands book port) (sym (get_or-set_same airports port one d inside)) (like_airport bands book port (get_or airports port d) one (like d) (are.each port d inside)))
+          subst (λ (q : ℕ). IsAirportOf bands book q (get_or (slice_set airports port one) q d)) same
+          (subst (IsAirportOf bands book port) (sym (get_or-set_same airports port one d inside)) (like_airport bands book port (get_or airports port d) one (like d) (are.each port d inside)))
     ]
   ];
 }
@@ -153,11 +153,11 @@ airports_with bands book airports port one are inside like = record {
     within : (p : ℕ) → p < length (slice_set airports port one) → p < length airports
     within p lt = let long = length-set airports port one in omega (arith, lt, long)
 
-    other : (p : ℕ) (d : Airport) → p < length airports → p ≢ port → IsAirport bands book p (get_or (slice_set airports port one) p d)
-    other p d lt apart = subst (IsAirport bands book p) (sym (get_or-set_other airports port p one d apart)) (are.each p d lt)
+    other : (p : ℕ) (d : AirportLines) → p < length airports → p ≢ port → IsAirportOf bands book p (get_or (slice_set airports port one) p d)
+    other p d lt apart = subst (IsAirportOf bands book p) (sym (get_or-set_other airports port p one d apart)) (are.each p d lt)
 
 -- and all are busy, where the others were
-pub busy_with : (book : BookSeen) (marks : List Fact) (k floor : ℕ) (moment : ℤ) (store : StoreSeen) (airports : List Airport) (port : ℕ) (one : Airport) → port < length airports
+pub busy_with : (book : BookSeen) (marks : List Fact) (k floor : ℕ) (moment : ℤ) (store : StoreSeen) (airports : List AirportLines) (port : ℕ) (one : AirportLines) → port < length airports
     → AreBusy book marks k floor moment store airports → IsBusy book marks (stand_at book k floor moment port) store one → AreBusy book marks k floor moment store (slice_set airports port one)
 busy_with book marks k floor moment store airports port one inside busy here p d lt = elim (cases_lt p port) [
   | inl less ↦ other (omega (arith, less))
@@ -196,18 +196,18 @@ floor_stays marks k b floor none is = record {
 }
 
 -- one airport more stands behind the others
-pub airports_more : (bands : List Band) (book : BookSeen) (n : ℕ) (old new : List Airport) (one : Airport) → new ≡ old ++ one ∷ [] → AreAirportsTo bands book n old → IsAirport bands book n one
+pub airports_more : (bands : List Band) (book : BookSeen) (n : ℕ) (old new : List AirportLines) (one : AirportLines) → new ≡ old ++ one ∷ [] → AreAirportsTo bands book n old → IsAirportOf bands book n one
     → AreAirportsTo bands book (n + 1) new
 airports_more bands book n old new one is before here = record {
-  count = ap (λ (l : List Airport). length l) is ∙ length-append old (one ∷ []) ∙ ap (λ (m : ℕ). m + 1) before.count;
+  count = ap (λ (l : List AirportLines). length l) is ∙ length-append old (one ∷ []) ∙ ap (λ (m : ℕ). m + 1) before.count;
   each = λ p d lt. elim (cases_lt p n) [
-    | inl less ↦ subst (λ (l : List Airport). IsAirport bands book p (get_or l p d)) (sym is)
-        (subst (IsAirport bands book p) (sym (get_or_append_left old (one ∷ []) d p (let count = before.count in omega (arith, less, count)))) (before.each p d less))
+    | inl less ↦ subst (λ (l : List AirportLines). IsAirportOf bands book p (get_or l p d)) (sym is)
+        (subst (IsAirportOf bands book p) (sym (get_or_append_left old (one ∷ []) d p (let count = before.count in omega (arith, less, count)))) (before.each p d less))
     | inr le ↦
         let count = before.count in
         let same : length old ≡ p = omega (arith, lt, le, count) in
-        subst (λ (l : List Airport). IsAirport bands book p (get_or l p d)) (sym is)
-        (subst (λ (q : ℕ). IsAirport bands book q (get_or (old ++ one ∷ []) q d)) same
-        (subst (IsAirport bands book (length old)) (sym (get_or-append_seam old one [] d)) (subst (λ (q : ℕ). IsAirport bands book q one) (sym count) here)))
+        subst (λ (l : List AirportLines). IsAirportOf bands book p (get_or l p d)) (sym is)
+        (subst (λ (q : ℕ). IsAirportOf bands book q (get_or (old ++ one ∷ []) q d)) same
+        (subst (IsAirportOf bands book (length old)) (sym (get_or-append_seam old one [] d)) (subst (λ (q : ℕ). IsAirportOf bands book q one) (sym count) here)))
   ];
 }

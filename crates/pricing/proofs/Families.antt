@@ -42,10 +42,10 @@ concat_all P [] each = All-nil P
 concat_all P (list ∷ rest) each =
     All-append P list (concat rest) (each 0 (omega arith)) (concat_all P rest (λ b lt. each (suc b) (omega (arith, lt))))
 
--- a row that is nowhere larger than a label's weight and counters
-pub lighter : (row : List ℤ) (w : ℤ) (values : List ℤ) → EachAtMost row (w ∷ values) → (weight_of row ≤ℤ w) × EachAtMost (counters_of row) values
-lighter [] w values most = absurd most
-lighter (v ∷ others) w values most = (most.0, most.1)
+-- a row at most another one weighs no more, and no counter of it is larger
+pub row_at_most : (row : List ℤ) (w : ℤ) (values : List ℤ) → EachAtMost row (w ∷ values) → (weight_of row ≤ℤ w) × EachAtMost (counters_of row) values
+row_at_most [] w values most = absurd most
+row_at_most (v ∷ others) w values most = (most.0, most.1)
 
 module _ (store : StoreSeen) (sound : IsStore store) where
   -- a row of a bucket is kept, and has its node
@@ -61,7 +61,7 @@ module _ (store : StoreSeen) (sound : IsStore store) where
   label_covers b w values lt (j, covers) =
       let has = covers.0 in
       let (q, less, is) = concat_has store.buckets b j lt has in
-      let light = lighter (row_at store.rows j) w values covers.1 in
+      let light = row_at_most (row_at store.rows j) w values covers.1 in
       let long = length-map (concat store.buckets) (label_of store) in (
         q,
         label_of store j,

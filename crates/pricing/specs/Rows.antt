@@ -44,11 +44,11 @@ route_to store None = []
 route_to store (Some j) = route_within (suc j) store (Some j)
 
 -- the route that the parents of row j spell is legal and goes over usable links, and its weight and counters are the row
-pub record IsSpelled (table : CostTableSeen) (book : BookSeen) (marks : List Fact) (k : ℕ) (duals : List ℤ) (store : StoreSeen) (j : ℕ) : Type 0 where
+pub record IsSpelledAt (table : CostTableSeen) (book : BookSeen) (marks : List Fact) (k : ℕ) (duals : List ℤ) (store : StoreSeen) (j : ℕ) : Type 0 where
   pub legal : IsLegalRoute book k (route_to store (Some j))
   pub usable : IsUsableFrom book marks k Carry (route_to store (Some j))
   pub values : row_at store.rows j ≡ weight table book k duals (route_to store (Some j)) ∷ counters_after book k (route_to store (Some j))
 
 -- and so has each kept row
 abbrev pub AreSpelled : CostTableSeen → BookSeen → List Fact → ℕ → List ℤ → StoreSeen → Type 0
-AreSpelled table book marks k duals store = (j : ℕ) → j < length store.rows → IsSpelled table book marks k duals store j
+AreSpelled table book marks k duals store = (j : ℕ) → j < length store.rows → IsSpelledAt table book marks k duals store j

@@ -15,10 +15,10 @@ use crate::waiting::Waiting;
 use crate::window::Window;
 use tail_book::{Band, Book, Counter, end_of};
 
-/// An airport: the flights that end there, in order of their ends, the ground time there, the windows of its stays, how many
-/// flights have entered the line of each, and what waits there.
+/// The lines of an airport: the flights that end there, in order of their ends, the ground time there, the windows of its stays,
+/// how many flights have entered the line of each, and what waits there.
 #[derive(Debug, Drop)]
-pub struct Airport {
+pub struct AirportLines {
     pub flights: Vec<u32>,
     pub grounds: Vec<u32>,
     pub windows: Vec<Window>,

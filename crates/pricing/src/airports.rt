@@ -6,10 +6,10 @@
 //! that the lines need but what they grow by.
 
 ghost use Rattle.std.specs.Prelude.{◌≡◌, ◌<◌, ◌+◌, ◌≤◌, IfOk, IfSome, IsTrue, length};
-ghost use Rattle.pricing.specs.inside.Airports.{AreAirports, AreAirportsTo, IsAirport};
+ghost use Rattle.pricing.specs.inside.Airports.{AreAirports, AreAirportsTo, IsAirportOf};
 ghost use Rattle.pricing.specs.inside.Waiting.{IsRoomy};
 
-use crate::airport::{Airport, are_flights, are_grounds, are_windows};
+use crate::airport::{AirportLines, are_flights, are_grounds, are_windows};
 use crate::waiting::Waiting;
 use crate::window::Window;
 use label_store::Store;
@@ -127,7 +127,7 @@ fn with_room(
     flights: Vec<u32>,
     grounds: Vec<u32>,
     windows: Vec<Window>,
-) -> Result<Airport, Memory>
+) -> Result<AirportLines, Memory>
     ensures flights { IfOk result (λ airport. airport.flights.items ≡ flights.items) }
     ensures grounds { IfOk result (λ airport. airport.grounds.items ≡ grounds.items) }
     ensures windows { IfOk result (λ airport. airport.windows.items ≡ windows.items) }
@@ -143,7 +143,7 @@ fn with_room(
         labels: Vec::new(alloc),
         places: Vec::new(alloc),
     };
-    Ok(Airport {
+    Ok(AirportLines {
         flights,
         grounds,
         windows,
@@ -164,8 +164,8 @@ fn airport_of(
     book: &Book,
     table: &CostTable,
     port: u32,
-) -> Result<Option<Airport>, Memory>
-    ensures { IfOk result (λ airport. IfSome airport (IsAirport table.now.bands book.now port)) }
+) -> Result<Option<AirportLines>, Memory>
+    ensures { IfOk result (λ airport. IfSome airport (IsAirportOf table.now.bands book.now port)) }
 {
     every_book_is_sound(book);
     let flights = flights_at(alloc, book, port)?;
@@ -186,7 +186,7 @@ fn add_airport(
     book: &Book,
     table: &CostTable,
     port: u32,
-    airports: &mut Vec<Airport>,
+    airports: &mut Vec<AirportLines>,
 ) -> Result<bool, Memory>
     requires { AreAirportsTo table.now.bands book.now port airports.old.items }
     ensures { IfOk result (λ added. IsTrue added → AreAirportsTo table.now.bands book.now (port + 1) airports.new.items) }
@@ -205,7 +205,7 @@ pub fn airports_of(
     alloc: Global,
     book: &Book,
     table: &CostTable,
-) -> Result<Option<Vec<Airport>>, Memory>
+) -> Result<Option<Vec<AirportLines>>, Memory>
     ensures { IfOk result (λ airports. IfSome airports (λ all. AreAirports table.now.bands book.now all.items)) }
 {
     every_book_is_sound(book);

@@ -12,11 +12,11 @@ ghost use Rattle.branch_marks.specs.Marks.{IsAlive};
 ghost use Rattle.branch_marks.specs.inside.MarkTables.{AreMarksOf};
 ghost use Rattle.label_store.specs.inside.Growth.{IsAsWide};
 ghost use Rattle.pricing.specs.inside.Growth.{Grows};
-ghost use Rattle.pricing.specs.inside.Airports.{AreAlike, AreFresh, AreNoted, IsFreshAirport, IsLikeAirport};
+ghost use Rattle.pricing.specs.inside.Airports.{AreAlike, AreFresh, AreCutsNoted, IsFreshAirport, IsLikeAirport};
 ghost use Rattle.pricing.specs.inside.Asked.{IsAsked, IsUnderWay};
 ghost use Rattle.pricing.specs.inside.ForAsked.{AreAirportsFor, AreBusyFor, AreFilledFor, IsFilledFor, IsFloorFor};
 
-use crate::airport::Airport;
+use crate::airport::AirportLines;
 use crate::asked::Asked;
 use crate::fill::fill;
 use crate::line_fill::fill_open;
@@ -61,7 +61,7 @@ fn is_untied(marks: &Marks, b: u32) -> bool
 // Whether no Cut leads to an activity.
 fn is_uncut(marks: &Marks, cut: &[bool], b: u32) -> bool
     requires range { b < length cut.now }
-    requires cut { AreNoted marks.now.facts cut.now }
+    requires cut { AreCutsNoted marks.now.facts cut.now }
     ensures { IsTrue result → (c : ℕ) → Contains marks.now.facts (FactCut c b) → ⊥ }
 {
     !cut[b as usize]
@@ -79,7 +79,7 @@ fn is_open(asked: &Asked, cut: &[bool], b: u32) -> bool
     requires asked { IsAsked asked.now }
     requires activity { b < activities asked.now.book.now }
     requires range { b < length cut.now }
-    requires cut { AreNoted asked.now.marks.now.facts cut.now }
+    requires cut { AreCutsNoted asked.now.marks.now.facts cut.now }
     ensures flight { IsTrue result → is_flight asked.now.book.now b ≡ true }
     ensures alive { IsTrue result → IsAlive asked.now.book.now asked.now.marks.now.facts asked.now.k b }
     ensures uncut { IsTrue result → (c : ℕ) → Contains asked.now.marks.now.facts (FactCut c b) → ⊥ }
@@ -103,7 +103,7 @@ fn fill_in_lines(
     floor: u32,
     before: i64,
     b: u32,
-    airports: &mut [Airport],
+    airports: &mut [AirportLines],
     key: &mut Vec<i64>,
     row: &mut [i64],
     store: &mut Store,
@@ -155,7 +155,7 @@ fn fill_in_lines(
 
 // Whether the lines of an airport pay for labels of so many values: more flights end there than are due, so many for each
 // edge between its windows and each value. A hint, since single links do the same.
-fn pays(airport: &Airport, values: usize, due: usize) -> bool {
+fn pays(airport: &AirportLines, values: usize, due: usize) -> bool {
     let edges = airport.windows.len().saturating_sub(1);
     airport.flights.len() > edges.saturating_mul(values).saturating_mul(due)
 }
@@ -168,7 +168,7 @@ fn fill_at(
     before: i64,
     b: u32,
     due: usize,
-    airports: &mut [Airport],
+    airports: &mut [AirportLines],
     key: &mut Vec<i64>,
     row: &mut [i64],
     store: &mut Store,
@@ -177,7 +177,7 @@ fn fill_at(
     requires state { IsUnderWay asked.now store.old (length row.old) }
     requires activity { b < activities asked.now.book.now }
     requires range { length cut.now ≡ activities asked.now.book.now }
-    requires cut { AreNoted asked.now.marks.now.facts cut.now }
+    requires cut { AreCutsNoted asked.now.marks.now.facts cut.now }
     requires airports { AreAirportsFor asked.now airports.old }
     requires busy { AreBusyFor asked.now floor before store.old airports.old }
     requires earlier { before ≤ℤ start_of asked.now.book.now b }
@@ -201,7 +201,7 @@ fn fill_at(
 }
 
 // Empties the lines of an airport.
-fn reset(airport: &mut Airport)
+fn reset(airport: &mut AirportLines)
     ensures fresh { IsFreshAirport airport.new }
     ensures like { IsLikeAirport airport.old airport.new }
 {
@@ -212,7 +212,7 @@ fn reset(airport: &mut Airport)
 }
 
 /// Empties all lines.
-pub fn reset_all(airports: &mut [Airport])
+pub fn reset_all(airports: &mut [AirportLines])
     ensures fresh { AreFresh airports.new }
     ensures alike { AreAlike airports.old airports.new }
 {
@@ -222,7 +222,7 @@ pub fn reset_all(airports: &mut [Airport])
 }
 
 // The number behind the last Must up to an activity; where that is one, all lines begin anew.
-fn pass_must(asked: &Asked, b: u32, floor: u32, airports: &mut [Airport]) -> u32
+fn pass_must(asked: &Asked, b: u32, floor: u32, airports: &mut [AirportLines]) -> u32
     requires asked { IsAsked asked.now }
     requires activity { b < activities asked.now.book.now }
     requires floor { IsFloorFor asked.now b floor }
@@ -256,7 +256,7 @@ fn note_cut(fact: Fact, cut: &mut [bool])
 pub fn note_cuts(book: &Book, marks: &Marks, cut: &mut [bool])
     requires marks { AreMarksOf book.now marks.now }
     requires length { length cut.old ≡ activities book.now }
-    ensures noted { AreNoted marks.now.facts cut.new }
+    ensures noted { AreCutsNoted marks.now.facts cut.new }
     ensures length { length cut.new ≡ length cut.old }
 {
     cut.fill(false);
@@ -272,7 +272,7 @@ pub fn fill_lines(
     asked: &Asked,
     cut: &[bool],
     due: usize,
-    airports: &mut [Airport],
+    airports: &mut [AirportLines],
     key: &mut Vec<i64>,
     row: &mut [i64],
     store: &mut Store,
@@ -280,7 +280,7 @@ pub fn fill_lines(
     requires asked { IsAsked asked.now }
     requires state { IsUnderWay asked.now store.old (length row.old) }
     requires range { length cut.now ≡ activities asked.now.book.now }
-    requires cut { AreNoted asked.now.marks.now.facts cut.now }
+    requires cut { AreCutsNoted asked.now.marks.now.facts cut.now }
     requires airports { AreAirportsFor asked.now airports.old }
     requires fresh { AreFresh airports.old }
     ensures state { IfOk result (λ _. IsUnderWay asked.now store.new (length row.new)) }

@@ -18,7 +18,7 @@ ghost use Rattle.pricing.specs.inside.Prepared.{IsPricerOf};
 ghost use Rattle.pricing.specs.inside.Asked.{IsAsked, IsUnderWay};
 ghost use Rattle.pricing.specs.inside.ForAsked.{AreAirportsFor, AreFilledFor, AreTrueFor, IsClosedFor};
 
-use crate::airport::Airport;
+use crate::airport::AirportLines;
 use crate::airports::airports_of;
 use crate::asked::Asked;
 use crate::exact_price::priced;
@@ -46,7 +46,7 @@ pub struct Pricer {
     key: Vec<i64>,
     cut: Vec<bool>,
     due: usize,
-    airports: Option<Vec<Airport>>,
+    airports: Option<Vec<AirportLines>>,
 }
 
 impl Pricer {
@@ -144,7 +144,7 @@ fn fill_by_lines(
     asked: &Asked,
     cut: &mut [bool],
     due: usize,
-    airports: &mut [Airport],
+    airports: &mut [AirportLines],
     key: &mut Vec<i64>,
     row: &mut [i64],
     store: &mut Store,
@@ -170,7 +170,7 @@ fn fill_by(
     asked: &Asked,
     cut: &mut [bool],
     due: usize,
-    airports: &mut Option<Vec<Airport>>,
+    airports: &mut Option<Vec<AirportLines>>,
     key: &mut Vec<i64>,
     row: &mut [i64],
     store: &mut Store,
@@ -197,7 +197,7 @@ fn fill_from_empty(
     asked: &Asked,
     cut: &mut [bool],
     due: usize,
-    airports: &mut Option<Vec<Airport>>,
+    airports: &mut Option<Vec<AirportLines>>,
     key: &mut Vec<i64>,
     row: &mut [i64],
     store: &mut Store,

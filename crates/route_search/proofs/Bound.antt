@@ -18,12 +18,12 @@ use Rattle.branch_marks.specs.Marks.{Fits, FitsFrom, MayEnd}
 use Rattle.branch_marks.specs.Weights.{arc_weight, weight, weight_from, WeightIsAlong, IsRouteOfWeight}
 use Rattle.label_store.specs.Seen.{StoreSeen}
 use Rattle.label_store.specs.Buckets.{row_at}
-use Rattle.pricing.proofs.Families.{lighter}
 use Rattle.pricing.specs.declared.end.RouteEnd.{RouteEnd}
 use Rattle.pricing.specs.Rows.{weight_of, counters_of, route_to}
 use Rattle.pricing.specs.inside.Ends.{IsAtMost}
 use Rattle.pricing.specs.inside.Laws.{KeptRowsAreTrue}
 use Rattle.pricing.specs.inside.Truth.{first_row, AreTrue}
+use Rattle.pricing.proofs.Families.{row_at_most}
 use Rattle.route_search.specs.declared.end.Ends.{Ends}
 use Rattle.route_search.specs.declared.least_within.LeastWithin.TheVariants.{Best, NoneWithin}
 use Rattle.route_search.specs.inside.Completion.{IsSmall}
@@ -96,7 +96,7 @@ module _ (itself : EachAtMostItself) (chains : EachAtMostChains) (order : StepsK
             let has = covers_it.0 in
             let covers = covers_it.1 in
             let row = row_at store.rows j in
-            let light_row = lighter row (weight_of near +ℤ arc) (step book k x b (counters_of near)) covers in
+            let light_row = row_at_most row (weight_of near +ℤ arc) (step book k x b (counters_of near)) covers in
             at_most_more ends.best ((so_far +ℤ arc) +ℤ after) (so_far +ℤ (arc +ℤ after)) (ungrouped so_far arc after)
             (along (After b) row (so_far +ℤ arc) (step book k x b others) rest
             (one_arc (weight_of row) (weight_of near) so_far arc light light_row.0)

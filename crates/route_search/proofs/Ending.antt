@@ -17,10 +17,10 @@ use Rattle.label_store.specs.Store.{bucket_of, IsStore, IsRowOf}
 use Rattle.pricing.specs.declared.end.RouteEnd.{RouteEnd}
 use Rattle.pricing.specs.Rows.{weight_of}
 use Rattle.pricing.specs.inside.Ends.{IsEnd, IsAtMost}
+use Rattle.pricing.proofs.Families.{row_of_bucket}
 use Rattle.route_search.specs.declared.end.Ends.{Ends}
 use Rattle.route_search.specs.inside.Ends.{IsLimit, IsLeastWithinLimitAt, AreEnds, AreNoHeavier}
 use Rattle.route_search.specs.inside.Reach.{Grows}
-use Rattle.route_search.proofs.Growing.{row_of_bucket}
 
 pub at_most_trans : (one two three : ℤ) → one ≤ℤ two → two ≤ℤ three → one ≤ℤ three
 at_most_trans one two three first next = omega (arith, ints, first, next)

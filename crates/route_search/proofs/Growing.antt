@@ -7,7 +7,6 @@ use Rattle.std.specs.Prelude.{pos}
 use Rattle.std.specs.List.{Contains}
 use Rattle.std.proofs.lemmas.Bool.{cases_lt}
 use Rattle.std.proofs.lemmas.Int.{ints}
-use Rattle.std.proofs.lemmas.List.Elements.{All-contains}
 use Rattle.tail_book.specs.Seen.{BookSeen}
 use Rattle.tail_book.specs.TableSeen.{CostTableSeen}
 use Rattle.tail_book.specs.declared.place.Place.{Place}
@@ -17,16 +16,13 @@ use Rattle.branch_marks.specs.Marks.{IsUsable}
 use Rattle.branch_marks.specs.Weights.{arc_weight, weight_from}
 use Rattle.label_store.specs.Seen.{StoreSeen}
 use Rattle.label_store.specs.Buckets.{row_at}
-use Rattle.label_store.specs.Store.{bucket_of, IsStore, IsRowOf}
+use Rattle.label_store.specs.Store.{bucket_of, IsStore}
 use Rattle.pricing.specs.Rows.{weight_of}
 use Rattle.pricing.specs.inside.Truth.{first_row, row_after}
+use Rattle.pricing.proofs.Families.{row_of_bucket}
 use Rattle.route_search.specs.declared.completion.Way.{Way}
 use Rattle.route_search.specs.inside.Completion.{IsWay}
 use Rattle.route_search.specs.inside.Reach.{IsPast, IsTried, AreTried, IsDone, AreDone, Grows}
-
--- a row of a bucket is kept, and has its node
-pub row_of_bucket : (store : StoreSeen) → IsStore store → (b j : ℕ) → b < length store.buckets → Contains (bucket_of store b) j → IsRowOf store b j
-row_of_bucket store sound b j lt has = All-contains (IsRowOf store b) (bucket_of store b) j (sound.numbers b lt) has
 
 module _ (table : CostTableSeen) (book : BookSeen) (marks : List Fact) (k : ℕ) (duals : List ℤ) where
   past_lower : (limit lower : ℤ) (b : ℕ) (w : ℤ) → lower ≤ℤ limit → IsPast table book marks k duals limit b w → IsPast table book marks k duals lower b w

@@ -6,7 +6,7 @@ use Rattle.branch_marks.specs.Families.{IsClosedFamily}
 use Rattle.branch_marks.specs.Marks.{IsUsable}
 use Rattle.branch_marks.specs.Weights.{arc_weight}
 use Rattle.label_store.specs.Seen.{StoreSeen}
-use Rattle.pricing.specs.declared.airport.Airport.{Airport}
+use Rattle.pricing.specs.declared.airport.AirportLines.{AirportLines}
 use Rattle.pricing.specs.declared.asked.Asked.{Asked}
 use Rattle.pricing.specs.declared.priced.Priced.{Priced}
 use Rattle.pricing.specs.Price.{IsPriceOf}
@@ -52,10 +52,10 @@ abbrev pub AreFilledFor : Asked → StoreSeen → ℕ → Type 0
 AreFilledFor asked store n = AreFilled asked.table.now asked.book.now asked.marks.now.facts asked.k asked.duals.now.values store n
 
 -- airports, and what waits there
-abbrev pub AreAirportsFor : Asked → List Airport → Type 0
+abbrev pub AreAirportsFor : Asked → List AirportLines → Type 0
 AreAirportsFor asked airports = AreAirports asked.table.now.bands asked.book.now airports
 
-abbrev pub AreBusyFor : Asked → ℕ → ℤ → StoreSeen → List Airport → Type 0
+abbrev pub AreBusyFor : Asked → ℕ → ℤ → StoreSeen → List AirportLines → Type 0
 AreBusyFor asked floor moment store airports = AreBusy asked.book.now asked.marks.now.facts asked.k floor moment store airports
 
 abbrev pub IsFloorFor : Asked → ℕ → ℕ → Type 0

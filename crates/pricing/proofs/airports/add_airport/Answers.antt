@@ -1,7 +1,7 @@
 use Rattle.std.proofs.Common.{subst}
 use Rattle.std.specs.Prelude.{Option, IfSome}
-use Rattle.pricing.specs.declared.airport.Airport.{Airport}
-use Rattle.pricing.specs.inside.Airports.{IsAirport}
+use Rattle.pricing.specs.declared.airport.AirportLines.{AirportLines}
+use Rattle.pricing.specs.inside.Airports.{IsAirportOf}
 use Rattle.pricing.proofs.Busy.{airports_more}
 use Rattle.pricing.proofs.airports.add_airport.Goals as goal
 
@@ -10,5 +10,5 @@ pub returns-in_ok-push-in-Some : goal.returns-in_ok-push-in-Some
 returns-in_ok-push-in-Some c = λ yes.
     let bands = c.args.table.now.bands in
     let book = c.args.book.now in
-    let here : IsAirport bands book c.args.port c.in-Some.airport = subst (λ (o : Option Airport). IfSome o (IsAirport bands book c.args.port)) c.in-Some.is c.in_ok-airport.ensures in
+    let here : IsAirportOf bands book c.args.port c.in-Some.airport = subst (λ (o : Option AirportLines). IfSome o (IsAirportOf bands book c.args.port)) c.in-Some.is c.in_ok-airport.ensures in
     airports_more bands book c.args.port c.args.airports.now.items c.push.new.self.items c.in-Some.airport c.in_ok-push-in-Some.ensures.items c.requires here

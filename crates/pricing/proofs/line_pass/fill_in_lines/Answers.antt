@@ -3,7 +3,7 @@ use Rattle.std.specs.Vec.{with_items}
 use Rattle.std.proofs.lemmas.Int.{to_z-of_z}
 use Rattle.std.proofs.lemmas.List.{get_or_default, with_items_is}
 use Rattle.tail_book.specs.Lookup.{start_of}
-use Rattle.pricing.specs.declared.airport.Airport.{Airport}
+use Rattle.pricing.specs.declared.airport.AirportLines.{AirportLines}
 use Rattle.pricing.specs.declared.stand.Stand.{Stand}
 use Rattle.pricing.specs.declared.window.Window.{Window}
 use Rattle.pricing.specs.inside.Airports.{stand_at}
@@ -59,18 +59,18 @@ returns-in_err-fill_open-clause-airports c =
     let port = c.port_of-port.result in
     let inside : port < length c.args.airports.now = search rules in
     let airport = get_or c.args.airports.now port c.index-airports-port.result in
-    let one : Airport = record { flights = airport.flights; grounds = airport.grounds; windows = airport.windows; entered = with_items airport.entered c.fill_open.new.entered; waiting = c.fill_open.new.waiting } in
+    let one : AirportLines = record { flights = airport.flights; grounds = airport.grounds; windows = airport.windows; entered = with_items airport.entered c.fill_open.new.entered; waiting = c.fill_open.new.waiting } in
     let count : length c.fill_open.new.entered ≡ length airport.entered.items = c.fill_open.ensures.count ∙ ap (λ (es : List ℕ). length es) c.deref_mut.ensures.value in
     let size = airport.entered.ok.0 in
     let full : (with_items airport.entered c.fill_open.new.entered).items ≡ c.fill_open.new.entered = with_items_is airport.entered c.fill_open.new.entered (omega (arith, count, size)) in
     airports_with c.args.asked.now.table.now.bands c.args.asked.now.book.now c.args.airports.now port one c.requires.airports inside (λ d.
     record {
-      flights = ap (λ (a : Airport). a.flights.items) (get_or_default c.args.airports.now port c.index-airports-port.result d inside);
-      grounds = ap (λ (a : Airport). a.grounds.items) (get_or_default c.args.airports.now port c.index-airports-port.result d inside);
-      windows = ap (λ (a : Airport). a.windows.items) (get_or_default c.args.airports.now port c.index-airports-port.result d inside);
-      width = c.fill_open.ensures.roomy.width ∙ ap (λ (a : Airport). a.waiting.keys.width) (get_or_default c.args.airports.now port c.index-airports-port.result d inside);
-      nodes = c.fill_open.ensures.roomy.nodes ∙ ap (λ (a : Airport). length a.waiting.keys.buckets) (get_or_default c.args.airports.now port c.index-airports-port.result d inside);
-      count = ap (λ (es : List ℕ). length es) full ∙ count ∙ ap (λ (a : Airport). length a.entered.items) (get_or_default c.args.airports.now port c.index-airports-port.result d inside);
+      flights = ap (λ (a : AirportLines). a.flights.items) (get_or_default c.args.airports.now port c.index-airports-port.result d inside);
+      grounds = ap (λ (a : AirportLines). a.grounds.items) (get_or_default c.args.airports.now port c.index-airports-port.result d inside);
+      windows = ap (λ (a : AirportLines). a.windows.items) (get_or_default c.args.airports.now port c.index-airports-port.result d inside);
+      width = c.fill_open.ensures.roomy.width ∙ ap (λ (a : AirportLines). a.waiting.keys.width) (get_or_default c.args.airports.now port c.index-airports-port.result d inside);
+      nodes = c.fill_open.ensures.roomy.nodes ∙ ap (λ (a : AirportLines). length a.waiting.keys.buckets) (get_or_default c.args.airports.now port c.index-airports-port.result d inside);
+      count = ap (λ (es : List ℕ). length es) full ∙ count ∙ ap (λ (a : AirportLines). length a.entered.items) (get_or_default c.args.airports.now port c.index-airports-port.result d inside);
     })
 
 pub returns-clause-airports : goal.returns-clause-airports
@@ -78,18 +78,18 @@ returns-clause-airports c =
     let port = c.port_of-port.result in
     let inside : port < length c.args.airports.now = search rules in
     let airport = get_or c.args.airports.now port c.index-airports-port.result in
-    let one : Airport = record { flights = airport.flights; grounds = airport.grounds; windows = airport.windows; entered = with_items airport.entered c.fill_open.new.entered; waiting = c.fill_open.new.waiting } in
+    let one : AirportLines = record { flights = airport.flights; grounds = airport.grounds; windows = airport.windows; entered = with_items airport.entered c.fill_open.new.entered; waiting = c.fill_open.new.waiting } in
     let count : length c.fill_open.new.entered ≡ length airport.entered.items = c.fill_open.ensures.count ∙ ap (λ (es : List ℕ). length es) c.deref_mut.ensures.value in
     let size = airport.entered.ok.0 in
     let full : (with_items airport.entered c.fill_open.new.entered).items ≡ c.fill_open.new.entered = with_items_is airport.entered c.fill_open.new.entered (omega (arith, count, size)) in
     airports_with c.args.asked.now.table.now.bands c.args.asked.now.book.now c.args.airports.now port one c.requires.airports inside (λ d.
     record {
-      flights = ap (λ (a : Airport). a.flights.items) (get_or_default c.args.airports.now port c.index-airports-port.result d inside);
-      grounds = ap (λ (a : Airport). a.grounds.items) (get_or_default c.args.airports.now port c.index-airports-port.result d inside);
-      windows = ap (λ (a : Airport). a.windows.items) (get_or_default c.args.airports.now port c.index-airports-port.result d inside);
-      width = c.fill_open.ensures.roomy.width ∙ ap (λ (a : Airport). a.waiting.keys.width) (get_or_default c.args.airports.now port c.index-airports-port.result d inside);
-      nodes = c.fill_open.ensures.roomy.nodes ∙ ap (λ (a : Airport). length a.waiting.keys.buckets) (get_or_default c.args.airports.now port c.index-airports-port.result d inside);
-      count = ap (λ (es : List ℕ). length es) full ∙ count ∙ ap (λ (a : Airport). length a.entered.items) (get_or_default c.args.airports.now port c.index-airports-port.result d inside);
+      flights = ap (λ (a : AirportLines). a.flights.items) (get_or_default c.args.airports.now port c.index-airports-port.result d inside);
+      grounds = ap (λ (a : AirportLines). a.grounds.items) (get_or_default c.args.airports.now port c.index-airports-port.result d inside);
+      windows = ap (λ (a : AirportLines). a.windows.items) (get_or_default c.args.airports.now port c.index-airports-port.result d inside);
+      width = c.fill_open.ensures.roomy.width ∙ ap (λ (a : AirportLines). a.waiting.keys.width) (get_or_default c.args.airports.now port c.index-airports-port.result d inside);
+      nodes = c.fill_open.ensures.roomy.nodes ∙ ap (λ (a : AirportLines). length a.waiting.keys.buckets) (get_or_default c.args.airports.now port c.index-airports-port.result d inside);
+      count = ap (λ (es : List ℕ). length es) full ∙ count ∙ ap (λ (a : AirportLines). length a.entered.items) (get_or_default c.args.airports.now port c.index-airports-port.result d inside);
     })
 
 -- the others are busy as before, and this one is
@@ -110,7 +110,7 @@ returns-clause-busy c =
     let waiting = subst (λ (ws : List Window). IsWaiting book marks stand ws store c.fill_open.new.waiting) c.deref.ensures.value c.in_ok-fill_open.ensures.waiting in
     let entered = subst (λ (ws : List Window). AreEntered book marks stand ws airport.flights.items store c.fill_open.new.waiting c.fill_open.new.entered) c.deref.ensures.value
     (subst (λ (fs : List ℕ). AreEntered book marks stand c.deref.result.now fs store c.fill_open.new.waiting c.fill_open.new.entered) c.deref-2.ensures.value c.in_ok-fill_open.ensures.entered) in
-    let one : Airport = record { flights = airport.flights; grounds = airport.grounds; windows = airport.windows; entered = with_items airport.entered c.fill_open.new.entered; waiting = c.fill_open.new.waiting } in
+    let one : AirportLines = record { flights = airport.flights; grounds = airport.grounds; windows = airport.windows; entered = with_items airport.entered c.fill_open.new.entered; waiting = c.fill_open.new.waiting } in
     let count : length c.fill_open.new.entered ≡ length airport.entered.items = c.fill_open.ensures.count ∙ ap (λ (es : List ℕ). length es) c.deref_mut.ensures.value in
     let size = airport.entered.ok.0 in
     let full : (with_items airport.entered c.fill_open.new.entered).items ≡ c.fill_open.new.entered = with_items_is airport.entered c.fill_open.new.entered (omega (arith, count, size)) in

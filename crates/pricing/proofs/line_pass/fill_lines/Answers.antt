@@ -1,7 +1,7 @@
 use Rattle.std.proofs.Common.{◌≡◌, ◌≤ℤ◌, ◌<◌, ◌+◌, ◌∙◌, ℕ, ℤ, List, rules, arith, length, subst, sym, inl, inr, to_z, of_z, w64, FitsSigned, ◌≤◌}
 use Rattle.std.proofs.lemmas.Int.{to_z-of_z}
 use Rattle.tail_book.specs.Lookup.{activities, start_of}
-use Rattle.pricing.specs.declared.airport.Airport.{Airport}
+use Rattle.pricing.specs.declared.airport.AirportLines.{AirportLines}
 use Rattle.pricing.specs.inside.Airports.{AreAirports, AreBusy}
 use Rattle.pricing.proofs.Busy.{alike_airports, fresh_are_busy, starts_rise}
 use Rattle.label_store.proofs.Growing.{wide_trans}
@@ -23,7 +23,7 @@ loop-b-preserved c =
     let new = c.pass_must-floor.new.airports in
     let airports : AreAirports bands book new = alike_airports bands book old new c.pass_must-floor.ensures.alike c.in_ok-fill_at.ensures.airports in
     let busy : AreBusy book marks c.args.asked.now.k c.pass_must-floor.result (start_of book b) c.fill_at.new.store new = elim c.pass_must-floor.ensures.lines [
-      | inl same ↦ subst (λ (all : List Airport). AreBusy book marks c.args.asked.now.k c.pass_must-floor.result (start_of book b) c.fill_at.new.store all) (sym same.1)
+      | inl same ↦ subst (λ (all : List AirportLines). AreBusy book marks c.args.asked.now.k c.pass_must-floor.result (start_of book b) c.fill_at.new.store all) (sym same.1)
           (subst (λ (f : ℕ). AreBusy book marks c.args.asked.now.k f (start_of book b) c.fill_at.new.store old) (sym same.0) c.in_ok-fill_at.ensures.busy)
       | inr fresh ↦ fresh_are_busy bands book marks c.args.asked.now.k c.pass_must-floor.result (start_of book b) c.fill_at.new.store new airports fresh
     ] in
