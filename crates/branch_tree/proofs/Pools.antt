@@ -23,7 +23,7 @@ use Rattle.branch_tree.specs.Step.{IsLegalPool}
 use Rattle.branch_tree.specs.declared.node_bound.LeastRoutes.{LeastRoutes}
 use Rattle.branch_tree.specs.declared.node_bound.Weighed.{Weighed}
 use Rattle.branch_tree.specs.declared.node_bound.Weighed.TheVariants as weighed
-use Rattle.branch_tree.specs.inside.NodeBound.{IsOpen, IsWeighed}
+use Rattle.branch_tree.specs.inside.NodeBound.{LeavesRoom, IsWeighedNode}
 use Rattle.branch_tree.specs.inside.NewRoutes.{entry_of, AddsRoute, HasAll, HasGrown, AreFittingRoutes}
 use Rattle.node_leaves.specs.inside.FittingPool.{IsFittingPool}
 
@@ -111,9 +111,9 @@ grown_before first old new before one two = subst (λ (p : PoolSeen). HasGrown f
 
 -- what an open look at a node found is legal and fits, and is a route of each aircraft
 module _ (table : CostTableSeen) (book : BookSeen) (marks : List Fact) (duals : List ℤ) (target : ℕ) (look : Weighed) (found : LeastRoutes)
-    (is : IsWeighed table book marks duals target look) (open_so : look ≡ weighed.Open found) (routes : List (List ℕ)) (same : routes ≡ found.routes.items) where
-  pub open_found : IsOpen table book marks duals target found
-  open_found = subst (λ (w : Weighed). IsWeighed table book marks duals target w) open_so is
+    (is : IsWeighedNode table book marks duals target look) (open_so : look ≡ weighed.Open found) (routes : List (List ℕ)) (same : routes ≡ found.routes.items) where
+  pub open_found : LeavesRoom table book marks duals target found
+  open_found = subst (λ (w : Weighed). IsWeighedNode table book marks duals target w) open_so is
 
   pub open_attained : AreRoutesOfWeights table book marks duals found.values.items routes
   open_attained = subst (λ (rs : List (List ℕ)). AreRoutesOfWeights table book marks duals found.values.items rs) (sym same) open_found.attained

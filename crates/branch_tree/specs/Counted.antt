@@ -10,7 +10,7 @@ use Rattle.branch_marks.specs.Following.{IsShut}
 use Rattle.branch_marks.specs.Settled.{IsSettled, AreRoutesOfWeights}
 use Rattle.branch_tree.specs.Choice.{IsChosenPair}
 use Rattle.dive_heuristic.specs.declared.answer.Dive.{Dive}
-use Rattle.dive_heuristic.specs.Dive.{IsDiveOf, IsPlanned}
+use Rattle.dive_heuristic.specs.Dive.{IsDiveOf, IsFittingDive}
 use Rattle.node_leaves.specs.Place.{Open}
 use Rattle.node_leaves.specs.Node.{Ending, Node, closed_marks, IsShownNode, Hole, Stuck, Bounded, Split}
 use Rattle.node_leaves.specs.Priced.{HasLeastValues}
@@ -28,7 +28,7 @@ pub record IsSplitOf (table : CostTableSeen) (book : BookSeen) (marks : List Fac
   pub below : ¬ Passes (bound_of (lagrangian duals values)) target
   pub chosen : IsChosenPair book marks routes pair
   pub dived : IsDiveOf table book marks duals dive
-  pub planned : IsPlanned table book marks dive
+  pub planned : IsFittingDive table book marks dive
   pub used : HasUsed target dive
 
 -- what is asked of an end beyond that it is shown: a bound reaches the target

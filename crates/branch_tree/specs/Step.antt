@@ -29,14 +29,14 @@ pub record IsLegalPool (table : CostTableSeen) (book : BookSeen) (pool : PoolSee
   pub legal : All (λ (entry : Pooled). IsLegalRoute book entry.aircraft entry.route) pool.entries
 
 -- this is the Lagrangian bound of the duals, in thousandths of a cost unit: the larger of their sum and 0
-abbrev pub IsBound : CostTableSeen → BookSeen → List Fact → List ℤ → ℤ → Type 0
-IsBound table book marks duals bound = (sum : ℤ) × IsSum table book marks duals sum × (bound ≡ pos (bound_of sum))
+abbrev pub IsLagrangianBound : CostTableSeen → BookSeen → List Fact → List ℤ → ℤ → Type 0
+IsLagrangianBound table book marks duals bound = (sum : ℤ) × IsSum table book marks duals sum × (bound ≡ pos (bound_of sum))
 
 -- a split that may be answered: the bound is that of its duals and leaves room below the target, and its pair is undecided
 pub record IsTrueSplit (table : CostTableSeen) (book : BookSeen) (marks : List Fact) (duals : List ℤ) (target : ℕ) (pair : Pair) (bound : ℤ)
     (routes : List (List ℕ)) (dive : Dive) : Type 0 where
   pub split : IsSplitOf table book marks target pair duals routes dive
-  pub bounds : IsBound table book marks duals bound
+  pub bounds : IsLagrangianBound table book marks duals bound
   pub below : ¬ Passes (bound_of bound) target
   pub undecided : IsUndecided book marks pair
 
@@ -44,7 +44,7 @@ pub record IsTrueSplit (table : CostTableSeen) (book : BookSeen) (marks : List F
 abbrev pub IsTrueStep : CostTableSeen → BookSeen → List Fact → List ℤ → ℕ → Step → Type 0
 IsTrueStep table book marks duals target (step.Hole a) = IsHole book marks a
 IsTrueStep table book marks duals target (step.Stuck k) = (k < aircraft book) × IsStuck book marks k
-IsTrueStep table book marks duals target (step.Bounded bound) = IsBound table book marks duals bound × Passes (bound_of bound) target
+IsTrueStep table book marks duals target (step.Bounded bound) = IsLagrangianBound table book marks duals bound × Passes (bound_of bound) target
 IsTrueStep table book marks duals target (step.Split pair bound routes dive) =
     IsTrueSplit table book marks duals target pair bound routes.items dive
 

@@ -11,7 +11,7 @@ ghost use Rattle.branch_marks.specs.inside.MarkTables.{AreMarksOf};
 ghost use Rattle.dive_heuristic.specs.Dive.{HasNoHole};
 ghost use Rattle.dive_heuristic.specs.Divers.{IsDiverOf};
 ghost use Rattle.branch_tree.specs.Step.{IsLegalPool, IsTrueStep, IsVisit};
-ghost use Rattle.node_leaves.specs.Place.{place_of};
+ghost use Rattle.node_leaves.specs.Place.{open_place};
 ghost use Rattle.node_leaves.specs.Stops.{StopsIn};
 ghost use Rattle.node_leaves.specs.Target.{IsBest};
 ghost use Rattle.node_leaves.specs.inside.Leaf.{IsReady};
@@ -211,10 +211,10 @@ pub fn node_step_with<L: TreeLog>(
     requires duals { AreDuals table.now book.now duals.old.values }
     requires pool { IsLegalPool table.now book.now pool.old }
     requires best { IsBest table.now book.now best.old.plan best.old.target }
-    ensures visit { IfOk result (IsVisit table.now book.now (place_of marks.old.facts duals.old.values) marks.new.facts duals.new.values best.new.target
+    ensures visit { IfOk result (IsVisit table.now book.now (open_place marks.old.facts duals.old.values) marks.new.facts duals.new.values best.new.target
         (L.shows log.old) (L.shows log.new)) }
     ensures truth { IfOk result (IsTrueStep table.now book.now marks.new.facts duals.new.values best.new.target) }
-    ensures stopped { OnErr result (StopsIn (L.shows log.old) (L.shows log.new) table.now book.now (place_of marks.old.facts duals.old.values ∷ [])) }
+    ensures stopped { OnErr result (StopsIn (L.shows log.old) (L.shows log.new) table.now book.now (open_place marks.old.facts duals.old.values ∷ [])) }
     ensures followed { IsFollowed book.now marks.old.facts marks.new.facts }
     ensures marks { AreMarksOf book.now marks.new }
     ensures pool { IsLegalPool table.now book.now pool.new }
@@ -281,10 +281,10 @@ pub fn node_step<L: TreeLog>(
     requires duals { AreDuals table.now book.now duals.old.values }
     requires pool { IsLegalPool table.now book.now pool.old }
     requires best { IsBest table.now book.now best.old.plan best.old.target }
-    ensures visit { IfOk result (IsVisit table.now book.now (place_of marks.old.facts duals.old.values) marks.new.facts duals.new.values best.new.target
+    ensures visit { IfOk result (IsVisit table.now book.now (open_place marks.old.facts duals.old.values) marks.new.facts duals.new.values best.new.target
         (L.shows log.old) (L.shows log.new)) }
     ensures truth { IfOk result (IsTrueStep table.now book.now marks.new.facts duals.new.values best.new.target) }
-    ensures stopped { OnErr result (StopsIn (L.shows log.old) (L.shows log.new) table.now book.now (place_of marks.old.facts duals.old.values ∷ [])) }
+    ensures stopped { OnErr result (StopsIn (L.shows log.old) (L.shows log.new) table.now book.now (open_place marks.old.facts duals.old.values ∷ [])) }
     ensures followed { IsFollowed book.now marks.old.facts marks.new.facts }
     ensures marks { AreMarksOf book.now marks.new }
     ensures pool { IsLegalPool table.now book.now pool.new }

@@ -5,7 +5,7 @@
 
 ghost use Rattle.std.specs.Prelude.{◌≡◌, ◌∷◌, ◌++◌, [], IfOk, OnOk, OnErr, MatchOption};
 ghost use Rattle.branch_marks.specs.Branches.{first_branch, second_branch};
-ghost use Rattle.node_leaves.specs.Place.{place_of, root};
+ghost use Rattle.node_leaves.specs.Place.{open_place, root};
 
 use branch_marks::{Fact, Pair};
 use std::alloc::Global;
@@ -83,8 +83,8 @@ impl OpenNodes {
         duals: &Duals,
         pair: Pair,
     ) -> Result<(), Memory>
-        ensures { OnOk result (self.new ≡ place_of (facts.now ++ first_branch pair ∷ []) duals.now.values
-            ∷ place_of (facts.now ++ second_branch pair ∷ []) duals.now.values ∷ self.old) }
+        ensures { OnOk result (self.new ≡ open_place (facts.now ++ first_branch pair ∷ []) duals.now.values
+            ∷ open_place (facts.now ++ second_branch pair ∷ []) duals.now.values ∷ self.old) }
     {
         let second = branch(alloc, facts, second_of(pair), duals)?;
         let first = branch(alloc, facts, first_of(pair), duals)?;
@@ -95,7 +95,7 @@ impl OpenNodes {
 
 // A place with one more fact, under these duals.
 fn branch(alloc: Global, facts: &[Fact], fact: Fact, duals: &Duals) -> Result<OpenNode, Memory>
-    ensures { IfOk result (λ here. here ≡ place_of (facts.now ++ fact ∷ []) duals.now.values) }
+    ensures { IfOk result (λ here. here ≡ open_place (facts.now ++ fact ∷ []) duals.now.values) }
 {
     let mut facts = Vec::from_slice(alloc, facts)?;
     facts.push(fact)?;

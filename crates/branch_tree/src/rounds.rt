@@ -11,7 +11,7 @@ ghost use Rattle.node_leaves.specs.Target.{IsBest};
 ghost use Rattle.node_leaves.specs.inside.Leaf.{IsReady};
 ghost use Rattle.branch_tree.specs.inside.StepParts.{IsEndFound};
 ghost use Rattle.node_leaves.specs.inside.FittingPool.{IsFittingPool};
-ghost use Rattle.branch_tree.specs.inside.NodeBound.{IsWeighed};
+ghost use Rattle.branch_tree.specs.inside.NodeBound.{IsWeighedNode};
 
 use crate::new_routes::add_routes;
 use crate::node_bound::{Weighed, weigh};
@@ -91,7 +91,7 @@ fn look(
     requires duals { AreDuals table.now book.now duals.now.values }
     requires pool { IsFittingPool table.now book.now marks.now.facts pool.old }
     requires best { IsBest table.now book.now best.old.plan best.old.target }
-    ensures weighed { IfOk result (IsWeighed table.now book.now marks.now.facts duals.now.values best.new.target) }
+    ensures weighed { IfOk result (IsWeighedNode table.now book.now marks.now.facts duals.now.values best.new.target) }
     ensures ready { IsReady table.now book.now net.now marks.now prices.new }
     ensures pool { IsFittingPool table.now book.now marks.now.facts pool.new }
     ensures best { IsBest table.now book.now best.new.plan best.new.target }

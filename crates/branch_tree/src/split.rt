@@ -4,14 +4,14 @@
 
 ghost use Rattle.std.specs.Prelude.{◌≡◌, ◌≤◌, IfOk};
 ghost use Rattle.branch_marks.specs.Settled.{IsSettled, AreDuals};
-ghost use Rattle.dive_heuristic.specs.Dive.{HasNoHole, IsDiveOf, IsPlanned};
+ghost use Rattle.dive_heuristic.specs.Dive.{HasNoHole, IsDiveOf, IsFittingDive};
 ghost use Rattle.dive_heuristic.specs.Divers.{IsDiverFor, IsDiverOf};
 ghost use Rattle.branch_marks.specs.inside.MarkTables.{AreMarksOf};
 ghost use Rattle.connection_net.specs.Net.{net_of};
 ghost use Rattle.tail_book.specs.CostTable.{IsTableFor};
 ghost use Rattle.node_leaves.specs.Target.{HasUsed, IsBest};
 ghost use Rattle.branch_tree.specs.inside.StepParts.{IsEndFound};
-ghost use Rattle.branch_tree.specs.inside.NodeBound.{IsOpen};
+ghost use Rattle.branch_tree.specs.inside.NodeBound.{LeavesRoom};
 
 use crate::Best;
 use crate::cheaper_plans::exchange_near;
@@ -43,7 +43,7 @@ pub fn dive_and_take(
     requires best { IsBest table.now book.now best.old.plan best.old.target }
     requires diver { IsDiverFor book.now table.now marks.now.facts diver.old }
     ensures dive { IfOk result (IsDiveOf table.now book.now marks.now.facts duals.now.values) }
-    ensures planned { IfOk result (IsPlanned table.now book.now marks.now.facts) }
+    ensures planned { IfOk result (IsFittingDive table.now book.now marks.now.facts) }
     ensures used { IfOk result (HasUsed best.new.target) }
     ensures best { IsBest table.now book.now best.new.plan best.new.target }
     ensures falls { best.new.target ≤ best.old.target }
@@ -74,7 +74,7 @@ fn dive_and_use(
     requires best { IsBest table.now book.now best.old.plan best.old.target }
     requires diver { IsDiverFor book.now table.now marks.now.facts diver.old }
     ensures dive { IfOk result (IsDiveOf table.now book.now marks.now.facts duals.now.values) }
-    ensures planned { IfOk result (IsPlanned table.now book.now marks.now.facts) }
+    ensures planned { IfOk result (IsFittingDive table.now book.now marks.now.facts) }
     ensures used { IfOk result (HasUsed best.new.target) }
     ensures best { IsBest table.now book.now best.new.plan best.new.target }
     ensures falls { best.new.target ≤ best.old.target }
@@ -105,7 +105,7 @@ pub fn split(
     requires marks { AreMarksOf book.now marks.now }
     requires somebody { HasNoHole book.now marks.now.facts }
     requires settled { IsSettled table.now book.now marks.now.facts duals.now.values }
-    requires found { IsOpen table.now book.now marks.now.facts duals.now.values best.old.target found }
+    requires found { LeavesRoom table.now book.now marks.now.facts duals.now.values best.old.target found }
     requires best { IsBest table.now book.now best.old.plan best.old.target }
     requires diver { IsDiverFor book.now table.now marks.now.facts diver.old }
     ensures end { IfOk result (IsEndFound table.now book.now marks.now.facts duals.now.values best.new.target) }

@@ -12,7 +12,7 @@ use Rattle.propagator.specs.InTurn.{WaitInTurn}
 use Rattle.dive_heuristic.specs.declared.answer.DiveStep.{DiveStep}
 use Rattle.dive_heuristic.specs.declared.answer.DiveStep.TheVariants.{Chosen, Forced}
 use Rattle.dive_heuristic.specs.Dive.{AreSteps, StepsWait, fact_of, marks_after}
-use Rattle.dive_heuristic.specs.inside.DiveSteps.{AreForced, GoesOn}
+use Rattle.dive_heuristic.specs.inside.DiveSteps.{AreForced, AddsSteps}
 
 -- the facts of forced steps
 facts_of_forced : (facts : List Fact) → map fact_of (map Forced facts) ≡ facts
@@ -66,7 +66,7 @@ module _ (table : CostTableSeen) (book : BookSeen) (duals : List ℤ) where
   forced_wait marks (fact ∷ facts) wait = (wait.0, forced_wait (marks ++ fact ∷ []) facts wait.1)
 
   pub go_forced : FollowingFactsAreNew → (old new : List Fact) (listed listing : List DiveStep) → AreForced book old new listed listing
-      → GoesOn table book duals old new listed listing
+      → AddsSteps table book duals old new listed listing
   go_forced fresh old new listed listing forced = record {
     added = map Forced forced.added;
     marks = forced.marks ∙ ap (λ (facts : List Fact). old ++ facts) (sym (facts_of_forced forced.added));
@@ -75,10 +75,10 @@ module _ (table : CostTableSeen) (book : BookSeen) (duals : List ℤ) where
     wait = forced_wait old forced.added forced.wait;
   }
 
-  pub go_none : (marks : List Fact) (listed : List DiveStep) → GoesOn table book duals marks marks listed listed
+  pub go_none : (marks : List Fact) (listed : List DiveStep) → AddsSteps table book duals marks marks listed listed
   go_none marks listed = record { added = []; marks = sym (append-nil marks); list = sym (append-nil listed); are = tt; wait = tt }
 
-  pub go_both : (a b c : List Fact) (l m n : List DiveStep) → GoesOn table book duals a b l m → GoesOn table book duals b c m n → GoesOn table book duals a c l n
+  pub go_both : (a b c : List Fact) (l m n : List DiveStep) → AddsSteps table book duals a b l m → AddsSteps table book duals b c m n → AddsSteps table book duals a c l n
   go_both a b c l m n g h = record {
     added = g.added ++ h.added;
     marks = h.marks ∙ ap (λ (z : List Fact). marks_after z h.added) g.marks ∙ after_both a g.added h.added;

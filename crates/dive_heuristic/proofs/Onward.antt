@@ -18,8 +18,8 @@ use Rattle.dive_heuristic.specs.declared.answer.DiveStep.{DiveStep}
 use Rattle.dive_heuristic.specs.declared.answer.DiveStep.TheVariants.{Chosen}
 use Rattle.dive_heuristic.specs.Choice.{IsChoice}
 use Rattle.dive_heuristic.specs.LeastRoutes.{AreLeastRoutes, IsEachInOne}
-use Rattle.dive_heuristic.specs.Dive.{AreSteps, StepsWait, DiveEnd, IsEnd, IsDive, HasNoHole, marks_after}
-use Rattle.dive_heuristic.specs.inside.DiveSteps.{AreForced, GoesOn, StandsAt}
+use Rattle.dive_heuristic.specs.Dive.{AreSteps, StepsWait, DiveEnd, IsDiveEnd, IsDive, HasNoHole, marks_after}
+use Rattle.dive_heuristic.specs.inside.DiveSteps.{AreForced, AddsSteps, StandsAt}
 use Rattle.dive_heuristic.specs.declared.least_routes.FirstRoutes.{FirstRoutes}
 use Rattle.dive_heuristic.specs.declared.least_routes.FirstRoutes.TheVariants as found
 use Rattle.dive_heuristic.specs.inside.Kept.{FitsWithFewer, AreFirstRoutes, HasBegun}
@@ -29,7 +29,7 @@ use Rattle.dive_heuristic.proofs.Forced.{go_forced, go_both}
 module _ (table : CostTableSeen) (book : BookSeen) (duals : List ℤ) where
   pub go_chosen : (marks new : List Fact) (listed listing : List DiveStep) (routes : List (List ℕ)) (k a : ℕ) → StandsAt table book marks duals routes
       → IsChoice book marks routes k a → new ≡ marks ++ Must k a ∷ [] → listing ≡ listed ++ Chosen (Must k a) ∷ []
-      → GoesOn table book duals marks new listed listing
+      → AddsSteps table book duals marks new listed listing
   go_chosen marks new listed listing routes k a stands choice grown noted = record {
     added = Chosen (Must k a) ∷ [];
     marks = grown;
@@ -41,7 +41,7 @@ module _ (table : CostTableSeen) (book : BookSeen) (duals : List ℤ) where
   -- a choice, and all that follows from it
   pub go_choice : FollowingFactsAreNew → (old mid new : List Fact) (listed noted listing : List DiveStep) (routes : List (List ℕ)) (k a : ℕ)
       → StandsAt table book old duals routes → IsChoice book old routes k a → mid ≡ old ++ Must k a ∷ [] → noted ≡ listed ++ Chosen (Must k a) ∷ []
-      → AreForced book mid new noted listing → GoesOn table book duals old new listed listing
+      → AreForced book mid new noted listing → AddsSteps table book duals old new listed listing
   go_choice fresh old mid new listed noted listing routes k a stands choice grown note forced =
       go_both table book duals old mid new listed noted listing
       (go_chosen old mid listed noted routes k a stands choice grown note)
@@ -56,24 +56,24 @@ module _ (table : CostTableSeen) (book : BookSeen) (duals : List ℤ) where
       omega (arith, here, rest)
 
   -- steps from the first marks on, and an end that is true where they lead
-  pub dive_of : (marks now : List Fact) (steps : List DiveStep) (end : DiveEnd) → GoesOn table book duals marks now [] steps → IsShut book now
-      → IsEnd table book now duals end → IsDive table book marks duals steps end
+  pub dive_of : (marks now : List Fact) (steps : List DiveStep) (end : DiveEnd) → AddsSteps table book duals marks now [] steps → IsShut book now
+      → IsDiveEnd table book now duals end → IsDive table book marks duals steps end
   dive_of marks now steps end goes shut true_end =
       let same : now ≡ marks_after marks steps = goes.marks ∙ ap (λ (s : List DiveStep). marks_after marks s) (sym goes.list) in
       record {
         in_turn = subst (λ (s : List DiveStep). AreSteps table book marks duals s) (sym goes.list) goes.are;
         shut = subst (λ (m : List Fact). IsShut book m) same shut;
-        ends = subst (λ (m : List Fact). IsEnd table book m duals end) same true_end;
+        ends = subst (λ (m : List Fact). IsDiveEnd table book m duals end) same true_end;
       }
 
-  pub wait_of : (marks now : List Fact) (steps : List DiveStep) → GoesOn table book duals marks now [] steps → StepsWait book marks steps
+  pub wait_of : (marks now : List Fact) (steps : List DiveStep) → AddsSteps table book duals marks now [] steps → StepsWait book marks steps
   wait_of marks now steps goes = subst (λ (s : List DiveStep). StepsWait book marks s) (sym goes.list) goes.wait
 
   -- routes of least weight that are a plan are a legal plan, and fit the first marks
   pub plan_of : (marks : List Fact) (routes : List (List ℕ)) → AreLeastRoutes table book marks duals routes → IsEachInOne book routes → IsLegalPlan book routes
   plan_of marks routes least once = record { one_each = least.one_each; routes = λ k hk. (least.each k hk).legal; partition = once }
 
-  pub plan_fits : FitsWithFewer → (marks now : List Fact) (steps : List DiveStep) (routes : List (List ℕ)) → GoesOn table book duals marks now [] steps
+  pub plan_fits : FitsWithFewer → (marks now : List Fact) (steps : List DiveStep) (routes : List (List ℕ)) → AddsSteps table book duals marks now [] steps
       → AreLeastRoutes table book now duals routes → (k : ℕ) → k < aircraft book → Fits book marks k (route_of routes k)
   plan_fits fewer marks now steps routes goes least k hk =
       fewer book marks _ k (route_of routes k) (subst (λ (m : List Fact). Fits book m k (route_of routes k)) goes.marks (least.each k hk).fits)

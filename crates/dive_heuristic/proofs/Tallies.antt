@@ -10,7 +10,7 @@ use Rattle.tail_book.specs.declared.flown.Flown.{Flown}
 use Rattle.tail_book.specs.declared.flown.Flown.TheVariants.{Never}
 use Rattle.tail_book.specs.inside.Flown.{flown_of_count, flown_one_more, FlownWithOneMore, TimesWithOneMoreRoute}
 use Rattle.tail_book.specs.Plan.{times_flown}
-use Rattle.dive_heuristic.specs.inside.Flown.{IsTally, times_with, NotesRoute}
+use Rattle.dive_heuristic.specs.inside.Flown.{IsTally, times_with, TalliesRoute}
 
 -- a count of one more, on either side of a sum
 one_more : FlownWithOneMore → (times here there : ℕ) → there ≡ here + 1 → flown_one_more (flown_of_count (times + here)) ≡ flown_of_count (times + there)
@@ -22,7 +22,7 @@ one_more more times here there e =
 
 -- an activity more of the route is counted
 module _ (more : FlownWithOneMore) (old tally : List Flown) (route : List ℕ) (i b : ℕ) (v : Flown) (lt : i < length route) (at : get_or route i 0 ≡ b)
-    (within : b < length tally) (is : v ≡ flown_one_more (get_or tally b Never)) (notes : NotesRoute old tally (take i route)) where
+    (within : b < length tally) (is : v ≡ flown_one_more (get_or tally b Never)) (notes : TalliesRoute old tally (take i route)) where
   counted : (times : ℕ → ℕ) → IsTally times old → (a : ℕ) → a < length tally
       → get_or (set tally b v) a Never ≡ flown_of_count (times_with times (take (i + 1) route) a)
   counted times start a la = elim (cases_eq a b) [
@@ -35,7 +35,7 @@ module _ (more : FlownWithOneMore) (old tally : List Flown) (route : List ℕ) (
         ∙ ap (λ (c : ℕ). flown_of_count (times a + c)) (sym here))
   ]
 
-  pub note_more : NotesRoute old (set tally b v) (take (i + 1) route)
+  pub note_more : TalliesRoute old (set tally b v) (take (i + 1) route)
   note_more = record {
     count = length-set tally b v ∙ notes.count;
     each = λ times start a la. counted times start a (subst (λ (n : ℕ). a < n) (length-set tally b v) la);
@@ -43,7 +43,7 @@ module _ (more : FlownWithOneMore) (old tally : List Flown) (route : List ℕ) (
 
 -- a route more of the routes is counted
 pub tally_more : TimesWithOneMoreRoute → (old new : List Flown) (routes : List (List ℕ)) (k : ℕ) → k < length routes
-    → NotesRoute old new (get_or routes k []) → IsTally (times_flown (take k routes)) old → IsTally (times_flown (take (k + 1) routes)) new
+    → TalliesRoute old new (get_or routes k []) → IsTally (times_flown (take k routes)) old → IsTally (times_flown (take (k + 1) routes)) new
 tally_more more old new routes k lt notes tally a la =
     notes.each (times_flown (take k routes)) tally a la
     ∙ ap flown_of_count (sym (ap (λ (front : List (List ℕ)). times_flown front a) (take_more routes k [] lt)

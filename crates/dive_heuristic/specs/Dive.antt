@@ -66,15 +66,15 @@ IsDeadEnd book marks (Stuck k) = (k < aircraft book) × IsStuck book marks k
 
 -- the end is true of the marks: a dead end; or each activity is alive for somebody, and the routes are of least weight, one for
 -- each aircraft, with each activity in exactly one of them
-abbrev pub IsEnd : CostTableSeen → BookSeen → List Fact → List ℤ → DiveEnd → Type 0
-IsEnd table book marks duals (AtDeadEnd end) = IsDeadEnd book marks end
-IsEnd table book marks duals (AtPlan routes) = HasNoHole book marks × AreLeastRoutes table book marks duals routes × IsEachInOne book routes
+abbrev pub IsDiveEnd : CostTableSeen → BookSeen → List Fact → List ℤ → DiveEnd → Type 0
+IsDiveEnd table book marks duals (AtDeadEnd end) = IsDeadEnd book marks end
+IsDiveEnd table book marks duals (AtPlan routes) = HasNoHole book marks × AreLeastRoutes table book marks duals routes × IsEachInOne book routes
 
 -- a dive from the marks under the duals: its steps, after which the marks are shut, and an end that is true of them
 pub record IsDive (table : CostTableSeen) (book : BookSeen) (marks : List Fact) (duals : List ℤ) (steps : List DiveStep) (end : DiveEnd) : Type 0 where
   pub in_turn : AreSteps table book marks duals steps
   pub shut : IsShut book (marks_after marks steps)
-  pub ends : IsEnd table book (marks_after marks steps) duals end
+  pub ends : IsDiveEnd table book (marks_after marks steps) duals end
 
 -- what a dive answers: the plan of such a dive; or its steps in order, and its dead end
 abbrev pub IsDiveOf : CostTableSeen → BookSeen → List Fact → List ℤ → Dive → Type 0
@@ -88,9 +88,9 @@ pub record IsFittingPlan (table : CostTableSeen) (book : BookSeen) (marks : List
   pub costs : cost ≡ plan_cost_in table book plan
 
 -- so it is where the answer is a plan
-abbrev pub IsPlanned : CostTableSeen → BookSeen → List Fact → Dive → Type 0
-IsPlanned table book marks (dive.Plan plan cost) = IsFittingPlan table book marks plan cost
-IsPlanned table book marks (dive.Dead steps end) = ⊤
+abbrev pub IsFittingDive : CostTableSeen → BookSeen → List Fact → Dive → Type 0
+IsFittingDive table book marks (dive.Plan plan cost) = IsFittingPlan table book marks plan cost
+IsFittingDive table book marks (dive.Dead steps end) = ⊤
 
 -- among the forced steps those that ask about all aircraft together come only where nothing follows by a floor
 abbrev pub StepsWait : BookSeen → List Fact → List DiveStep → Type 0
@@ -99,6 +99,6 @@ StepsWait book marks (Forced fact ∷ steps) = WaitsForFloors book marks fact ×
 StepsWait book marks (Chosen fact ∷ steps) = StepsWait book (marks ++ fact ∷ []) steps
 
 -- the order of the steps that are told
-abbrev pub IsInOrder : BookSeen → List Fact → Dive → Type 0
-IsInOrder book marks (dive.Plan plan cost) = ⊤
-IsInOrder book marks (dive.Dead steps end) = StepsWait book marks steps.items
+abbrev pub IsToldInOrder : BookSeen → List Fact → Dive → Type 0
+IsToldInOrder book marks (dive.Plan plan cost) = ⊤
+IsToldInOrder book marks (dive.Dead steps end) = StepsWait book marks steps.items

@@ -16,9 +16,9 @@ ghost use Rattle.branch_marks.specs.inside.BranchTests.{undecided};
 ghost use Rattle.branch_marks.specs.inside.MarkTables.{AreMarksOf};
 ghost use Rattle.dive_heuristic.specs.Choice.{IsChoice};
 ghost use Rattle.dive_heuristic.specs.LeastRoutes.{IsEachInOne};
-ghost use Rattle.dive_heuristic.specs.Dive.{IsDeadEnd, IsDiveOf, IsInOrder, IsPlanned};
+ghost use Rattle.dive_heuristic.specs.Dive.{IsDeadEnd, IsDiveOf, IsFittingDive, IsToldInOrder};
 ghost use Rattle.dive_heuristic.specs.Divers.{IsDiverFor, IsDiverOf};
-ghost use Rattle.dive_heuristic.specs.inside.DiveSteps.{GoesOn, IsAsked, StandsAt};
+ghost use Rattle.dive_heuristic.specs.inside.DiveSteps.{AddsSteps, IsAsked, StandsAt};
 ghost use Rattle.dive_heuristic.specs.inside.Kept.{HasBegun};
 
 use crate::answer::{DeadEnd, Dive, DiveStep};
@@ -56,7 +56,7 @@ fn go_on(
     requires choice { IsChoice book.now marks.old.facts routes.old.items k a }
     requires diver { IsDiverFor book.now table.now marks.old.facts diver.old }
     ensures marks { AreMarksOf book.now marks.new }
-    ensures goes { IfOk result (λ _. GoesOn table.now book.now duals.now.values marks.old.facts marks.new.facts steps.old.items steps.new.items) }
+    ensures goes { IfOk result (λ _. AddsSteps table.now book.now duals.now.values marks.old.facts marks.new.facts steps.old.items steps.new.items) }
     ensures stands { IfOk result (λ end. IfNone end (StandsAt table.now book.now marks.new.facts duals.now.values routes.new.items)) }
     ensures shut { IfOk result (λ _. IsShut book.now marks.new.facts) }
     ensures dead { IfOk result (λ end. IfSome end (IsDeadEnd book.now marks.new.facts)) }
@@ -117,7 +117,7 @@ fn go_down(
     requires stands { StandsAt table.now book.now marks.old.facts duals.now.values routes.old.items }
     requires diver { IsDiverFor book.now table.now marks.old.facts diver.old }
     ensures marks { AreMarksOf book.now marks.new }
-    ensures goes { IfOk result (λ _. GoesOn table.now book.now duals.now.values marks.old.facts marks.new.facts steps.old.items steps.new.items) }
+    ensures goes { IfOk result (λ _. AddsSteps table.now book.now duals.now.values marks.old.facts marks.new.facts steps.old.items steps.new.items) }
     ensures shut { IfOk result (λ _. IsShut book.now marks.new.facts) }
     ensures dead { IfOk result (λ end. IfSome end (IsDeadEnd book.now marks.new.facts)) }
     ensures stands { IfOk result (λ end. IfNone end (StandsAt table.now book.now marks.new.facts duals.now.values routes.new.items)) }
@@ -150,7 +150,7 @@ fn begin(
     requires marks { AreMarksOf book.now marks.old }
     requires diver { IsDiverFor book.now table.now marks.old.facts diver.old }
     ensures marks { AreMarksOf book.now marks.new }
-    ensures goes { IfOk result (λ _. GoesOn table.now book.now duals.now.values marks.old.facts marks.new.facts steps.old.items steps.new.items) }
+    ensures goes { IfOk result (λ _. AddsSteps table.now book.now duals.now.values marks.old.facts marks.new.facts steps.old.items steps.new.items) }
     ensures shut { IfOk result (λ _. IsShut book.now marks.new.facts) }
     ensures begun { IfOk result (HasBegun table.now book.now marks.new.facts duals.now.values) }
     ensures diver { IsDiverFor book.now table.now marks.new.facts diver.new }
@@ -178,8 +178,8 @@ fn dive_from(
     requires marks { AreMarksOf book.now marks.old }
     requires diver { IsDiverFor book.now table.now marks.old.facts diver.old }
     ensures dive { IfOk result (IsDiveOf table.now book.now marks.old.facts duals.now.values) }
-    ensures plan { IfOk result (IsPlanned table.now book.now marks.old.facts) }
-    ensures order { IfOk result (IsInOrder book.now marks.old.facts) }
+    ensures plan { IfOk result (IsFittingDive table.now book.now marks.old.facts) }
+    ensures order { IfOk result (IsToldInOrder book.now marks.old.facts) }
     ensures diver { IsDiverFor book.now table.now marks.new.facts diver.new }
 {
     fits_with_fewer();
@@ -225,8 +225,8 @@ impl Diver {
         requires duals { AreDuals table.now book.now duals.now.values }
         requires diver { IsDiverFor book.now table.now marks.now.facts self.old }
         ensures dive { IfOk result (IsDiveOf table.now book.now marks.now.facts duals.now.values) }
-        ensures plan { IfOk result (IsPlanned table.now book.now marks.now.facts) }
-        ensures order { IfOk result (IsInOrder book.now marks.now.facts) }
+        ensures plan { IfOk result (IsFittingDive table.now book.now marks.now.facts) }
+        ensures order { IfOk result (IsToldInOrder book.now marks.now.facts) }
         ensures diver { IsDiverOf book.now table.now self.new }
     {
         let mut marks = marks.copy()?;
@@ -249,8 +249,8 @@ pub fn dive(
     requires marks { AreMarksOf book.now marks.now }
     requires duals { AreDuals table.now book.now duals.now.values }
     ensures dive { IfOk result (IsDiveOf table.now book.now marks.now.facts duals.now.values) }
-    ensures plan { IfOk result (IsPlanned table.now book.now marks.now.facts) }
-    ensures order { IfOk result (IsInOrder book.now marks.now.facts) }
+    ensures plan { IfOk result (IsFittingDive table.now book.now marks.now.facts) }
+    ensures order { IfOk result (IsToldInOrder book.now marks.now.facts) }
 {
     let mut diver = Diver::new(alloc, book, table)?;
     let answer = diver.dive(alloc, book, table, net, marks, duals)?;

@@ -3,7 +3,7 @@
 ghost use Rattle.std.specs.Prelude.{◌≡◌, ◌<◌, All, length, replicate};
 ghost use Rattle.tail_book.specs.Plan.{times_flown};
 ghost use Rattle.tail_book.specs.declared.flown.Flown.TheVariants.{Never};
-ghost use Rattle.dive_heuristic.specs.inside.Flown.{IsTally, NotesRoute};
+ghost use Rattle.dive_heuristic.specs.inside.Flown.{IsTally, TalliesRoute};
 
 use tail_book::laws::{flown_with_one_more, times_with_one_more_route};
 use tail_book::{Flown, Route};
@@ -11,7 +11,7 @@ use tail_book::{Flown, Route};
 // Counts the activities of a route.
 fn note_route(tally: &mut [Flown], route: &[u32])
     requires { All (λ a. a < length tally.old) route.now }
-    ensures { NotesRoute tally.old tally.new route.now }
+    ensures { TalliesRoute tally.old tally.new route.now }
 {
     flown_with_one_more();
     for b in route {

@@ -10,8 +10,8 @@ pub record Open : Type 0 where
   pub duals : List ℤ
 
 -- the place of these marks, under these duals
-abbrev pub place_of : List Fact → List ℤ → Open
-place_of marks duals = record { marks = marks; duals = duals }
+abbrev pub open_place : List Fact → List ℤ → Open
+open_place marks duals = record { marks = marks; duals = duals }
 
 -- the root has no facts, and duals that are all 0
 abbrev pub root : BookSeen → Open

@@ -9,7 +9,7 @@ ghost use Rattle.tail_book.specs.Sums.{total};
 ghost use Rattle.branch_marks.specs.Bound.{lagrangian};
 ghost use Rattle.branch_marks.specs.Settled.{AreDuals};
 ghost use Rattle.branch_marks.specs.TreeLog.{IsLater, WriteHasFailed};
-ghost use Rattle.node_leaves.specs.Place.{place_of};
+ghost use Rattle.node_leaves.specs.Place.{open_place};
 ghost use Rattle.node_leaves.specs.Stops.{StopsIn};
 ghost use Rattle.node_leaves.specs.inside.Leaf.{IsReady, IsLeafPriced};
 
@@ -43,9 +43,9 @@ pub fn price_leaf<L: TreeLog>(
 ) -> Result<PricedLeaf, Stop>
     requires ready { IsReady table.now book.now net.now marks.now prices.old }
     requires duals { AreDuals table.now book.now duals.now.values }
-    ensures priced { IfOk result (IsLeafPriced table.now book.now (place_of marks.now.facts duals.now.values)
+    ensures priced { IfOk result (IsLeafPriced table.now book.now (open_place marks.now.facts duals.now.values)
         (L.shows log.old) (L.shows log.new)) }
-    ensures stopped { OnErr result (StopsIn (L.shows log.old) (L.shows log.new) table.now book.now (place_of marks.now.facts duals.now.values ∷ [])) }
+    ensures stopped { OnErr result (StopsIn (L.shows log.old) (L.shows log.new) table.now book.now (open_place marks.now.facts duals.now.values ∷ [])) }
     ensures later { IsLater (L.shows log.old) (L.shows log.new) }
     ensures beside { L.beside log.old log.new }
     ensures cause { IsErrOf result Stop.Log → WriteHasFailed (L.shows log.old) (L.shows log.new) }

@@ -17,7 +17,7 @@ use crate::judging::judge;
 use crate::neighbourhood::{Neighbourhood, room_for};
 use crate::problem::Problem;
 use crate::window::{replan_aircraft, replan_window};
-use pool_plans::{JudgedPlan, Part, Tried, furthest_first, kept_beside};
+use pool_plans::{JudgedPlan, PlanPart, TriedParts, furthest_first, kept_beside};
 use restricted_master::Pool;
 use std::alloc::Global;
 use tail_book::{Memory, Route};
@@ -65,7 +65,7 @@ const TURNS: u32 = 20;
 pub struct Ladder {
     bound: i128,
     lightest: Pool,
-    tried: Tried,
+    tried: TriedParts,
 }
 
 // Takes other routes for the best plan, if they are a cheaper one that is legal and fits the marks.
@@ -137,7 +137,7 @@ impl Ladder {
         Ok(Some(Ladder {
             bound,
             lightest: columns.take_pool(alloc, problem)?,
-            tried: Tried::nothing(alloc),
+            tried: TriedParts::nothing(alloc),
         }))
     }
 
@@ -165,7 +165,7 @@ impl Ladder {
         ensures columns { AreColumns problem.now columns.new }
         ensures best { IsFittingPlan problem.now.table.now problem.now.book.now ground.now.marks.now.facts best.new.cost best.new.plan }
     {
-        let part = Part {
+        let part = PlanPart {
             kept: &[],
             from,
             to,
@@ -225,7 +225,7 @@ impl Ladder {
         ensures columns { AreColumns problem.now columns.new }
         ensures best { IsFittingPlan problem.now.table.now problem.now.book.now ground.now.marks.now.facts best.new.cost best.new.plan }
     {
-        let part = Part {
+        let part = PlanPart {
             kept,
             from: 0,
             to: u32::MAX,

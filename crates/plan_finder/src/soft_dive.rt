@@ -56,7 +56,7 @@ const REACH: i64 = 30;
 /// A dive under way: who flies what so far, and what is left to all others. The aircraft that are free are those of which nothing is
 /// fixed in the slice yet.
 #[derive(Drop)]
-struct Dive {
+struct SoftDive {
     marks: Marks,
     plan: SoftPlan,
     free: Vec<bool>,
@@ -104,7 +104,7 @@ fn slack_at(temperature: i64) -> u32 {
     temperature.saturating_mul(SUGGESTED).clamp(0, 1 << 31) as u32
 }
 
-impl Dive {
+impl SoftDive {
     // Whether nothing is fixed of an aircraft in the slice.
     fn is_free(&self, k: usize) -> bool {
         self.free.get(k).copied().unwrap_or(false)
@@ -511,14 +511,19 @@ fn all_free(alloc: Global, aircraft: usize) -> Result<Vec<bool>, Memory> {
 }
 
 // A dive that has not fixed anything.
-fn begin(alloc: Global, problem: &Problem, marks: &Marks, course: Course) -> Result<Dive, Memory>
+fn begin(
+    alloc: Global,
+    problem: &Problem,
+    marks: &Marks,
+    course: Course,
+) -> Result<SoftDive, Memory>
     ensures { IfOk result (λ dive. dive.marks ≡ marks.now) }
 {
     let book = problem.book;
     let plan = SoftPlan::none(alloc, book)?;
     let free = all_free(alloc, book.tails.len())?;
     let marks = marks.copy()?;
-    Ok(Dive {
+    Ok(SoftDive {
         marks,
         plan,
         free,

@@ -27,5 +27,5 @@ pub use mixing::mixed;
 pub use slice::{ALL, Slice};
 pub use soft_plan::SoftPlan;
 pub use standing::{furthest_first, kept_beside};
-pub use tried::{Part, Tried};
+pub use tried::{PlanPart, TriedParts};
 pub use weights::Weights;

@@ -8,7 +8,7 @@ use tail_book::{Memory, Route};
 
 /// A part of a plan: what the aircraft that do not keep their route fly from one activity on, up to another.
 #[derive(Clone, Copy)]
-pub struct Part<'a> {
+pub struct PlanPart<'a> {
     pub kept: &'a [bool],
     pub from: u32,
     pub to: u32,
@@ -16,7 +16,7 @@ pub struct Part<'a> {
 
 /// The parts that were tried, by their hashes.
 #[derive(Drop)]
-pub struct Tried {
+pub struct TriedParts {
     hashes: Vec<u64>,
 }
 
@@ -30,7 +30,7 @@ fn with_route(hash: u64, k: usize, route: &[u32]) -> u64 {
 }
 
 // The hash of a part, with the whole routes of the aircraft in it.
-fn hash_of(part: Part, routes: &[Route]) -> u64 {
+fn hash_of(part: PlanPart, routes: &[Route]) -> u64 {
     let mut hash = mixed(mixed(0, u64::from(part.from)), u64::from(part.to));
     for k in 0..routes.len() {
         if !part.kept.get(k).copied().unwrap_or(false) {
@@ -41,16 +41,16 @@ fn hash_of(part: Part, routes: &[Route]) -> u64 {
     hash
 }
 
-impl Tried {
+impl TriedParts {
     /// Nothing was tried yet.
-    pub fn nothing(alloc: Global) -> Tried {
-        Tried {
+    pub fn nothing(alloc: Global) -> TriedParts {
+        TriedParts {
             hashes: Vec::new(alloc),
         }
     }
 
     /// Notes a part of a plan, and answers whether it is new.
-    pub fn note(&mut self, part: Part, routes: &[Route]) -> Result<bool, Memory> {
+    pub fn note(&mut self, part: PlanPart, routes: &[Route]) -> Result<bool, Memory> {
         let hash = hash_of(part, routes);
         if self.hashes.contains(&hash) {
             return Ok(false);

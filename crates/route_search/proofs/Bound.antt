@@ -27,9 +27,9 @@ use Rattle.pricing.proofs.Families.{row_at_most}
 use Rattle.route_search.specs.declared.end.Ends.{Ends}
 use Rattle.route_search.specs.declared.least_within.LeastWithin.TheVariants.{Best, NoneWithin}
 use Rattle.route_search.specs.inside.Completion.{IsSmall}
-use Rattle.route_search.specs.inside.Ends.{IsLimit, AreEnds}
+use Rattle.route_search.specs.inside.Ends.{IsEndLimit, AreEnds}
 use Rattle.route_search.specs.inside.Laws.{BestOrNoneWithin, FittingRestsAreSmall, IsClamped, ClampedCutsFindTheSame}
-use Rattle.route_search.specs.inside.Reach.{GoesOn, AreDone}
+use Rattle.route_search.specs.inside.Reach.{GoesOnWithin, AreDone}
 
 at_most_more : (best : Option RouteEnd) (most more : ℤ) → most ≤ℤ more → IsAtMost best most → IsAtMost best more
 at_most_more None most more le at_most = at_most
@@ -79,7 +79,7 @@ module _ (itself : EachAtMostItself) (chains : EachAtMostChains) (order : StepsK
     (done : AreDone table book marks k duals ends.limit store (activities book)) (all : AreEnds book marks k store cut (activities book) ends) where
   -- from a place on, with a row from which it goes on, at most the weight and counters of the route there
   along : (x : Place) (near : List ℤ) (so_far : ℤ) (others : List ℤ) (rest : List ℕ)
-      → weight_of near ≤ℤ so_far → EachAtMost (counters_of near) others → GoesOn table book marks k duals ends.limit store x near
+      → weight_of near ≤ℤ so_far → EachAtMost (counters_of near) others → GoesOnWithin table book marks k duals ends.limit store x near
       → (MayEnd marks k x → weight_of near ≤ℤ ends.limit → IsAtMost ends.best (weight_of near))
       → IsLegalFrom book k x others rest → FitsFrom book marks k x rest → (so_far +ℤ weight_from table book k duals x rest) ≤ℤ ends.limit
       → IsAtMost ends.best (so_far +ℤ weight_from table book k duals x rest)
@@ -115,7 +115,7 @@ module _ (itself : EachAtMostItself) (chains : EachAtMostChains) (order : StepsK
       (along Carry (first_row book k) (pos 0) (carry_of book k) route (at_itself (pos 0)) (itself (carry_of book k)) done.first all.first legal fits
       (from_zero w ends.limit (subst (λ (v : ℤ). v ≤ℤ ends.limit) is most))))
 
-  none_within : IsLimit cut None ends.limit → ((w : ℤ) → IsAtMost ends.best w → ⊥) → (route : List ℕ) → IsLegalRoute book k route → Fits book marks k route
+  none_within : IsEndLimit cut None ends.limit → ((w : ℤ) → IsAtMost ends.best w → ⊥) → (route : List ℕ) → IsLegalRoute book k route → Fits book marks k route
       → (cut +ℤ pos 1) ≤ℤ weight table book k duals route
   none_within limit none route legal fits =
       let w = weight table book k duals route in
@@ -146,10 +146,10 @@ module _ (itself : EachAtMostItself) (chains : EachAtMostChains) (order : StepsK
 
   exact_for : KeptRowsAreTrue → FitsIsUsableToItsEnd → IsBook book → k < aircraft book → AreTrue table book marks k duals store → (best : Option RouteEnd) → ends.best ≡ best
       → BestOrNoneWithin table book marks k duals store cut best
-  exact_for kept fits sound_book hk truths None is = none_within (subst (λ (best : Option RouteEnd). IsLimit cut best ends.limit) is all.limit)
+  exact_for kept fits sound_book hk truths None is = none_within (subst (λ (best : Option RouteEnd). IsEndLimit cut best ends.limit) is all.limit)
       (λ w at_most. subst (λ (best : Option RouteEnd). IsAtMost best w) is at_most)
   exact_for kept fits sound_book hk truths (Some end) is =
-      let limit = subst (λ (best : Option RouteEnd). IsLimit cut best ends.limit) is all.limit in
+      let limit = subst (λ (best : Option RouteEnd). IsEndLimit cut best ends.limit) is all.limit in
       let one = attains kept fits sound_book hk truths end is in (
         record {
           least = least_within end (λ w at_most. subst (λ (best : Option RouteEnd). IsAtMost best w) is at_most) limit.0;

@@ -17,7 +17,7 @@ use Rattle.branch_marks.specs.Marks.{IsUsable, FitsFrom}
 use Rattle.branch_marks.specs.Settled.{AreDuals}
 use Rattle.branch_marks.specs.Weights.{arc_weight, weight_from}
 use Rattle.route_search.specs.declared.completion.Way.{Way}
-use Rattle.route_search.specs.inside.Completion.{BeginsAmong, IsAttained, IsLeastAmong, IsCompletion, IsWay, IsWayOrNone, IsSmall, lesser, least_of}
+use Rattle.route_search.specs.inside.Completion.{BeginsAmong, IsAttained, IsLeastAmong, IsCompletion, IsWay, IsWayOrNone, IsSmall, lesser_weight, least_of}
 use Rattle.route_search.specs.inside.Laws.{FittingRestsAreSmall}
 
 more_on_left : (arc low rest : ℤ) → low ≤ℤ rest → (arc +ℤ low) ≤ℤ (arc +ℤ rest)
@@ -83,7 +83,7 @@ module _ (table : CostTableSeen) (book : BookSeen) (marks : List Fact) (k : ℕ)
   ]
 
   pub among_one_more : (x : Place) (firsts : List ℕ) (i : ℕ) (low : Option ℤ) (way : Option Way) → IsLeastAmong table book marks k duals x firsts i low
-      → IsWayOrNone table book marks k duals x (slice_index_or firsts i 0) way → IsLeastAmong table book marks k duals x firsts (i + 1) (lesser low (least_of way))
+      → IsWayOrNone table book marks k duals x (slice_index_or firsts i 0) way → IsLeastAmong table book marks k duals x firsts (i + 1) (lesser_weight low (least_of way))
   among_one_more x firsts i None None among here = with_next (λ (rest : List ℕ). ¬ FitsFrom book marks k x rest) firsts i among here
   among_one_more x firsts i None (Some way) among here = (
     with_next (λ (rest : List ℕ). FitsFrom book marks k x rest → way.least ≤ℤ weight_from table book k duals x rest) firsts i

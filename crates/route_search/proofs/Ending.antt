@@ -19,13 +19,13 @@ use Rattle.pricing.specs.Rows.{weight_of}
 use Rattle.pricing.specs.inside.Ends.{IsEnd, IsAtMost}
 use Rattle.pricing.proofs.Families.{row_of_bucket}
 use Rattle.route_search.specs.declared.end.Ends.{Ends}
-use Rattle.route_search.specs.inside.Ends.{IsLimit, IsLeastWithinLimitAt, AreEnds, AreNoHeavier}
-use Rattle.route_search.specs.inside.Reach.{Grows}
+use Rattle.route_search.specs.inside.Ends.{IsEndLimit, IsLeastWithinLimitAt, AreEnds, AreNoHeavier}
+use Rattle.route_search.specs.inside.Reach.{GrowsFrom}
 
 pub at_most_trans : (one two three : ℤ) → one ≤ℤ two → two ≤ℤ three → one ≤ℤ three
 at_most_trans one two three first next = omega (arith, ints, first, next)
 
-pub limit_is_below : (cut : ℤ) (best : Option RouteEnd) (limit : ℤ) → IsLimit cut best limit → limit ≤ℤ cut
+pub limit_is_below : (cut : ℤ) (best : Option RouteEnd) (limit : ℤ) → IsEndLimit cut best limit → limit ≤ℤ cut
 limit_is_below cut None limit is = omega (arith, ints, is)
 limit_is_below cut (Some end) limit is = is.1
 
@@ -42,7 +42,7 @@ module _ (book : BookSeen) (marks : List Fact) (k : ℕ) where
     weighs = refl;
   }
 
-  end_stays : (m : ℕ) (old new : StoreSeen) (value : ℤ) (row : Option ℕ) → Grows m old new → IsEnd book marks k old (record { value = value; row = row })
+  end_stays : (m : ℕ) (old new : StoreSeen) (value : ℤ) (row : Option ℕ) → GrowsFrom m old new → IsEnd book marks k old (record { value = value; row = row })
       → IsEnd book marks k new (record { value = value; row = row })
   end_stays m old new value None grows end = record { kept = tt; may = end.may; weighs = end.weighs }
   end_stays m old new value (Some j) grows end =
@@ -54,12 +54,12 @@ module _ (book : BookSeen) (marks : List Fact) (k : ℕ) where
         weighs = ap weight_of (grows.rows.rows j kept) ∙ end.weighs;
       }
 
-  best_stays : (m : ℕ) (old new : StoreSeen) (best : Option RouteEnd) → Grows m old new → IfSome best (IsEnd book marks k old) → IfSome best (IsEnd book marks k new)
+  best_stays : (m : ℕ) (old new : StoreSeen) (best : Option RouteEnd) → GrowsFrom m old new → IfSome best (IsEnd book marks k old) → IfSome best (IsEnd book marks k new)
   best_stays m old new None grows one = tt
   best_stays m old new (Some end) grows one = end_stays m old new end.value end.row grows one
 
   -- the buckets below n, and their rows, are as they were
-  pub ends_stay : (m n : ℕ) (old new : StoreSeen) (cut : ℤ) (ends : Ends) → IsStore old → n ≤ m → n ≤ length old.buckets → Grows m old new
+  pub ends_stay : (m n : ℕ) (old new : StoreSeen) (cut : ℤ) (ends : Ends) → IsStore old → n ≤ m → n ≤ length old.buckets → GrowsFrom m old new
       → AreEnds book marks k old cut n ends → AreEnds book marks k new cut n ends
   ends_stay m n old new cut ends sound le few grows all = record {
     one = best_stays m old new ends.best grows all.one;
@@ -73,7 +73,7 @@ module _ (book : BookSeen) (marks : List Fact) (k : ℕ) where
 
   -- one bucket more
   pub ends_one_more : (store : StoreSeen) (cut : ℤ) (x : ℕ) (old new : Ends) → AreEnds book marks k store cut x old → IfSome new.best (IsEnd book marks k store)
-      → IsLeastWithinLimitAt marks k store new x → AreNoHeavier old new → IsLimit cut new.best new.limit → AreEnds book marks k store cut (x + 1) new
+      → IsLeastWithinLimitAt marks k store new x → AreNoHeavier old new → IsEndLimit cut new.best new.limit → AreEnds book marks k store cut (x + 1) new
   ends_one_more store cut x old new all one here lighter limit = record {
     one = one;
     limit = limit;

@@ -22,7 +22,7 @@ use Rattle.pricing.specs.inside.Truth.{first_row, row_after}
 use Rattle.pricing.proofs.Families.{row_of_bucket}
 use Rattle.route_search.specs.declared.completion.Way.{Way}
 use Rattle.route_search.specs.inside.Completion.{IsWay}
-use Rattle.route_search.specs.inside.Reach.{IsPast, IsTried, AreTried, IsDone, AreDone, Grows}
+use Rattle.route_search.specs.inside.Reach.{IsPast, IsTried, AreTried, IsDone, AreDone, GrowsFrom}
 
 module _ (table : CostTableSeen) (book : BookSeen) (marks : List Fact) (k : ℕ) (duals : List ℤ) where
   past_lower : (limit lower : ℤ) (b : ℕ) (w : ℤ) → lower ≤ℤ limit → IsPast table book marks k duals limit b w → IsPast table book marks k duals lower b w
@@ -34,7 +34,7 @@ module _ (table : CostTableSeen) (book : BookSeen) (marks : List Fact) (k : ℕ)
       below_yet lower limit all le lt = omega (arith, ints, le, lt)
 
   -- what was tried stays tried, also where the limit falls
-  pub tried_stays : (limit lower : ℤ) (m : ℕ) (old new : StoreSeen) (x : Place) (row : List ℤ) (b : ℕ) → lower ≤ℤ limit → Grows m old new
+  pub tried_stays : (limit lower : ℤ) (m : ℕ) (old new : StoreSeen) (x : Place) (row : List ℤ) (b : ℕ) → lower ≤ℤ limit → GrowsFrom m old new
       → IsTried table book marks k duals limit old x row b → IsTried table book marks k duals lower new x row b
   tried_stays limit lower m old new x row b le grows tried within = elim (tried within) [
     | inl covered ↦ inl (grows.covered b (row_after book k (arc_weight table book k duals x b) x b row) covered)
@@ -45,7 +45,7 @@ module _ (table : CostTableSeen) (book : BookSeen) (marks : List Fact) (k : ℕ)
   below_itself z = omega (arith, ints)
 
   -- one row more of a bucket was tried
-  pub tried_one_more : (limit : ℤ) (m : ℕ) (first old new : StoreSeen) (there : List ℕ) (x : Place) (b i : ℕ) → Grows m old new
+  pub tried_one_more : (limit : ℤ) (m : ℕ) (first old new : StoreSeen) (there : List ℕ) (x : Place) (b i : ℕ) → GrowsFrom m old new
       → ((q : ℕ) → q < i → IsTried table book marks k duals limit old x (row_at first.rows (get_or there q 0)) b)
       → IsTried table book marks k duals limit new x (row_at first.rows (get_or there i 0)) b
       → (q : ℕ) → q < i + 1 → IsTried table book marks k duals limit new x (row_at first.rows (get_or there q 0)) b
@@ -73,7 +73,7 @@ module _ (table : CostTableSeen) (book : BookSeen) (marks : List Fact) (k : ℕ)
       first_over (arc_weight table book k duals Carry b) way.least (weight_from table book k duals (After b) rest) limit (on_way.least rest fits) lt)
 
   -- activities at whose places all were tried, and one more
-  pub reached_one_more : (limit : ℤ) (m : ℕ) (first old new : StoreSeen) (there : List ℕ) (x i : ℕ) → Grows m old new
+  pub reached_one_more : (limit : ℤ) (m : ℕ) (first old new : StoreSeen) (there : List ℕ) (x i : ℕ) → GrowsFrom m old new
       → ((q : ℕ) → q < i → AreTried table book marks k duals limit first x old (get_or there q 0))
       → AreTried table book marks k duals limit first x new (get_or there i 0)
       → (q : ℕ) → q < i + 1 → AreTried table book marks k duals limit first x new (get_or there q 0)
@@ -84,7 +84,7 @@ module _ (table : CostTableSeen) (book : BookSeen) (marks : List Fact) (k : ℕ)
   ]
 
   -- what the rows of x were when they were tried, they are still
-  pub reached_here : (limit : ℤ) (first old new : StoreSeen) (x b : ℕ) → IsStore first → x < length first.buckets → Grows (suc x) first old
+  pub reached_here : (limit : ℤ) (first old new : StoreSeen) (x b : ℕ) → IsStore first → x < length first.buckets → GrowsFrom (suc x) first old
       → AreTried table book marks k duals limit old x new b → AreTried table book marks k duals limit first x new b
   reached_here limit first old new x b sound lt grows reached usable j has =
       subst (λ (r : List ℤ). IsTried table book marks k duals limit new (After x) r b)
@@ -92,14 +92,14 @@ module _ (table : CostTableSeen) (book : BookSeen) (marks : List Fact) (k : ℕ)
       (reached usable j (subst (λ (bucket : List ℕ). Contains bucket j) (sym (grows.others x (omega arith))) has))
 
   -- so it is done where all that may come next was tried
-  pub done : (limit : ℤ) (old new : StoreSeen) (x : ℕ) → IsStore old → x < length old.buckets → Grows (suc x) old new
+  pub done : (limit : ℤ) (old new : StoreSeen) (x : ℕ) → IsStore old → x < length old.buckets → GrowsFrom (suc x) old new
       → ((b : ℕ) → AreTried table book marks k duals limit old x new b) → IsDone table book marks k duals limit new x
   done limit old new x sound lt grows tried j has b usable =
       let there : Contains (bucket_of old x) j = subst (λ (bucket : List ℕ). Contains bucket j) (grows.others x (omega arith)) has in
       subst (λ (r : List ℤ). IsTried table book marks k duals limit new (After x) r b)
       (sym (grows.rows.rows j (row_of_bucket old sound x j lt there).kept)) (tried b usable j there)
 
-  done_stays : (limit lower : ℤ) (m : ℕ) (old new : StoreSeen) (x : ℕ) → IsStore old → x < length old.buckets → x < m → lower ≤ℤ limit → Grows m old new
+  done_stays : (limit lower : ℤ) (m : ℕ) (old new : StoreSeen) (x : ℕ) → IsStore old → x < length old.buckets → x < m → lower ≤ℤ limit → GrowsFrom m old new
       → IsDone table book marks k duals limit old x → IsDone table book marks k duals lower new x
   done_stays limit lower m old new x sound lt below le grows was j has b usable =
       let there : Contains (bucket_of old x) j = subst (λ (bucket : List ℕ). Contains bucket j) (grows.others x below) has in
@@ -108,7 +108,7 @@ module _ (table : CostTableSeen) (book : BookSeen) (marks : List Fact) (k : ℕ)
       (tried_stays limit lower m old new (After x) (row_at old.rows j) b le grows (was j there b usable))
 
   -- one bucket more is done
-  pub done_one_more : (limit lower : ℤ) (old new : StoreSeen) (x : ℕ) → IsStore old → x < length old.buckets → lower ≤ℤ limit → Grows (suc x) old new
+  pub done_one_more : (limit lower : ℤ) (old new : StoreSeen) (x : ℕ) → IsStore old → x < length old.buckets → lower ≤ℤ limit → GrowsFrom (suc x) old new
       → AreDone table book marks k duals limit old x → IsDone table book marks k duals lower new x → AreDone table book marks k duals lower new (x + 1)
   done_one_more limit lower old new x sound lt le grows were here = record {
     first = λ b usable. tried_stays limit lower (suc x) old new Carry (first_row book k) b le grows (were.first b usable);
@@ -119,7 +119,7 @@ module _ (table : CostTableSeen) (book : BookSeen) (marks : List Fact) (k : ℕ)
   }
 
   -- one activity more was tried from the carry-in
-  pub first_one_more : (limit : ℤ) (m : ℕ) (old new : StoreSeen) (there : List ℕ) (i : ℕ) → Grows m old new
+  pub first_one_more : (limit : ℤ) (m : ℕ) (old new : StoreSeen) (there : List ℕ) (i : ℕ) → GrowsFrom m old new
       → ((q : ℕ) → q < i → IsUsable book marks k Carry (get_or there q 0) → IsTried table book marks k duals limit old Carry (first_row book k) (get_or there q 0))
       → (IsUsable book marks k Carry (get_or there i 0) → IsTried table book marks k duals limit new Carry (first_row book k) (get_or there i 0))
       → (q : ℕ) → q < i + 1 → IsUsable book marks k Carry (get_or there q 0) → IsTried table book marks k duals limit new Carry (first_row book k) (get_or there q 0)

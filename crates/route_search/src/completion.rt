@@ -9,7 +9,7 @@ ghost use Rattle.tail_book.specs.declared.place.Place.TheVariants.{After};
 ghost use Rattle.tail_book.specs.Lookup.{activities};
 ghost use Rattle.tail_book.specs.Place.{IsPlaceOf};
 ghost use Rattle.route_search.specs.inside.Task.{IsTask};
-ghost use Rattle.route_search.specs.inside.Completion.{IsBroad, IsSmall, least_of, lesser};
+ghost use Rattle.route_search.specs.inside.Completion.{IsBroad, IsSmall, least_of, lesser_weight};
 ghost use Rattle.route_search.specs.inside.ForTask.{AreBehindFor, AreLaterBehindFor, IsBehindFor, IsCompletionFor, IsLeastAmongFor, IsUsableFor, IsWayFor, IsWayOrNoneFor};
 
 use crate::followers::followers;
@@ -28,7 +28,7 @@ pub struct Way {
 
 // The lesser of two weights, of which either may be missing.
 fn lesser(one: Option<i64>, other: Option<i64>) -> Option<i64>
-    ensures { result ≡ lesser one other }
+    ensures { result ≡ lesser_weight one other }
 {
     match (one, other) {
         (Some(low), Some(value)) => Some(low.min(value)),

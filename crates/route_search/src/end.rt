@@ -10,7 +10,7 @@ ghost use Rattle.label_store.specs.Buckets.{row_at};
 ghost use Rattle.pricing.specs.Rows.{weight_of};
 ghost use Rattle.route_search.specs.inside.Completion.{IsBroad, IsSmall};
 ghost use Rattle.pricing.specs.inside.Ends.{IsAtMost};
-ghost use Rattle.route_search.specs.inside.Ends.{IsLimit, AreNoHeavier};
+ghost use Rattle.route_search.specs.inside.Ends.{IsEndLimit, AreNoHeavier};
 ghost use Rattle.route_search.specs.inside.ForTask.{AreEndsFor, AreTrueFor, IsEndFor, IsLeastWithinLimitAtFor};
 ghost use Rattle.route_search.specs.inside.Task.{IsTask};
 
@@ -56,7 +56,7 @@ fn with_end(ends: Ends, end: RouteEnd, slack: u32) -> Ends
     ensures here { end.value ≤ℤ ends.limit → IsAtMost result.best end.value }
     ensures no_heavier { AreNoHeavier ends result }
     ensures one { (result.best ≡ ends.best) ⊎ (result.best ≡ Some end) }
-    ensures limit { (cut : ℤ) → IsLimit cut ends.best ends.limit → IsLimit cut result.best result.limit }
+    ensures limit { (cut : ℤ) → IsEndLimit cut ends.best ends.limit → IsEndLimit cut result.best result.limit }
     ensures broad { IsBroad ends.limit → IsBroad result.limit }
 {
     if end.value > ends.limit || !is_lighter(ends.best, end) {
@@ -91,7 +91,7 @@ fn with_rows(task: &Task, store: &Store, x: u32, ends: Ends, slack: u32) -> Ends
     ensures one { IfSome result.best (IsEndFor task.now store.now) }
     ensures here { IsLeastWithinLimitAtFor task.now store.now result x }
     ensures no_heavier { AreNoHeavier ends result }
-    ensures limit { (cut : ℤ) → IsLimit cut ends.best ends.limit → IsLimit cut result.best result.limit }
+    ensures limit { (cut : ℤ) → IsEndLimit cut ends.best ends.limit → IsEndLimit cut result.best result.limit }
     ensures broad { IsBroad ends.limit → IsBroad result.limit }
 {
     every_task_is_sound(task);
@@ -116,7 +116,7 @@ pub fn with_ends_at(task: &Task, store: &Store, x: u32, ends: Ends, slack: u32) 
     ensures one { IfSome result.best (IsEndFor task.now store.now) }
     ensures here { IsLeastWithinLimitAtFor task.now store.now result x }
     ensures no_heavier { AreNoHeavier ends result }
-    ensures limit { (cut : ℤ) → IsLimit cut ends.best ends.limit → IsLimit cut result.best result.limit }
+    ensures limit { (cut : ℤ) → IsEndLimit cut ends.best ends.limit → IsEndLimit cut result.best result.limit }
     ensures broad { IsBroad ends.limit → IsBroad result.limit }
 {
     if store.count(x as usize) == 0 || !task.marks.may_end(task.book, task.k, Place::After(x)) {

@@ -16,8 +16,8 @@ ghost use Rattle.label_store.specs.inside.Laws.{IsCoveredAt};
 ghost use Rattle.pricing.specs.inside.Truth.{place_of, IsKept};
 ghost use Rattle.route_search.specs.inside.Completion.{IsBroad, IsSmall};
 ghost use Rattle.label_store.specs.inside.Growth.{IsAsWide};
-ghost use Rattle.route_search.specs.inside.Reach.{Grows, up_to};
-ghost use Rattle.route_search.specs.inside.ForTask.{AreBehindFor, AreTriedFor, AreTrueFor, GoesOnFor, IsDoneFor, IsNextFor, IsTriedFor, IsTrueFor, IsUsableFor, IsWayFor, arc_weight_for, first_row_for, row_for};
+ghost use Rattle.route_search.specs.inside.Reach.{GrowsFrom, up_to};
+ghost use Rattle.route_search.specs.inside.ForTask.{AreBehindFor, AreTriedFor, AreTrueFor, GoesOnWithinFor, IsDoneFor, IsNextFor, IsTriedFor, IsTrueFor, IsUsableFor, IsWayFor, arc_weight_for, first_row_for, row_for};
 ghost use Rattle.route_search.specs.inside.Task.{IsTask};
 
 use crate::completion::{Way, way_through};
@@ -52,7 +52,7 @@ fn put(
     requires truth { IsTrueFor task.now store.old parent }
     requires next { IsNextFor task.now (place_of store.old parent) (row_for task.now store.old parent) b row.now }
     ensures truths { IfOk result (λ _. AreTrueFor task.now store.new) }
-    ensures grows { IfOk result (λ _. Grows (up_to (place_of store.old parent)) store.old store.new) }
+    ensures grows { IfOk result (λ _. GrowsFrom (up_to (place_of store.old parent)) store.old store.new) }
     ensures covered { IfOk result (λ _. IsCoveredAt store.new b row.now) }
     ensures wide { IsAsWide store.old store.new }
 {
@@ -93,7 +93,7 @@ fn try_row(
     requires row { row.old ≡ row_for task.now store.old parent }
     requires usable { IsUsableFor task.now from b }
     ensures truths { IfOk result (λ _. AreTrueFor task.now store.new) }
-    ensures grows { IfOk result (λ _. Grows (up_to from) store.old store.new) }
+    ensures grows { IfOk result (λ _. GrowsFrom (up_to from) store.old store.new) }
     ensures tried { IfOk result (λ _. (limit : ℤ) → IsTriedFor task.now limit store.new from row.old b) }
     ensures wide { IsAsWide store.old store.new }
     ensures length { length row.new ≡ length row.old }
@@ -139,7 +139,7 @@ fn try_bucket(
     requires same_width { store.old.width ≡ length row.old }
     requires truths { AreTrueFor task.now store.old }
     ensures truths { IfOk result (λ _. AreTrueFor task.now store.new) }
-    ensures grows { IfOk result (λ _. Grows (suc x) store.old store.new) }
+    ensures grows { IfOk result (λ _. GrowsFrom (suc x) store.old store.new) }
     ensures tried { IfOk result (λ _. AreTriedFor task.now limit store.old x store.new b) }
     ensures wide { IsAsWide store.old store.new }
     ensures length { length row.new ≡ length row.old }
@@ -177,7 +177,7 @@ fn try_kept(
     requires truths { AreTrueFor task.now store.old }
     requires kept { IsRowOf store.old x j }
     ensures truths { IfOk result (λ _. AreTrueFor task.now store.new) }
-    ensures grows { IfOk result (λ _. Grows (suc x) store.old store.new) }
+    ensures grows { IfOk result (λ _. GrowsFrom (suc x) store.old store.new) }
     ensures tried { IfOk result (λ _. (limit : ℤ) → room ≡ limit -ℤ way.least → IsTriedFor task.now limit store.new (After x) (row_at store.old.rows j) b) }
     ensures wide { IsAsWide store.old store.new }
     ensures length { length row.new ≡ length row.old }
@@ -211,7 +211,7 @@ fn try_link(
     requires same_width { store.old.width ≡ length row.old }
     requires truths { AreTrueFor task.now store.old }
     ensures truths { IfOk result (λ _. AreTrueFor task.now store.new) }
-    ensures grows { IfOk result (λ _. Grows (suc x) store.old store.new) }
+    ensures grows { IfOk result (λ _. GrowsFrom (suc x) store.old store.new) }
     ensures tried { IfOk result (λ _. AreTriedFor task.now limit store.old x store.new b) }
     ensures wide { IsAsWide store.old store.new }
     ensures length { length row.new ≡ length row.old }
@@ -240,7 +240,7 @@ fn try_links(
     requires same_width { store.old.width ≡ length row.old }
     requires truths { AreTrueFor task.now store.old }
     ensures truths { IfOk result (λ _. AreTrueFor task.now store.new) }
-    ensures grows { IfOk result (λ _. Grows (suc x) store.old store.new) }
+    ensures grows { IfOk result (λ _. GrowsFrom (suc x) store.old store.new) }
     ensures done { IfOk result (λ _. IsDoneFor task.now limit store.new x) }
     ensures wide { IsAsWide store.old store.new }
     ensures length { length row.new ≡ length row.old }
@@ -271,7 +271,7 @@ pub fn go_on(
     requires same_width { store.old.width ≡ length row.old }
     requires truths { AreTrueFor task.now store.old }
     ensures truths { IfOk result (λ _. AreTrueFor task.now store.new) }
-    ensures grows { IfOk result (λ _. Grows (suc x) store.old store.new) }
+    ensures grows { IfOk result (λ _. GrowsFrom (suc x) store.old store.new) }
     ensures done { IfOk result (λ _. IsDoneFor task.now limit store.new x) }
     ensures wide { IsAsWide store.old store.new }
     ensures length { length row.new ≡ length row.old }
@@ -310,7 +310,7 @@ fn try_first(
     requires same_width { store.old.width ≡ length row.old }
     requires truths { AreTrueFor task.now store.old }
     ensures truths { IfOk result (λ _. AreTrueFor task.now store.new) }
-    ensures grows { IfOk result (λ _. Grows 0 store.old store.new) }
+    ensures grows { IfOk result (λ _. GrowsFrom 0 store.old store.new) }
     ensures tried { IfOk result (λ _. IsUsableFor task.now Carry b → IsTriedFor task.now limit store.new Carry (first_row_for task.now) b) }
     ensures wide { IsAsWide store.old store.new }
     ensures length { length row.new ≡ length row.old }
@@ -340,8 +340,8 @@ pub fn begin(
     requires same_width { store.old.width ≡ length row.old }
     requires truths { AreTrueFor task.now store.old }
     ensures truths { IfOk result (λ _. AreTrueFor task.now store.new) }
-    ensures begun { IfOk result (λ _. GoesOnFor task.now limit store.new Carry (first_row_for task.now)) }
-    ensures grows { IfOk result (λ _. Grows 0 store.old store.new) }
+    ensures begun { IfOk result (λ _. GoesOnWithinFor task.now limit store.new Carry (first_row_for task.now)) }
+    ensures grows { IfOk result (λ _. GrowsFrom 0 store.old store.new) }
     ensures wide { IsAsWide store.old store.new }
     ensures length { length row.new ≡ length row.old }
 {

@@ -17,13 +17,13 @@ abbrev pub IsUsedPlan : CostTableSeen → BookSeen → ℕ → List (List ℕ) �
 IsUsedPlan table book target routes = IsLegalPlan book routes → target ≤ plan_cost_in table book routes
 
 -- the least weights with routes that have them, and their sum, which leaves room below the target
-pub record IsOpen (table : CostTableSeen) (book : BookSeen) (marks : List Fact) (duals : List ℤ) (target : ℕ) (found : LeastRoutes) : Type 0 where
+pub record LeavesRoom (table : CostTableSeen) (book : BookSeen) (marks : List Fact) (duals : List ℤ) (target : ℕ) (found : LeastRoutes) : Type 0 where
   pub least : AreLeastWeights table book marks duals found.values.items
   pub attained : AreRoutesOfWeights table book marks duals found.values.items found.routes.items
   pub sum : found.sum ≡ lagrangian duals found.values.items
   pub below : ¬ Passes (bound_of found.sum) target
   pub used : IsUsedPlan table book target found.routes.items
 
-abbrev pub IsWeighed : CostTableSeen → BookSeen → List Fact → List ℤ → ℕ → Weighed → Type 0
-IsWeighed table book marks duals target (weighed.Ended end) = IsEndFound table book marks duals target end
-IsWeighed table book marks duals target (weighed.Open found) = IsOpen table book marks duals target found
+abbrev pub IsWeighedNode : CostTableSeen → BookSeen → List Fact → List ℤ → ℕ → Weighed → Type 0
+IsWeighedNode table book marks duals target (weighed.Ended end) = IsEndFound table book marks duals target end
+IsWeighedNode table book marks duals target (weighed.Open found) = LeavesRoom table book marks duals target found

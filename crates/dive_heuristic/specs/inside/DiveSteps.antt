@@ -29,7 +29,7 @@ pub record AreForced (book : BookSeen) (old new : List Fact) (listed listing : L
   pub wait : WaitInTurn book old added
 
 -- the list of steps grew by steps of a dive, and the marks by their facts
-pub record GoesOn (table : CostTableSeen) (book : BookSeen) (duals : List ℤ) (old new : List Fact) (listed listing : List DiveStep) : Type 0 where
+pub record AddsSteps (table : CostTableSeen) (book : BookSeen) (duals : List ℤ) (old new : List Fact) (listed listing : List DiveStep) : Type 0 where
   pub added : List DiveStep
   pub marks : new ≡ marks_after old added
   pub list : listing ≡ listed ++ added

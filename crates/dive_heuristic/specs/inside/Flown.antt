@@ -13,6 +13,6 @@ abbrev pub times_with : (ℕ → ℕ) → List ℕ → ℕ → ℕ
 times_with times route a = times a + count_by (nat_eq a) route
 
 -- the tally counts a route more
-pub record NotesRoute (old new : List Flown) (route : List ℕ) : Type 0 where
+pub record TalliesRoute (old new : List Flown) (route : List ℕ) : Type 0 where
   pub count : length new ≡ length old
   pub each : (times : ℕ → ℕ) → IsTally times old → IsTally (times_with times route) new

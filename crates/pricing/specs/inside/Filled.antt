@@ -13,13 +13,13 @@ use Rattle.pricing.specs.inside.Truth.{first_row}
 use Rattle.pricing.specs.inside.Growth.{Tried}
 
 -- each row of this bucket, with its values as they stood, was tried on the way from x to b
-abbrev pub AreTried : BookSeen → ℕ → StoreSeen → List ℕ → ℤ → ℕ → ℕ → StoreSeen → Type 0
-AreTried book k old there arc x b store = (j : ℕ) → Contains there j → Tried book k store arc (After x) b (row_at old.rows j)
+abbrev pub AreRowsTried : BookSeen → ℕ → StoreSeen → List ℕ → ℤ → ℕ → ℕ → StoreSeen → Type 0
+AreRowsTried book k old there arc x b store = (j : ℕ) → Contains there j → Tried book k store arc (After x) b (row_at old.rows j)
 
 -- and that where b may come after x
 abbrev pub IsReached : CostTableSeen → BookSeen → List Fact → ℕ → List ℤ → StoreSeen → ℕ → ℕ → StoreSeen → Type 0
 IsReached table book marks k duals old x b store =
-    IsUsable book marks k (After x) b → AreTried book k old (bucket_of old x) (arc_weight table book k duals (After x) b) x b store
+    IsUsable book marks k (After x) b → AreRowsTried book k old (bucket_of old x) (arc_weight table book k duals (After x) b) x b store
 
 -- the carry-in was tried where b may come first
 abbrev pub IsBegun : CostTableSeen → BookSeen → List Fact → ℕ → List ℤ → ℕ → StoreSeen → Type 0

@@ -72,10 +72,10 @@ abbrev pub IsBroad : ℤ → Type 0
 IsBroad w = IsWithin (pos 0 -ℤ pos (2 ^ 62)) (pos (2 ^ 62)) w
 
 -- the lesser of two weights, of which either may be missing
-abbrev pub lesser : Option ℤ → Option ℤ → Option ℤ
-lesser None other = other
-lesser (Some low) None = Some low
-lesser (Some low) (Some other) = Some (int_min low other)
+abbrev pub lesser_weight : Option ℤ → Option ℤ → Option ℤ
+lesser_weight None other = other
+lesser_weight (Some low) None = Some low
+lesser_weight (Some low) (Some other) = Some (int_min low other)
 
 -- the least through an activity
 abbrev pub least_of : Option Way → Option ℤ

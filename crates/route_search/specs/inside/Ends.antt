@@ -13,9 +13,9 @@ use Rattle.pricing.specs.inside.Ends.{IsEnd, IsAtMost}
 use Rattle.route_search.specs.declared.end.Ends.{Ends}
 
 -- where there is no end yet the limit is the cut, and the limit is never below the least end
-abbrev pub IsLimit : ℤ → Option RouteEnd → ℤ → Type 0
-IsLimit cut None limit = limit ≡ cut
-IsLimit cut (Some end) limit = (end.value ≤ℤ limit) × (limit ≤ℤ cut)
+abbrev pub IsEndLimit : ℤ → Option RouteEnd → ℤ → Type 0
+IsEndLimit cut None limit = limit ≡ cut
+IsEndLimit cut (Some end) limit = (end.value ≤ℤ limit) × (limit ≤ℤ cut)
 
 -- it weighs at most what any row of the bucket of x within the limit does, where aircraft k may end behind x
 abbrev pub IsLeastWithinLimitAt : List Fact → ℕ → StoreSeen → Ends → ℕ → Type 0
@@ -26,7 +26,7 @@ IsLeastWithinLimitAt marks k store ends x = MayEnd marks k (After x) → (j : �
 -- within the limit
 pub record AreEnds (book : BookSeen) (marks : List Fact) (k : ℕ) (store : StoreSeen) (cut : ℤ) (n : ℕ) (ends : Ends) : Type 0 where
   pub one : IfSome ends.best (IsEnd book marks k store)
-  pub limit : IsLimit cut ends.best ends.limit
+  pub limit : IsEndLimit cut ends.best ends.limit
   pub first : MayEnd marks k Carry → pos 0 ≤ℤ ends.limit → IsAtMost ends.best (pos 0)
   pub next : (x : ℕ) → x < n → IsLeastWithinLimitAt marks k store ends x
 

@@ -16,7 +16,7 @@ use Rattle.route_search.specs.LeastWithin.{IsFoundWithin}
 use Rattle.route_search.specs.inside.Completion.{AreBehind, AreBehindFrom, IsBehind, IsCompletion, IsLeastAmong, IsWay, IsWayOrNone}
 use Rattle.route_search.specs.inside.Ends.{AreEnds, IsLeastWithinLimitAt}
 use Rattle.route_search.specs.inside.Followers.{AreFollowers}
-use Rattle.route_search.specs.inside.Reach.{AreDone, AreTried, GoesOn, IsDone, IsTried}
+use Rattle.route_search.specs.inside.Reach.{AreDone, AreTried, GoesOnWithin, IsDone, IsTried}
 
 -- rows, and what a link gives
 abbrev pub first_row_for : Task → List ℤ
@@ -71,8 +71,8 @@ abbrev pub IsTriedFor : Task → ℤ → StoreSeen → Place → List ℤ → �
 IsTriedFor task limit store x row b =
     IsTried task.table.now task.book.now task.marks.now.facts task.k task.duals.now.values limit store x row b
 
-abbrev pub GoesOnFor : Task → ℤ → StoreSeen → Place → List ℤ → Type 0
-GoesOnFor task limit store x row = GoesOn task.table.now task.book.now task.marks.now.facts task.k task.duals.now.values limit store x row
+abbrev pub GoesOnWithinFor : Task → ℤ → StoreSeen → Place → List ℤ → Type 0
+GoesOnWithinFor task limit store x row = GoesOnWithin task.table.now task.book.now task.marks.now.facts task.k task.duals.now.values limit store x row
 
 abbrev pub AreTriedFor : Task → ℤ → StoreSeen → ℕ → StoreSeen → ℕ → Type 0
 AreTriedFor task limit old x store b =

@@ -29,8 +29,8 @@ IsTried table book marks k duals limit store x row b =
     ⊎ IsPast table book marks k duals limit b (weight_of row +ℤ arc_weight table book k duals x b)
 
 -- and so for each activity that may come next
-abbrev pub GoesOn : CostTableSeen → BookSeen → List Fact → ℕ → List ℤ → ℤ → StoreSeen → Place → List ℤ → Type 0
-GoesOn table book marks k duals limit store x row =
+abbrev pub GoesOnWithin : CostTableSeen → BookSeen → List Fact → ℕ → List ℤ → ℤ → StoreSeen → Place → List ℤ → Type 0
+GoesOnWithin table book marks k duals limit store x row =
     (b : ℕ) → IsUsable book marks k x b → IsTried table book marks k duals limit store x row b
 
 -- for each activity that may come next after x, each row of these was tried on the way there, with its values as they stood
@@ -41,16 +41,16 @@ AreTried table book marks k duals limit old x store b = IsUsable book marks k (A
 -- it goes on from each row of the bucket of x
 abbrev pub IsDone : CostTableSeen → BookSeen → List Fact → ℕ → List ℤ → ℤ → StoreSeen → ℕ → Type 0
 IsDone table book marks k duals limit store x =
-    (j : ℕ) → Contains (bucket_of store x) j → GoesOn table book marks k duals limit store (After x) (row_at store.rows j)
+    (j : ℕ) → Contains (bucket_of store x) j → GoesOnWithin table book marks k duals limit store (After x) (row_at store.rows j)
 
 -- it goes on from the carry-in and from each row of the buckets below n: they are closed as far as the limit
 pub record AreDone (table : CostTableSeen) (book : BookSeen) (marks : List Fact) (k : ℕ) (duals : List ℤ) (limit : ℤ) (store : StoreSeen) (n : ℕ) : Type 0 where
-  pub first : GoesOn table book marks k duals limit store Carry (first_row book k)
+  pub first : GoesOnWithin table book marks k duals limit store Carry (first_row book k)
   pub next : (x : ℕ) → x < n → IsDone table book marks k duals limit store x
 
 -- rows are added alone, what was covered stays covered, and no bucket below m changes
-abbrev pub Grows : ℕ → StoreSeen → StoreSeen → Type 0
-Grows m old new = GrowsBeside (λ v. v < m) old new
+abbrev pub GrowsFrom : ℕ → StoreSeen → StoreSeen → Type 0
+GrowsFrom m old new = GrowsBeside (λ v. v < m) old new
 
 -- the buckets up to a place
 abbrev pub up_to : Place → ℕ

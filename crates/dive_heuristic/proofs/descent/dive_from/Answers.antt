@@ -5,16 +5,16 @@ use Rattle.branch_marks.specs.declared.fact.Fact.{Fact}
 use Rattle.dive_heuristic.specs.declared.answer.DiveStep.{DiveStep}
 use Rattle.dive_heuristic.specs.Dive.{AtDeadEnd, AtPlan, IsDeadEnd}
 use Rattle.dive_heuristic.specs.LeastRoutes.{IsEachInOne}
-use Rattle.dive_heuristic.specs.inside.DiveSteps.{GoesOn, StandsAt}
+use Rattle.dive_heuristic.specs.inside.DiveSteps.{AddsSteps, StandsAt}
 use Rattle.dive_heuristic.proofs.Forced.{go_both}
 use Rattle.dive_heuristic.proofs.Onward.{dive_of, wait_of, plan_of, plan_fits}
 use Rattle.dive_heuristic.proofs.descent.dive_from.Goals as goal
 
 -- from no steps on, in two parts
 in_two : (table : CostTableSeen) (book : BookSeen) (duals : List ℤ) (first mid last : List Fact) (none half steps : List DiveStep) → none ≡ []
-    → GoesOn table book duals first mid none half → GoesOn table book duals mid last half steps → GoesOn table book duals first last [] steps
+    → AddsSteps table book duals first mid none half → AddsSteps table book duals mid last half steps → AddsSteps table book duals first last [] steps
 in_two table book duals first mid last none half steps empty one other =
-    subst (λ (z : List DiveStep). GoesOn table book duals first last z steps) empty (go_both table book duals first mid last none half steps one other)
+    subst (λ (z : List DiveStep). AddsSteps table book duals first last z steps) empty (go_both table book duals first mid last none half steps one other)
 
 pub returns-in-Some-clause-dive : goal.returns-in-Some-clause-dive
 returns-in-Some-clause-dive c =

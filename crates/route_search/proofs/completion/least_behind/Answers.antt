@@ -1,6 +1,6 @@
 use Rattle.std.proofs.Common.{◌+◌, arith, ap, sym, ◌∙◌, subst}
 use Rattle.tail_book.specs.declared.place.Place.TheVariants.{After}
-use Rattle.route_search.specs.inside.Completion.{IsLeastAmong, lesser}
+use Rattle.route_search.specs.inside.Completion.{IsLeastAmong, lesser_weight}
 use Rattle.route_search.proofs.Completions.{among_one_more, among_all}
 use Rattle.route_search.proofs.completion.least_behind.Goals as goal
 
@@ -11,7 +11,7 @@ loop-i-preserved c =
     let among = among_one_more table book c.args.task.now.marks.now.facts c.args.task.now.k c.args.task.now.duals.now.values (After c.args.x)
     c.followers-next.result.now c.loop-i.i c.loop-i.least c.way_through-way.result c.loop-i.invariant c.way_through-way.ensures.way in
     subst (IsLeastAmong table book c.args.task.now.marks.now.facts c.args.task.now.k c.args.task.now.duals.now.values (After c.args.x) c.followers-next.result.now (c.loop-i.i + 1))
-    (sym (c.lesser-least.ensures ∙ ap (lesser c.loop-i.least) c.least_of.ensures)) among
+    (sym (c.lesser-least.ensures ∙ ap (lesser_weight c.loop-i.least) c.least_of.ensures)) among
 
 -- whatever is usable is among them
 pub returns : goal.returns

@@ -5,7 +5,7 @@ use Rattle.label_store.specs.Store.{bucket_of}
 use Rattle.pricing.specs.Rows.{weight_of}
 use Rattle.pricing.specs.inside.Ends.{IsEnd, IsAtMost}
 use Rattle.route_search.specs.inside.Completion.{IsBroad}
-use Rattle.route_search.specs.inside.Ends.{IsLimit, AreNoHeavier}
+use Rattle.route_search.specs.inside.Ends.{IsEndLimit, AreNoHeavier}
 use Rattle.route_search.proofs.end.with_rows.Given as goal
 
 -- they are no heavier than before, nor than the rows at places before i that are within the limit
@@ -15,6 +15,6 @@ invariant-loop-i l = record {
   here : (q : ℕ) → q < l.i → weight_of (row_at l.store.rows (get_or (bucket_of l.store l.x) q 0)) ≤ℤ l.all.limit
       → IsAtMost l.all.best (weight_of (row_at l.store.rows (get_or (bucket_of l.store l.x) q 0)));
   no_heavier : AreNoHeavier l.fn.ends l.all;
-  limit : (cut : ℤ) → IsLimit cut l.fn.ends.best l.fn.ends.limit → IsLimit cut l.all.best l.all.limit;
+  limit : (cut : ℤ) → IsEndLimit cut l.fn.ends.best l.fn.ends.limit → IsEndLimit cut l.all.best l.all.limit;
   broad : IsBroad l.fn.ends.limit → IsBroad l.all.limit;
 }

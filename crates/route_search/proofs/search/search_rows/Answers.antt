@@ -5,7 +5,7 @@ use Rattle.tail_book.specs.Lookup.{activities}
 use Rattle.pricing.specs.inside.Truth.{first_row}
 use Rattle.route_search.specs.inside.Completion.{IsBroad}
 use Rattle.route_search.specs.inside.Ends.{AreEnds}
-use Rattle.route_search.specs.inside.Reach.{AreDone, GoesOn, IsDone}
+use Rattle.route_search.specs.inside.Reach.{AreDone, GoesOnWithin, IsDone}
 use Rattle.route_search.proofs.Ending.{ends_stay, ends_one_more}
 use Rattle.label_store.proofs.Growing.{wide_trans}
 use Rattle.route_search.proofs.Growing.{done_one_more}
@@ -21,7 +21,7 @@ loop-x-init c =
     record {
       truths = c.in_ok-begin.ensures.truths;
       done = record {
-        first = subst (λ (w : ℤ). GoesOn c.args.task.now.table.now c.args.task.now.book.now c.args.task.now.marks.now.facts c.args.task.now.k c.args.task.now.duals.now.values w c.begin.new.store Carry (first_row c.args.task.now.book.now c.args.task.now.k)) (to_z-of_z w64 limit fits) c.in_ok-begin.ensures.begun;
+        first = subst (λ (w : ℤ). GoesOnWithin c.args.task.now.table.now c.args.task.now.book.now c.args.task.now.marks.now.facts c.args.task.now.k c.args.task.now.duals.now.values w c.begin.new.store Carry (first_row c.args.task.now.book.now c.args.task.now.k)) (to_z-of_z w64 limit fits) c.in_ok-begin.ensures.begun;
         next = λ x lt. absurd (omega (arith, lt));
       };
       ends = ends_stay c.args.task.now.book.now c.args.task.now.marks.now.facts c.args.task.now.k 0 0 c.args.store.now c.begin.new.store (to_z w64 (of_z w64 c.args.cut)) c.first_ends-ends.result c.every_store_is_sound.ensures (omega arith) (omega arith) c.in_ok-begin.ensures.grows first.ends;
