@@ -1,4 +1,5 @@
 -- What only proofs, and calls further in, cite.
+pub mod WeightRange
 pub mod Truth
 pub mod Growth
 pub mod Filled

@@ -4,16 +4,16 @@
 //! change none of them. Each link is asked for once, and its weight taken once, however many rows wait there. A row is
 //! copied once for each try, and nothing is allocated but what the store grows by.
 
-ghost use Rattle.std.specs.Prelude.{ℕ, ◌≡◌, ◌<◌, ◌+◌, ◌^◌, ◌-ℤ◌, pos, length, IfOk};
+ghost use Rattle.std.specs.Prelude.{ℕ, ◌≡◌, ◌<◌, ◌+◌, length, IfOk};
 ghost use Rattle.tail_book.specs.declared.place.Place.TheVariants.{After};
 ghost use Rattle.tail_book.specs.Lookup.{activities, aircraft, carry_of};
 ghost use Rattle.tail_book.specs.Place.{IsPlaceOf};
-ghost use Rattle.tail_book.specs.Ranges.{IsWithin};
 ghost use Rattle.turn_rules.specs.inside.FreeBefore.{IsFreeBefore};
 ghost use Rattle.maint_counters.specs.inside.Counts.{AreCounts};
 ghost use Rattle.label_store.specs.inside.Laws.{IsCoveredAt};
 ghost use Rattle.pricing.specs.inside.Truth.{place_of, first_row, IsKept};
 ghost use Rattle.label_store.specs.inside.Growth.{IsAsWide};
+ghost use Rattle.pricing.specs.inside.WeightRange.{IsBroad};
 ghost use Rattle.pricing.specs.inside.Growth.{Grows};
 ghost use Rattle.pricing.specs.inside.Asked.{IsAsked, IsUnderWay};
 ghost use Rattle.pricing.specs.inside.ForAsked.{AreFilledFor, AreTrueFor, IsBegunFor, IsFilledFor, IsNextFor, IsReachedFor, IsTrueFor, IsUsableFor, TriedFor, arc_weight_for, row_for};
@@ -80,7 +80,7 @@ pub fn try_row(
     requires place { IsPlaceOf asked.now.book.now from }
     requires activity { b < activities asked.now.book.now }
     requires arc { arc ≡ arc_weight_for asked.now from b }
-    requires arc_range { IsWithin (pos 0 -ℤ pos (2 ^ 62)) (pos (2 ^ 62)) arc }
+    requires arc_range { IsBroad arc }
     requires kept { IsKept store.old parent }
     requires truth { IsTrueFor asked.now store.old parent }
     requires from { from ≡ place_of store.old parent }
@@ -117,7 +117,7 @@ fn try_bucket(
     requires activity { b < activities asked.now.book.now }
     requires later { x < b }
     requires arc { arc ≡ arc_weight_for asked.now (After x) b }
-    requires arc_range { IsWithin (pos 0 -ℤ pos (2 ^ 62)) (pos (2 ^ 62)) arc }
+    requires arc_range { IsBroad arc }
     requires usable { IsUsableFor asked.now (After x) b }
     requires free { IsFreeBefore asked.now.book.now asked.now.k (After x) b }
     ensures state { IfOk result (λ _. IsUnderWay asked.now store.new (length row.new)) }

@@ -4,16 +4,16 @@
 //! writes over the row and allocates nothing. All weights are in thousandths of a cost unit, and no sum of them leaves
 //! 64 bits.
 
-ghost use Rattle.std.specs.Prelude.{◌≡◌, ◌<◌, ◌+◌, ◌^◌, ◌↔◌, ◌-ℤ◌, pos, length, IsTrue};
+ghost use Rattle.std.specs.Prelude.{◌≡◌, ◌<◌, ◌+◌, ◌↔◌, length, IsTrue};
 ghost use Rattle.tail_book.specs.Lookup.{activities, aircraft};
 ghost use Rattle.tail_book.specs.Counters.{step, WithinLimits};
 ghost use Rattle.tail_book.specs.Link.{IsLink};
 ghost use Rattle.tail_book.specs.Place.{IsPlaceOf};
-ghost use Rattle.tail_book.specs.Ranges.{IsWithin};
 ghost use Rattle.turn_rules.specs.inside.FreeBefore.{IsFreeBefore};
 ghost use Rattle.maint_counters.specs.inside.Counts.{AreCounts};
 ghost use Rattle.maint_counters.specs.inside.StepTable.{IsStepTableOf};
 ghost use Rattle.pricing.specs.Rows.{weight_of, counters_of};
+ghost use Rattle.pricing.specs.inside.WeightRange.{IsBroad, IsSmall};
 ghost use Rattle.pricing.specs.inside.Truth.{row_after};
 ghost use Rattle.pricing.specs.inside.Asked.{IsAsked};
 ghost use Rattle.pricing.specs.inside.ForAsked.{arc_weight_for};
@@ -40,7 +40,7 @@ pub fn arc_weight(asked: &Asked, from: Place, b: u32) -> i64
     requires place { IsPlaceOf asked.now.book.now from }
     requires activity { b < activities asked.now.book.now }
     ensures value { result ≡ arc_weight_for asked.now from b }
-    ensures range { IsWithin (pos 0 -ℤ pos (2 ^ 62)) (pos (2 ^ 62)) result }
+    ensures range { IsBroad result }
 {
     costs_are_small(asked.table);
     let duals = asked.duals;
@@ -64,8 +64,8 @@ pub fn stepped(
     requires activity { b < activities book.now }
     requires width { length row.old ≡ 1 + length book.now.rules.counters }
     requires counts { AreCounts (counters_of row.old) }
-    requires light { IsWithin (pos 0 -ℤ pos (2 ^ 61)) (pos (2 ^ 61)) (weight_of row.old) }
-    requires arc { IsWithin (pos 0 -ℤ pos (2 ^ 62)) (pos (2 ^ 62)) arc }
+    requires light { IsSmall (weight_of row.old) }
+    requires arc { IsBroad arc }
     requires free { IsFreeBefore book.now k from b }
     ensures limits { IsTrue result ↔ WithinLimits book.now.rules.counters (step book.now k from b (counters_of row.old)) }
     ensures row { row.new ≡ row_after book.now k arc from b row.old }

@@ -22,11 +22,11 @@ use Rattle.pricing.specs.declared.end.RouteEnd.{RouteEnd}
 use Rattle.pricing.specs.Rows.{weight_of, counters_of, route_to}
 use Rattle.pricing.specs.inside.Ends.{IsAtMost}
 use Rattle.pricing.specs.inside.Laws.{KeptRowsAreTrue}
+use Rattle.pricing.specs.inside.WeightRange.{IsSmall}
 use Rattle.pricing.specs.inside.Truth.{first_row, AreTrue}
 use Rattle.pricing.proofs.Families.{row_at_most}
 use Rattle.route_search.specs.declared.end.Ends.{Ends}
 use Rattle.route_search.specs.declared.least_within.LeastWithin.TheVariants.{Best, NoneWithin}
-use Rattle.route_search.specs.inside.Completion.{IsSmall}
 use Rattle.route_search.specs.inside.Ends.{IsEndLimit, AreEnds}
 use Rattle.route_search.specs.inside.Laws.{BestOrNoneWithin, FittingRestsAreSmall, IsClamped, ClampedCutsFindTheSame}
 use Rattle.route_search.specs.inside.Reach.{GoesOnWithin, AreDone}

@@ -16,8 +16,9 @@ use Rattle.branch_marks.specs.declared.fact.Fact.{Fact}
 use Rattle.branch_marks.specs.Marks.{IsUsable, FitsFrom}
 use Rattle.branch_marks.specs.Settled.{AreDuals}
 use Rattle.branch_marks.specs.Weights.{arc_weight, weight_from}
+use Rattle.pricing.specs.inside.WeightRange.{IsSmall}
 use Rattle.route_search.specs.declared.completion.Way.{Way}
-use Rattle.route_search.specs.inside.Completion.{BeginsAmong, IsAttained, IsLeastAmong, IsCompletion, IsWay, IsWayOrNone, IsSmall, lesser_weight, least_of}
+use Rattle.route_search.specs.inside.Completion.{BeginsAmong, IsAttained, IsLeastAmong, IsCompletion, IsWay, IsWayOrNone, lesser_weight, least_of}
 use Rattle.route_search.specs.inside.Laws.{FittingRestsAreSmall}
 
 more_on_left : (arc low rest : ℤ) → low ≤ℤ rest → (arc +ℤ low) ≤ℤ (arc +ℤ rest)

@@ -15,7 +15,7 @@ use Rattle.tail_book.specs.inside.Sound.{IsBook}
 use Rattle.branch_marks.specs.declared.fact.Fact.{Fact}
 use Rattle.branch_marks.specs.Marks.{FitsFrom}
 use Rattle.branch_marks.specs.Weights.{dual, WeightsAlong}
-use Rattle.route_search.specs.inside.Completion.{IsSmall}
+use Rattle.pricing.specs.inside.WeightRange.{IsSmall}
 use Rattle.route_search.specs.inside.Laws.{FittingRestsAreSmall}
 
 link_before : LinksRise → (book : BookSeen) → IsBook book → (k : ℕ) (x : Place) (b : ℕ) → IsLink book k x b → IsBefore x b

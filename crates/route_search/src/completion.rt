@@ -8,8 +8,9 @@ ghost use Rattle.std.specs.Prelude.{◌≡◌, ◌<◌, ◌+ℤ◌, ◌+◌, [],
 ghost use Rattle.tail_book.specs.declared.place.Place.TheVariants.{After};
 ghost use Rattle.tail_book.specs.Lookup.{activities};
 ghost use Rattle.tail_book.specs.Place.{IsPlaceOf};
+ghost use Rattle.pricing.specs.inside.WeightRange.{IsBroad, IsSmall};
 ghost use Rattle.route_search.specs.inside.Task.{IsTask};
-ghost use Rattle.route_search.specs.inside.Completion.{IsBroad, IsSmall, least_of, lesser_weight};
+ghost use Rattle.route_search.specs.inside.Completion.{least_of, lesser_weight};
 ghost use Rattle.route_search.specs.inside.ForTask.{AreBehindFor, AreLaterBehindFor, IsBehindFor, IsCompletionFor, IsLeastAmongFor, IsUsableFor, IsWayFor, IsWayOrNoneFor};
 
 use crate::followers::followers;

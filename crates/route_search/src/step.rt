@@ -7,8 +7,8 @@ ghost use Rattle.tail_book.specs.Link.{IsLink};
 ghost use Rattle.tail_book.specs.CostTable.{connection_cost_in};
 ghost use Rattle.tail_book.specs.Place.{IsPlaceOf};
 ghost use Rattle.turn_rules.specs.inside.FreeBefore.{IsFreeBefore};
+ghost use Rattle.pricing.specs.inside.WeightRange.{IsBroad};
 ghost use Rattle.route_search.specs.inside.Task.{IsTask, IsAdded};
-ghost use Rattle.route_search.specs.inside.Completion.{IsBroad};
 ghost use Rattle.route_search.specs.inside.ForTask.{arc_weight_for};
 
 use crate::task::{Task, every_task_is_sound};

@@ -1,10 +1,9 @@
 -- What offers keep of what pricing knows, and what follows when all buckets are done.
-use Rattle.std.specs.Prelude.{◌≡◌, ℕ, ℤ, pos, ◌^◌, ◌-ℤ◌, ◌<◌, List, length, Option, None, Some}
+use Rattle.std.specs.Prelude.{◌≡◌, ℕ, ℤ, ◌^◌, ◌<◌, List, length, Option, None, Some}
 use Rattle.tail_book.specs.Seen.{BookSeen}
 use Rattle.tail_book.specs.TableSeen.{CostTableSeen}
 use Rattle.tail_book.specs.Lookup.{activities, aircraft}
 use Rattle.tail_book.specs.CostTable.{IsCostTable, IsTableFor}
-use Rattle.tail_book.specs.Ranges.{IsWithin}
 use Rattle.tail_book.specs.inside.Sound.{IsBook}
 use Rattle.branch_marks.specs.declared.fact.Fact.{Fact}
 use Rattle.branch_marks.specs.DeadEnds.{IsStuck}
@@ -17,6 +16,7 @@ use Rattle.label_store.specs.Store.{IsStore}
 use Rattle.label_store.specs.Offers.{Offers}
 use Rattle.pricing.specs.declared.end.RouteEnd.{RouteEnd}
 use Rattle.pricing.specs.Rows.{weight_of, labels_of, route_to}
+use Rattle.pricing.specs.inside.WeightRange.{IsSmall}
 use Rattle.pricing.specs.inside.Truth.{place_of, row_of, IsTrueAt, AreTrue, IsKept, IsNext}
 use Rattle.pricing.specs.inside.Filled.{AreFilled}
 use Rattle.pricing.specs.inside.Ends.{IsLeastEnd}
@@ -37,7 +37,7 @@ KeptRowsAreTrue = (table : CostTableSeen) (book : BookSeen) (marks : List Fact) 
 abbrev pub TrueRowsAreSmall : Type 0
 TrueRowsAreSmall = (table : CostTableSeen) (book : BookSeen) (marks : List Fact) (k : ℕ) (duals : List ℤ) (store : StoreSeen) (row : Option ℕ)
     → IsBook book → IsCostTable table → IsTableFor book table → AreDuals table book duals → IsTrueAt table book marks k duals store row
-    → IsWithin (pos 0 -ℤ pos (2 ^ 61)) (pos (2 ^ 61)) (weight_of (row_of book k store row))
+    → IsSmall (weight_of (row_of book k store row))
 
 -- where all buckets are done their labels are a closed family
 abbrev pub FilledStoresAreClosed : Type 0

@@ -1,12 +1,11 @@
 -- What can still come behind a place to an end that the marks allow, counters aside, and the least that it weighs.
-use Rattle.std.specs.Prelude.{◌≡◌, ℕ, ℤ, pos, ◌^◌, ◌-ℤ◌, ◌+ℤ◌, ◌<◌, ◌≤◌, ◌≤ℤ◌, ⊤, List, [], ◌∷◌, length, Option, None, Some, slice_index_or}
+use Rattle.std.specs.Prelude.{◌≡◌, ℕ, ℤ, ◌+ℤ◌, ◌<◌, ◌≤◌, ◌≤ℤ◌, ⊤, List, [], ◌∷◌, length, Option, None, Some, slice_index_or}
 use Rattle.std.specs.Int.{int_min}
 use Rattle.tail_book.specs.Seen.{BookSeen}
 use Rattle.tail_book.specs.TableSeen.{CostTableSeen}
 use Rattle.tail_book.specs.declared.place.Place.{Place}
 use Rattle.tail_book.specs.declared.place.Place.TheVariants.{After}
 use Rattle.tail_book.specs.Lookup.{activities}
-use Rattle.tail_book.specs.Ranges.{IsWithin}
 use Rattle.branch_marks.specs.declared.fact.Fact.{Fact}
 use Rattle.branch_marks.specs.Marks.{IsAlive, IsUsable, FitsFrom}
 use Rattle.branch_marks.specs.Weights.{arc_weight, weight_from}
@@ -62,14 +61,6 @@ pub record IsWay (table : CostTableSeen) (book : BookSeen) (marks : List Fact) (
 abbrev pub IsWayOrNone : CostTableSeen → BookSeen → List Fact → ℕ → List ℤ → Place → ℕ → Option Way → Type 0
 IsWayOrNone table book marks k duals x b None = (rest : List ℕ) → ¬ FitsFrom book marks k x (b ∷ rest)
 IsWayOrNone table book marks k duals x b (Some way) = IsWay table book marks k duals x b way
-
--- the weight of a route lies within 2^61 of 0
-abbrev pub IsSmall : ℤ → Type 0
-IsSmall w = IsWithin (pos 0 -ℤ pos (2 ^ 61)) (pos (2 ^ 61)) w
-
--- and a sum of two of them within 2^62
-abbrev pub IsBroad : ℤ → Type 0
-IsBroad w = IsWithin (pos 0 -ℤ pos (2 ^ 62)) (pos (2 ^ 62)) w
 
 -- the lesser of two weights, of which either may be missing
 abbrev pub lesser_weight : Option ℤ → Option ℤ → Option ℤ

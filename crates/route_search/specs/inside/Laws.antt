@@ -14,11 +14,11 @@ use Rattle.label_store.specs.Seen.{StoreSeen}
 use Rattle.label_store.specs.Store.{IsStore}
 use Rattle.pricing.specs.declared.end.RouteEnd.{RouteEnd}
 use Rattle.pricing.specs.Rows.{route_to}
+use Rattle.pricing.specs.inside.WeightRange.{IsBroad, IsSmall}
 use Rattle.pricing.specs.inside.Truth.{AreTrue}
 use Rattle.route_search.specs.declared.end.Ends.{Ends}
 use Rattle.route_search.specs.declared.least_within.LeastWithin.{LeastWithin}
 use Rattle.route_search.specs.LeastWithin.{IsFoundWithin}
-use Rattle.route_search.specs.inside.Completion.{IsBroad, IsSmall}
 use Rattle.route_search.specs.inside.Ends.{AreEnds}
 use Rattle.route_search.specs.inside.Reach.{AreDone}
 

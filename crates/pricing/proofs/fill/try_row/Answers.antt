@@ -1,8 +1,8 @@
-use Rattle.std.proofs.Common.{◌∙◌, ℤ, pos, ◌-ℤ◌, ◌^◌, List, rules, w64, ap, sym, subst}
+use Rattle.std.proofs.Common.{◌∙◌, ℤ, List, rules, w64, ap, sym, subst}
 use Rattle.std.specs.Prelude.{IsTrue}
 use Rattle.std.proofs.lemmas.Int.{to_z-of_z}
 use Rattle.tail_book.specs.declared.place.Place.{Place}
-use Rattle.tail_book.specs.Ranges.{IsWithin}
+use Rattle.pricing.specs.inside.WeightRange.{IsSmall}
 use Rattle.pricing.specs.Rows.{weight_of}
 use Rattle.pricing.specs.inside.Truth.{IsNext, place_of, row_after}
 use Rattle.pricing.proofs.fill.try_row.Goals as goal
@@ -10,7 +10,7 @@ use Rattle.pricing.proofs.fill.try_row.Goals as goal
 -- a true row is small
 pub stepped-requires-clause-light : goal.stepped-requires-clause-light
 stepped-requires-clause-light c =
-    subst (λ (r : List ℤ). IsWithin (pos 0 -ℤ pos (2 ^ 61)) (pos (2 ^ 61)) (weight_of r)) (sym c.requires.row)
+    subst (λ (r : List ℤ). IsSmall (weight_of r)) (sym c.requires.row)
     (c.true_rows_are_small.ensures c.args.asked.now.table.now c.args.asked.now.book.now c.args.asked.now.marks.now.facts c.args.asked.now.k c.args.asked.now.duals.now.values c.args.store.now c.args.parent
     c.every_book_is_sound.ensures c.every_cost_table_is_sound.ensures c.requires.asked.table c.requires.asked.duals c.requires.truth)
 

@@ -1,7 +1,7 @@
 use Rattle.std.proofs.Common.{ℤ, ◌+ℤ◌, w64, to_z, of_z, FitsSigned, rules, ap, sym, subst, ◌∙◌}
 use Rattle.std.proofs.lemmas.Int.{to_z-of_z}
 use Rattle.branch_marks.specs.Weights.{arc_weight}
-use Rattle.route_search.specs.inside.Completion.{IsSmall}
+use Rattle.pricing.specs.inside.WeightRange.{IsSmall}
 use Rattle.route_search.proofs.Completions.{through_is_small, is_way}
 use Rattle.route_search.proofs.completion.with_rest.Goals as goal
 

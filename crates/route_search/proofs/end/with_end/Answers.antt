@@ -1,6 +1,6 @@
 use Rattle.std.proofs.Common.{◌≡◌, ℤ, ◌≤ℤ◌, w64, FitsSigned, rules, arith, true, sym, subst}
 use Rattle.std.proofs.lemmas.Int.{ints, to_z-of_z}
-use Rattle.route_search.specs.inside.Completion.{IsBroad, IsSmall}
+use Rattle.pricing.specs.inside.WeightRange.{IsBroad, IsSmall}
 use Rattle.route_search.proofs.Ending.{limit_is_below, lightest, at_most_trans}
 use Rattle.route_search.proofs.end.with_end.Goals as goal
 

@@ -6,7 +6,7 @@ use Rattle.label_store.specs.Store.{bucket_of, IsRowOf}
 use Rattle.pricing.specs.declared.end.RouteEnd.{RouteEnd}
 use Rattle.pricing.specs.Rows.{weight_of}
 use Rattle.pricing.specs.inside.Ends.{IsEnd, IsAtMost}
-use Rattle.route_search.specs.inside.Completion.{IsSmall}
+use Rattle.pricing.specs.inside.WeightRange.{IsSmall}
 use Rattle.route_search.proofs.Ending.{end_at_row, best_one_more, here_one_more, heavier_trans}
 use Rattle.route_search.proofs.end.with_rows.Goals as goal
 

@@ -4,7 +4,7 @@ use Rattle.label_store.specs.Buckets.{row_at}
 use Rattle.label_store.specs.Store.{bucket_of}
 use Rattle.pricing.specs.Rows.{weight_of}
 use Rattle.pricing.specs.inside.Ends.{IsEnd, IsAtMost}
-use Rattle.route_search.specs.inside.Completion.{IsBroad}
+use Rattle.pricing.specs.inside.WeightRange.{IsBroad}
 use Rattle.route_search.specs.inside.Ends.{IsEndLimit, AreNoHeavier}
 use Rattle.route_search.proofs.end.with_rows.Given as goal
 

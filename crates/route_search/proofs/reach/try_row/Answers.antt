@@ -3,8 +3,8 @@ use Rattle.std.specs.Prelude.{IsTrue}
 use Rattle.std.proofs.lemmas.Int.{to_z-of_z}
 use Rattle.tail_book.specs.declared.place.Place.{Place}
 use Rattle.pricing.specs.Rows.{weight_of}
+use Rattle.pricing.specs.inside.WeightRange.{IsSmall}
 use Rattle.pricing.specs.inside.Truth.{IsNext, place_of, row_after}
-use Rattle.route_search.specs.inside.Completion.{IsSmall}
 use Rattle.route_search.proofs.reach.try_row.Goals as goal
 
 -- a true row is small

@@ -2,8 +2,8 @@ use Rattle.std.proofs.Common.{◌≡◌, ◌<◌, ◌∙◌, ◌+◌, ℕ, ℤ, 
 use Rattle.std.proofs.lemmas.Int.{to_z-of_z}
 use Rattle.tail_book.specs.declared.place.Place.TheVariants.{Carry}
 use Rattle.tail_book.specs.Lookup.{activities}
+use Rattle.pricing.specs.inside.WeightRange.{IsBroad}
 use Rattle.pricing.specs.inside.Truth.{first_row}
-use Rattle.route_search.specs.inside.Completion.{IsBroad}
 use Rattle.route_search.specs.inside.Ends.{AreEnds}
 use Rattle.route_search.specs.inside.Reach.{AreDone, GoesOnWithin, IsDone}
 use Rattle.route_search.proofs.Ending.{ends_stay, ends_one_more}

@@ -1,6 +1,6 @@
 use Rattle.std.proofs.Common.{◌≡◌, length}
+use Rattle.pricing.specs.inside.WeightRange.{IsBroad}
 use Rattle.pricing.specs.inside.Truth.{AreTrue}
-use Rattle.route_search.specs.inside.Completion.{IsBroad}
 use Rattle.route_search.specs.inside.Ends.{AreEnds}
 use Rattle.label_store.specs.inside.Growth.{IsAsWide}
 use Rattle.route_search.specs.inside.Reach.{AreDone}
