@@ -1,5 +1,5 @@
 -- Rules of local time as texts: a name and an offset, and where there is daylight time a second name, its offset where
--- that is not an hour more, and the two days of the year on which the clocks change.
+-- that is not an hour more, and the two days of the year on which the clocks change. For src/zone_text.rt.
 use Rattle.std.specs.Prelude.{ℕ, ℤ, pos, ◌+◌, ◌+ℤ◌, Bool, ◌&&◌, ◌||◌, List, length, slice_index, ◌==◌, nat_le, if◌then◌else◌, Result, Ok}
 use Rattle.tail_book.specs.declared.limits.TheConstants.{OFFSET_LIMIT}
 use Rattle.tail_book.specs.Numbers.{int_le}

@@ -1,4 +1,4 @@
--- The fields of the rules as contracts see them.
+-- The fields of the rules as contracts see them. For src/raw_rules.rt.
 use Rattle.fleet_rules.specs.RawRules.{RawAirportSeen, RawCounterSeen, RawCurfewSeen, RawRulesSeen}
 use Rattle.fleet_rules.specs.declared.raw_rules.RawAirport.TheInside.{Inside as InsideAirport}
 use Rattle.fleet_rules.specs.declared.raw_rules.RawCounter.TheInside.{Inside as InsideCounter}

@@ -1,4 +1,4 @@
--- The ranges of what a rule of local time says.
+-- The ranges of what a rule of local time says. For src/zone_text.rt, src/zone_parts.rt and others.
 use Rattle.std.specs.Prelude.{ℤ, pos, ◌≡◌, true}
 use Rattle.std.specs.Int.{IsInRange}
 use Rattle.tail_book.specs.Ranges.{IsWithin}
