@@ -1,6 +1,6 @@
 use Rattle.std.proofs.Common.{◌≡◌}
 use Rattle.plan_finder.specs.Columns.{AreColumns}
-use Rattle.plan_finder.proofs.soft_dive.Dive.price_free.Given as goal
+use Rattle.plan_finder.proofs.soft_dive.SoftDive.price_free.Given as goal
 
 -- the columns are of the book, and the marks stay
 abbrev pub invariant-loop-k : goal.invariant-loop-k

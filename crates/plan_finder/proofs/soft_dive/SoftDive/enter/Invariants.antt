@@ -1,5 +1,5 @@
 use Rattle.std.proofs.Common.{◌≡◌}
-use Rattle.plan_finder.proofs.soft_dive.Dive.enter.Given as goal
+use Rattle.plan_finder.proofs.soft_dive.SoftDive.enter.Given as goal
 
 -- the marks stay
 abbrev pub invariant-loop-k : goal.invariant-loop-k

@@ -1,5 +1,5 @@
 use Rattle.branch_marks.specs.inside.MarkTables.{AreMarksOf}
-use Rattle.plan_finder.proofs.soft_dive.Dive.fix_sure.Given as goal
+use Rattle.plan_finder.proofs.soft_dive.SoftDive.fix_sure.Given as goal
 
 -- the marks are of the book
 abbrev pub invariant-loop-k : goal.invariant-loop-k

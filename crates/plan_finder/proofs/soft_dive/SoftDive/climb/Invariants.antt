@@ -1,7 +1,7 @@
 use Rattle.std.proofs.Common.{◌≡◌}
 use Rattle.plan_finder.specs.Columns.{AreColumns}
 use Rattle.branch_marks.specs.Settled.{AreDuals}
-use Rattle.plan_finder.proofs.soft_dive.Dive.climb.Given as goal
+use Rattle.plan_finder.proofs.soft_dive.SoftDive.climb.Given as goal
 
 -- columns and duals are of the book, and the marks stay
 abbrev pub invariant-loop-round : goal.invariant-loop-round
