@@ -1,5 +1,5 @@
 -- How the words are read by a program that judges a plan by three tables: at command lines that are written out, and whatever the names are.
-use Rattle.std.specs.Prelude.{◌≡◌, ◌==◌, ℕ, false, List, [], ◌∷◌, Option, None, codes}
+use Rattle.std.specs.Prelude.{◌≡◌, ◌==◌, ℕ, false, List, [], ◌∷◌, ◌++◌, Option, None, codes}
 
 -- the program's name, the reading of that word and those behind it, and what it gives for the names of these tables and this plan
 module _ {A : Type 0} (program : List ℕ) (read : List (List ℕ) → Option A) (named : List ℕ → List ℕ → List ℕ → List ℕ → Option A) where
