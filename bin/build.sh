@@ -92,7 +92,7 @@ prove() {
     mkdir "$room/tmp" || return 1
     exec {from_rt}< <(cd "$copy" && TMPDIR=$room/tmp exec rt ci </dev/null 2>&1)
     rt_pid=$!
-    while [ -z "${proved[$name]:-}" ] && [ "$verdict" != "NOT PROVED" ]; do
+    while [ -z "${proved[$program_crate]:-}" ] && [ "$verdict" != "NOT PROVED" ]; do
         if IFS= read -r -t "$silence" -u "$from_rt" line; then
             printf '%s\n' "$line" >>"$log"
             [[ $line =~ ^rt:\ ([[:alnum:]_]+)\ (proved$|is kept:|NOT PROVED) ]] || continue
@@ -113,7 +113,7 @@ prove() {
     done
     exec {from_rt}<&-
     end_rt
-    [ -n "${proved[$name]:-}" ]
+    [ -n "${proved[$program_crate]:-}" ]
 }
 
 # Ends rt with all that it has begun.
@@ -126,13 +126,13 @@ end_rt() {
 
 # Runs the program that was proved once, on an example.
 try_first() {
-    (cd "$top/crates/$name" && exec "$copy/crates/$name/out/$name" "${first_run[@]}" </dev/null >>"$log" 2>&1)
+    (cd "$top/crates/$program_crate" && exec "$copy/crates/$program_crate/out/$program_crate" "${first_run[@]}" </dev/null >>"$log" 2>&1)
 }
 
 # Keeps the program and its stamp where `rt ci` leaves them alone.
 keep() {
     mkdir -p "$top/bin/out" &&
-        cp "$copy/crates/$name/out/$name" "$new" &&
+        cp "$copy/crates/$program_crate/out/$program_crate" "$new" &&
         { sum_of_sources "$copy" && sha256sum <"$new"; } >"$stamp" &&
         mv -f "$new" "$program"
 }

@@ -1,8 +1,8 @@
 # Runs a proved program, which build.sh builds where its sources have changed since the last build. The scripts beside this
-# one source it. Each is named after its program, and sets `first_run`, the words on which the program is run once it is
-# built, in the program's folder, `read_options`, the options that name a file to read, and `value_options`, those that
-# are followed by any other value. Where `quiet` is set to the name of a variable, and standard error is a terminal, one
-# line of it says how many seconds the program has been at work, unless that variable is 1.
+# one source it. Each is named after its program, which is that of the crate NAME_program, and sets `first_run`, the words
+# on which the program is run once it is built, in the crate's folder, `read_options`, the options that name a file to read,
+# and `value_options`, those that are followed by any other value. Where `quiet` is set to the name of a variable, and
+# standard error is a terminal, one line of it says how many seconds the program has been at work, unless that variable is 1.
 # Only the program writes to standard output. Status 70: the program could not be built.
 # shellcheck shell=bash
 
@@ -115,13 +115,14 @@ run_counting() {
 
 # Runs the program of this name on these words, in the caller's folder, and ends with its status.
 run_proved() {
-    local why status unreadable needed=()
+    local why status unreadable program_crate needed=()
     name=$1
+    program_crate=${name}_program
     shift
     program=$top/bin/out/$name
     stamp=$program.built
     read_crates
-    need "$name"
+    need "$program_crate"
     is_built || build || exit 70
     # The program is called by its plain name, whatever the folders above it are called.
     find_unreadable "$@"

@@ -1,5 +1,5 @@
 //! Small tables and plans as a planner types them, files of them in memory, and what a run over them printed.
-//! Only the tests of the programs call it. It has none itself, so that it is proved once, for all of them.
+//! Only the tests of whole runs call it. It has none itself, so that it is proved once, for all of them.
 #![tactic(auto)]
 
 mod files;

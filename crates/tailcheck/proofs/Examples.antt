@@ -3,7 +3,7 @@
 -- are refused.
 use Rattle.std.proofs.Common.{◌≡◌, ℕ, List, [], ◌∷◌, Option, Some, None, codes, refl}
 use Rattle.clap.proofs.OnLiterals.{clap_on_literals}
-use Rattle.small_texts.specs.inside.PlanWords.{ReadsPlans}
+use Rattle.run_frame.specs.inside.PlanWords.{ReadsPlans}
 use Rattle.tailcheck.specs.Texts.{CheckNamesSeen, PlanName, CertificateName}
 use Rattle.tailcheck.proofs.WordLaws.{named}
 use Rattle.tailcheck.specs.Words.{check_of}

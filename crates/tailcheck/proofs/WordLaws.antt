@@ -2,7 +2,7 @@
 -- equals sign and names behind two dashes are taken unseen, and other names only have to begin with no dash.
 use Rattle.std.proofs.Common.{◌≡◌, ℕ, List, [], ◌∷◌, ◌++◌, Option, Some, None, codes, refl}
 use Rattle.clap.proofs.OnLiterals.{clap_on_literals}
-use Rattle.small_texts.specs.inside.PlanWords.{ReadsAnyNames}
+use Rattle.run_frame.specs.inside.PlanWords.{ReadsAnyNames}
 use Rattle.tailcheck.specs.Texts.{CheckNamesSeen, PlanName, CertificateName}
 use Rattle.tailcheck.specs.Words.{check_of}
 

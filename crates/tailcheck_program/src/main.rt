@@ -1,18 +1,9 @@
-//! The checker: judges a plan or a certificate by a timetable, a fleet and rules. Of a plan it prints what it costs or which
-//! rules it breaks, of a certificate what it shows or where it fails.
+//! The checker as a program: it calls `tailcheck` with the words of the process, the real files and the output.
 #![tactic(auto)]
 
-mod answer;
-mod audited;
-mod certified;
-mod run;
-mod usage;
-mod verdict_text;
-mod words;
-
-use run::check_run;
 use run_frame::{NO_MEMORY, process_of};
 use std::process::ExitCode;
+use tailcheck::check_run;
 
 fn main(rt: HostRuntime) -> ExitCode {
     let alloc = rt.alloc();
@@ -25,6 +16,3 @@ fn main(rt: HostRuntime) -> ExitCode {
     };
     ExitCode::from(status.0)
 }
-
-#[cfg(test)]
-mod tests;

@@ -1,17 +1,9 @@
-//! The planner: reads a timetable, a fleet and rules, and prints a legal plan of least cost, or that no plan is legal.
+//! The planner as a program: it calls `tailplan` with the words of the process, the real files and the output.
 #![tactic(auto)]
 
-mod answer;
-mod answered;
-mod book_plan;
-mod run;
-mod trial;
-mod usage;
-mod words;
-
-use run::solve_run;
 use run_frame::{NO_MEMORY, process_of};
 use std::process::ExitCode;
+use tailplan::solve_run;
 
 fn main(rt: HostRuntime) -> ExitCode {
     let alloc = rt.alloc();
@@ -24,6 +16,3 @@ fn main(rt: HostRuntime) -> ExitCode {
     };
     ExitCode::from(status.0)
 }
-
-#[cfg(test)]
-mod tests;

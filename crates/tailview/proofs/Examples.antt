@@ -3,7 +3,7 @@
 -- is refused.
 use Rattle.std.proofs.Common.{◌≡◌, ℕ, true, false, List, [], ◌∷◌, Option, Some, None, codes, refl}
 use Rattle.clap.proofs.OnLiterals.{clap_on_literals}
-use Rattle.small_texts.specs.inside.PlanWords.{ReadsPlans}
+use Rattle.run_frame.specs.inside.PlanWords.{ReadsPlans}
 use Rattle.tailview.specs.Texts.{ViewNamesSeen}
 use Rattle.tailview.proofs.WordLaws.{named}
 use Rattle.tailview.specs.Words.{names_of}

@@ -2,7 +2,7 @@
 -- equals sign and names behind two dashes are taken unseen, and other names only have to begin with no dash.
 use Rattle.std.proofs.Common.{ℕ, false, List, Option, Some, None, refl}
 use Rattle.clap.proofs.OnLiterals.{clap_on_literals}
-use Rattle.small_texts.specs.inside.PlanWords.{ReadsAnyNames}
+use Rattle.run_frame.specs.inside.PlanWords.{ReadsAnyNames}
 use Rattle.tailview.specs.Texts.{ViewNamesSeen}
 use Rattle.tailview.specs.Words.{names_of}
 

@@ -1,15 +1,9 @@
-//! The viewer: draws a plan over a timetable, a fleet and rules, with what it costs or which rules it breaks.
+//! The viewer as a program: it calls `tailview` with the words of the process, the real files and the output.
 #![tactic(auto)]
 
-mod answer;
-mod run;
-mod texts;
-mod usage;
-mod words;
-
-use run::view_run;
 use run_frame::{NO_MEMORY, process_of};
 use std::process::ExitCode;
+use tailview::view_run;
 
 fn main(rt: HostRuntime) -> ExitCode {
     let alloc = rt.alloc();
@@ -22,6 +16,3 @@ fn main(rt: HostRuntime) -> ExitCode {
     };
     ExitCode::from(status.0)
 }
-
-#[cfg(test)]
-mod tests;

@@ -1,8 +1,9 @@
-//! Runs over files and a sink in memory, on tables and plans as a planner types them.
+//! Runs of the checker.
 
 mod certificates;
 mod faults;
 mod fixtures;
+mod names;
 mod plan_files;
 mod verdicts;
 mod week;

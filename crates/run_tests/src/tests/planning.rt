@@ -1,4 +1,4 @@
-//! Runs over files and a sink in memory, on tables as a planner types them.
+//! Runs of the planner.
 
 mod certificates;
 mod costs;
@@ -9,6 +9,7 @@ mod faults;
 mod limits;
 mod links;
 mod memory;
+mod names;
 mod permissions;
 mod plans;
 mod refusals;
@@ -17,17 +18,16 @@ mod trials;
 mod week;
 mod words;
 
-use crate::run::solve_run;
+use crate::tests::runs::{self, Program};
 use book_maker::read_book;
 use small_texts::{
     FLEET, ONE_AT_ARLANDA, RULES, Seen, THERE_AND_BACK, TIMETABLE, file_of, table_files, text_of,
-    words_of,
 };
 use std::alloc::Global;
 use std::process::Abort;
 use std::test::Fail;
-use tail_book::{Book, Memory};
-use tail_outside::{MemFile, MemFiles, MemSink};
+use tail_book::Book;
+use tail_outside::MemFile;
 
 const WORDS: [&str; 4] = ["tailplan", "t", "f", "r"];
 
@@ -107,19 +107,7 @@ fn book_of(
     }
 }
 
-// What is seen of a run by these words over these files, where these calls of the sink fail.
-fn seen_by(alloc: Global, words: &[String], files: MemFiles, puts: &[u64]) -> Result<Seen, Memory> {
-    let puts = Vec::from_slice(alloc, puts)?;
-    let mut sink = MemSink::new(alloc, puts)?;
-    let status = solve_run(alloc, words, files, &mut sink).status;
-    let printed = sink.bytes().to_vec(alloc)?;
-    Ok(Seen {
-        status: status.0,
-        printed,
-    })
-}
-
-// The same of a run over these files, of whose calls these fail.
+// What is seen of a run by these words over these files, where these calls of the files and of the sink fail.
 fn seen_over(
     alloc: Global,
     words: &[&str],
@@ -127,10 +115,7 @@ fn seen_over(
     calls: &[u64],
     puts: &[u64],
 ) -> Result<Seen, Fail> {
-    let calls = Vec::from_slice(alloc, calls)?;
-    let files = MemFiles::new(alloc, files, calls)?;
-    let words = words_of(alloc, words)?;
-    Ok(seen_by(alloc, &words, files, puts)?)
+    runs::seen_over(alloc, Program::Planner, words, files, calls, puts)
 }
 
 // Whether a run over these files, in which nothing fails, ends so.

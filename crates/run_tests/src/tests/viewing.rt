@@ -1,4 +1,4 @@
-//! Runs over files and a sink in memory, on tables and plans as a planner types them.
+//! Runs of the viewer.
 
 mod faults;
 mod fixtures;

@@ -1,13 +1,13 @@
 //! Runs on texts, each with how it has to end.
 
-use crate::run::check_run;
+use crate::tests::runs::{Program, seen_over};
 use small_texts::{
-    FLEET, LEGAL, ONE_AT_ARLANDA, RULES, THERE_AND_BACK, TIMETABLE, Typed, files_of, words_of,
+    FLEET, LEGAL, ONE_AT_ARLANDA, RULES, THERE_AND_BACK, TIMETABLE, Typed, files_of,
 };
 use std::alloc::Global;
 use std::process::Abort;
 use std::test::Fail;
-use tail_outside::{MemFile, MemFiles, MemSink};
+use tail_outside::MemFile;
 
 /// A run: its words, the texts of its files, the calls of the files and of the sink that fail, and how it ends.
 #[derive(Clone, Copy, Debug)]
@@ -51,18 +51,17 @@ pub type Row<'a> = (&'a str, &'a str, &'a str, &'a str, u8, &'a str);
 /// A plan of a flight to Oslo and one back by one aircraft, and how a run over it ends.
 pub type PlanRow<'a> = (&'a str, u8, &'a str);
 
-// Whether the run over these files ends so.
-fn ran_so(alloc: Global, case: &Case<'_>, words: &[String], files: MemFiles) -> Result<bool, Fail> {
-    let mut sink = MemSink::new(alloc, Vec::from_slice(alloc, case.puts)?)?;
-    let ran = check_run(alloc, words, files, &mut sink);
-    Ok(ran.status.0 == case.status && sink.bytes() == case.printed.as_bytes())
-}
-
 /// Whether the run over these files, in place of those of its texts, ends so.
 pub fn ends_so_over(alloc: Global, case: &Case<'_>, files: Vec<MemFile>) -> Result<bool, Fail> {
-    let words = words_of(alloc, case.words)?;
-    let files = MemFiles::new(alloc, files, Vec::from_slice(alloc, case.reads)?)?;
-    ran_so(alloc, case, &words, files)
+    let seen = seen_over(
+        alloc,
+        Program::Checker,
+        case.words,
+        files,
+        case.reads,
+        case.puts,
+    )?;
+    Ok(seen.is(case.status, case.printed))
 }
 
 /// Asserts that the run ends so.

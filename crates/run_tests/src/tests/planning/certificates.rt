@@ -1,13 +1,18 @@
 //! Certificates of runs, in files in memory: what is written, what was there before, and what each failed call leaves.
 
-use super::*;
+use super::{book_of, push_file};
 use cert_checker::{Verdict, judge};
 use run_frame::Ran;
 use small_texts::{
-    AT_ONCE, CHEAP_AND_DEAR, DEAR_TYPE, LONGER_TURN, THERE, THREE_LANDINGS, TWO_AT_ARLANDA,
-    WITH_A_STOP,
+    AT_ONCE, CHEAP_AND_DEAR, DEAR_TYPE, FLEET, LONGER_TURN, ONE_AT_ARLANDA, RULES, Seen, THERE,
+    THERE_AND_BACK, THREE_LANDINGS, TIMETABLE, TWO_AT_ARLANDA, WITH_A_STOP, table_files, words_of,
 };
+use std::alloc::Global;
+use std::process::Abort;
+use std::test::Fail;
 use tail_book::Claim;
+use tail_outside::{MemFile, MemFiles, MemSink};
+use tailplan::solve_run;
 
 /// How a run ended, what it printed, and what the certificate's file holds then.
 #[derive(Debug, Drop)]

@@ -2,11 +2,12 @@
 //! does; `tests/each_allocation` runs it with each of them failing in turn.
 
 use super::certificates::{Asked, CERTIFIED, CROSSED, LIMITED, Left, judged, left_over_old};
-use super::*;
 use cert_checker::Verdict;
 use run_frame::NO_MEMORY;
-use small_texts::{THREE_LANDINGS, TWO_AT_ARLANDA, WITH_A_STOP};
-use std::process::{ExitCode, Termination};
+use small_texts::{FLEET, RULES, THREE_LANDINGS, TIMETABLE, TWO_AT_ARLANDA, WITH_A_STOP};
+use std::alloc::Global;
+use std::process::{Abort, ExitCode, Termination};
+use std::test::Fail;
 use tail_book::Claim;
 
 /// A run, the status and text that it ends with, and what is claimed then.

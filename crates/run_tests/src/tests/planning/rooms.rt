@@ -1,11 +1,11 @@
 //! Runs over files and a sink that took their room at once.
 
 use super::{WORDS, usual_files};
-use crate::run::solve_run;
 use small_texts::{THERE_AND_BACK, TIMETABLE, text_of, words_of};
 use std::alloc::Global;
 use std::test::Fail;
 use tail_outside::{Files, SureFiles, SureSink};
+use tailplan::solve_run;
 
 // Whether a run over these files and a sink of so much room ends so.
 fn ends_within(

@@ -1,9 +1,7 @@
 //! Trials: the tables of a seed, planned, certified and judged in memory.
 
-use super::{
-    Run, USAGE, USUAL, book_of, each_run_ends_so, ends_failing, ends_over, push_text, seen_by,
-};
-use crate::trial::{Checker, Judge, Tried, is_accepted, run_trial};
+use super::{Run, USAGE, USUAL, book_of, each_run_ends_so, ends_failing, ends_over, push_text};
+use crate::tests::runs::{Program, seen_by};
 use branch_tree::Limit;
 use cert_checker::{Verdict, judge};
 use certified_search::certified_search;
@@ -14,6 +12,7 @@ use std::process::Abort;
 use std::test::Fail;
 use tail_book::{Book, Claim, CostTable, Memory, Outcome};
 use tail_outside::{MemFile, MemFiles, MemSink};
+use tailplan::{Checker, Judge, Tried, is_accepted, run_trial};
 
 const TRIAL: &[&str] = &["tailplan", "trial", "1"];
 
@@ -85,7 +84,7 @@ fn trial_words(alloc: Global) -> Result<Vec<String>, Memory> {
 fn trial_or_no_memory(alloc: Global) -> Result<Seen, Memory> {
     let words = trial_words(alloc)?;
     let files = MemFiles::new(alloc, Vec::new(alloc), Vec::new(alloc))?;
-    seen_by(alloc, &words, files, &[])
+    seen_by(alloc, Program::Planner, &words, files, &[])
 }
 
 // Whether a trial had the memory that it takes, and then printed all. One that had not printed a front of it.

@@ -1,10 +1,10 @@
 //! Runs on texts.
 
-use crate::run::view_run;
-use small_texts::{ONE_AT_ARLANDA, Seen, THERE_AND_BACK, files_with, words_of};
+use crate::tests::runs::{Program, seen_over};
+use small_texts::{ONE_AT_ARLANDA, Seen, THERE_AND_BACK, files_with};
 use std::alloc::Global;
 use std::test::Fail;
-use tail_outside::{MemFile, MemFiles, MemSink};
+use tail_outside::MemFile;
 
 /// A run over these files, where these calls of the files and of the sink fail.
 pub fn run_failing(
@@ -14,11 +14,7 @@ pub fn run_failing(
     reads: &[u64],
     puts: &[u64],
 ) -> Result<Seen, Fail> {
-    let words = words_of(alloc, words)?;
-    let files = MemFiles::new(alloc, files, Vec::from_slice(alloc, reads)?)?;
-    let mut sink = MemSink::new(alloc, Vec::from_slice(alloc, puts)?)?;
-    let ran = view_run(alloc, &words, files, &mut sink);
-    Seen::of(alloc, ran.status.0, &sink)
+    seen_over(alloc, Program::Viewer, words, files, reads, puts)
 }
 
 /// The words that name the four files.

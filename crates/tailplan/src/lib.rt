@@ -1,0 +1,15 @@
+//! The planner: reads a timetable, a fleet and rules, and prints a legal plan of least cost, or that no plan is legal. The
+//! program `tailplan_program` calls it.
+#![tactic(auto)]
+
+mod answer;
+mod answered;
+mod book_plan;
+mod run;
+mod trial;
+mod usage;
+mod words;
+
+pub use run::solve_run;
+pub use trial::{Checker, Judge, Tried, is_accepted, run_trial};
+pub use words::{NODE_LIMIT, TaskNames, run_of, seed_of};
