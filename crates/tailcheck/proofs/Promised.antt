@@ -29,8 +29,8 @@ use Rattle.tailcheck.specs.Texts.{texts_held, TextsSeen}
 use Rattle.tailcheck.specs.Usage.{usage_line}
 use Rattle.tailcheck.specs.VerdictText.{no_line, too_long_line, yes_line}
 use Rattle.tailcheck.specs.Words.{check_of}
-use Rattle.tailcheck.specs.declared.answer.Found.{Found}
-use Rattle.tailcheck.specs.declared.answer.Found.TheVariants.{Plan, Certificate, TooLong}
+use Rattle.tailcheck.specs.declared.answer.Judgement.{Judgement}
+use Rattle.tailcheck.specs.declared.answer.Judgement.TheVariants.{Plan, Certificate, TooLong}
 use Rattle.tailcheck.specs.inside.Findings.{IsFit, found_status}
 
 -- a case is no refusal
@@ -42,16 +42,16 @@ same_case : (texts : TextsSeen) (a b : Case) → case_of texts ≡ Ok a → case
 same_case texts a b first second = let both = sym first ∙ second in cc
 
 -- what is found is found in a case
-case_found : (texts : TextsSeen) (found : Found) → AreJudged texts found → (case : Case) × (case_of texts ≡ Ok case)
+case_found : (texts : TextsSeen) (found : Judgement) → AreJudged texts found → (case : Case) × (case_of texts ≡ Ok case)
 case_found texts (Plan judged) own = (PlanCase judged.book own.0, own.1)
 case_found texts (Certificate found) own = (CertificateCase own.0 own.1, own.2)
 case_found texts TooLong own = (CertificateCase own.0 own.1, own.2)
 
-found_apart : (texts : TextsSeen) (refusal : Refusal) (found : Found) → AreRefused texts refusal → AreJudged texts found → ⊥
+found_apart : (texts : TextsSeen) (refusal : Refusal) (found : Judgement) → AreRefused texts refusal → AreJudged texts found → ⊥
 found_apart texts refusal found refused own = let case = case_found texts found own in apart texts case.0 refusal case.1 refused
 
 -- the statuses of what is found are 0, 1 and 8
-never : (other : ℕ) → 2 ≤ other → other ≤ 7 → (found : Found) → found_status found ≢ other
+never : (other : ℕ) → 2 ≤ other → other ≤ 7 → (found : Judgement) → found_status found ≢ other
 never other low high (Plan judged) e = of_audit judged.found e
   where
     of_audit : (found : Audit) → audit_status found ≢ other
@@ -76,7 +76,7 @@ audit_decides book plan (Broken rules) status own is = inr (is, own.0)
 
 module _ (accepted : YesIsAccepted) (answered : AcceptedIsYes) where
   -- what was found says what the status says
-  decides : (texts : TextsSeen) (found : Found) (status : ℕ) → AreJudged texts found → status ≡ found_status found → (case : Case) × (case_of texts ≡ Ok case) × IsVerdict case status
+  decides : (texts : TextsSeen) (found : Judgement) (status : ℕ) → AreJudged texts found → status ≡ found_status found → (case : Case) × (case_of texts ≡ Ok case) × IsVerdict case status
   decides texts (Plan judged) status own is = (PlanCase judged.book own.0, own.1, audit_decides judged.book own.0 judged.found status own.2 is)
   decides texts (Certificate (Yes claim)) status own is = (
     CertificateCase own.0 own.1,
@@ -119,7 +119,7 @@ module _ (accepted : YesIsAccepted) (answered : AcceptedIsYes) where
     })) k
 
     -- and so does whatever was found
-    found_promises : (found : Found) → OfTexts words files (λ texts. AreJudged texts found) → Takes before after (text_of (found_lines found)) → Promise words files before after (found_status found)
+    found_promises : (found : Judgement) → OfTexts words files (λ texts. AreJudged texts found) → Takes before after (text_of (found_lines found)) → Promise words files before after (found_status found)
     found_promises (Plan judged) k took = audit_promises judged.book judged.found k took
     found_promises (Certificate (Yes claim)) k took = OfHeld-map (check_of words) (texts_held files) _ _ (λ texts own. inr (record {
       book = own.0;

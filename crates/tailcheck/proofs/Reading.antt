@@ -20,8 +20,8 @@ use Rattle.tailcheck.specs.Answers.{Answer, AreJudged, AreRefused, IsJudgedSo, I
 use Rattle.tailcheck.specs.Cases.{PlanCase, CertificateCase, case_of}
 use Rattle.tailcheck.specs.Texts.{SubjectName, PlanName, CertificateName, SubjectSeen, PlanBytes, CertificateBytes, CheckNamesSeen, TextsSeen, subject_held}
 use Rattle.tailcheck.specs.Words.{check_of}
-use Rattle.tailcheck.specs.declared.answer.Found.{Found as FoundOf}
-use Rattle.tailcheck.specs.declared.answer.Found.TheVariants.{Plan, Certificate, TooLong}
+use Rattle.tailcheck.specs.declared.answer.Judgement.{Judgement}
+use Rattle.tailcheck.specs.declared.answer.Judgement.TheVariants.{Plan, Certificate, TooLong}
 use Rattle.tailcheck.specs.declared.certified.TheConstants.{CERTIFICATE_LIMIT}
 use Rattle.tailcheck.specs.inside.Findings.{IsAnswerOver, IsVerdictOn}
 use Rattle.tailcheck.specs.inside.Texts.{subject_front, text_fronts}
@@ -57,7 +57,7 @@ still_refused : (refusal : Refusal) (tables : TablesSeen) (subject : SubjectSeen
     → AreRefused (record { tables = tables; subject = subject }) refusal
 still_refused refusal tables subject h = sym (case_of-fronts tables subject) ∙ h
 
-still_judged : (found : FoundOf) (tables : TablesSeen) (subject : SubjectSeen) → AreJudged (text_fronts (record { tables = tables; subject = subject })) found
+still_judged : (found : Judgement) (tables : TablesSeen) (subject : SubjectSeen) → AreJudged (text_fronts (record { tables = tables; subject = subject })) found
     → AreJudged (record { tables = tables; subject = subject }) found
 still_judged (Plan judged) tables subject h = (h.0, sym (case_of-fronts tables subject) ∙ h.1, h.2)
 still_judged (Certificate found) tables subject h = (h.0, h.1, sym (case_of-fronts tables subject) ∙ h.2, h.3, h.4)

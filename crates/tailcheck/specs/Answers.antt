@@ -18,13 +18,13 @@ use Rattle.tailcheck.specs.Texts.{MayReadTexts, texts_held, TextsSeen}
 use Rattle.tailcheck.specs.Usage.{usage_line}
 use Rattle.tailcheck.specs.VerdictText.{too_long_line, verdict_line}
 use Rattle.tailcheck.specs.Words.{check_of}
-use Rattle.tailcheck.specs.declared.answer.Found.{Found}
-use Rattle.tailcheck.specs.declared.answer.Found.TheVariants.{Plan, Certificate, TooLong}
+use Rattle.tailcheck.specs.declared.answer.Judgement.{Judgement}
+use Rattle.tailcheck.specs.declared.answer.Judgement.TheVariants.{Plan, Certificate, TooLong}
 use Rattle.tailcheck.specs.declared.certified.TheConstants.{CERTIFICATE_LIMIT}
 
 -- what a run answers
 abbrev pub Answer : Type 0
-Answer = AnswerOf Found
+Answer = AnswerOf Judgement
 
 -- the files that the words name may be read
 abbrev pub MayRead : List (List ℕ) → FilesShown → Type 0
@@ -53,7 +53,7 @@ IsTooLong bytes = CERTIFICATE_LIMIT < length bytes
 
 -- the tables are a book, and this is what an audit of the plan's file finds, or the verdict on the certificate, or the
 -- certificate is too long
-abbrev pub AreJudged : TextsSeen → Found → Type 0
+abbrev pub AreJudged : TextsSeen → Judgement → Type 0
 AreJudged texts (Plan judged) = (plan : RawPlanSeen) × (case_of texts ≡ Ok (PlanCase judged.book plan)) × IsAuditOf judged.book plan judged.found
 AreJudged texts (Certificate found) =
     (book : BookSeen) × (text : Option (List ℕ)) × (case_of texts ≡ Ok (CertificateCase book text))
@@ -66,7 +66,7 @@ abbrev pub IsTrueAnswer : List (List ℕ) → FilesShown → Answer → Type 0
 IsTrueAnswer words files answer = IsTrueOf (check_of words) (texts_held files) AreRefused AreJudged answer
 
 -- the lines of what was found
-abbrev pub found_lines : Found → List (List ℕ)
+abbrev pub found_lines : Judgement → List (List ℕ)
 found_lines (Plan judged) = audit_lines judged.book judged.found
 found_lines (Certificate found) = verdict_line found ∷ []
 found_lines TooLong = too_long_line ∷ []

@@ -21,9 +21,9 @@ pub struct Judged {
     pub found: Audit,
 }
 
-/// What a run finds.
+/// What a run finds: its judgement of a plan or of a certificate.
 #[derive(Debug, Drop)]
-pub enum Found {
+pub enum Judgement {
     /// What an audit of the plan found.
     Plan(Judged),
     /// The verdict on the certificate.
@@ -32,7 +32,7 @@ pub enum Found {
     TooLong,
 }
 
-impl Finding for Found {
+impl Finding for Judgement {
     ghost lines = { found_lines };
 
     ghost code = { found_status };
@@ -41,18 +41,18 @@ impl Finding for Found {
 
     fn status(&self) -> Status {
         match self {
-            Found::Plan(judged) => audit_status(&judged.found),
-            Found::Certificate(Verdict::Yes(_)) => Status(0),
-            Found::Certificate(Verdict::No { .. }) => Status(1),
-            Found::TooLong => Status(8),
+            Judgement::Plan(judged) => audit_status(&judged.found),
+            Judgement::Certificate(Verdict::Yes(_)) => Status(0),
+            Judgement::Certificate(Verdict::No { .. }) => Status(1),
+            Judgement::TooLong => Status(8),
         }
     }
 
     fn write<S: Sink>(&self, alloc: Global, out: &mut S) -> Result<(), ReportFail> {
         let line = match self {
-            Found::Plan(judged) => return write_audit(alloc, &judged.book, &judged.found, out),
-            Found::Certificate(verdict) => verdict_line(alloc, verdict),
-            Found::TooLong => too_long_line(alloc),
+            Judgement::Plan(judged) => return write_audit(alloc, &judged.book, &judged.found, out),
+            Judgement::Certificate(verdict) => verdict_line(alloc, verdict),
+            Judgement::TooLong => too_long_line(alloc),
         };
         match line {
             Ok(line) => write_lines(&[line], out),

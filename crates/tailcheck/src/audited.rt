@@ -8,7 +8,7 @@ ghost use Rattle.tailcheck.specs.Answers.{AreJudged, AreRefused};
 ghost use Rattle.tailcheck.specs.Texts.{PlanBytes, PlanName};
 ghost use Rattle.tailcheck.specs.inside.Findings.{IsAnswerOver, IsFit};
 
-use crate::answer::{Found, Judged};
+use crate::answer::{Judged, Judgement};
 use book_maker::read_book;
 use plan_audit::audit;
 use plan_report::laws::audits_can_be_written;
@@ -19,7 +19,12 @@ use tail_outside::{Files, ReadFail, read_all};
 use tail_text::Stopped;
 
 /// The answer to the three tables and the plan under this name.
-pub fn audited<F: Files>(alloc: Global, files: &mut F, tables: &Tables, name: &str) -> Answer<Found>
+pub fn audited<F: Files>(
+    alloc: Global,
+    files: &mut F,
+    tables: &Tables,
+    name: &str,
+) -> Answer<Judgement>
     requires { IsTrue ((F.shows files.old).lets_read name.now) }
     ensures answer { IsAnswerOver (F.shows files.old) tables.now (PlanName name.now) result }
     ensures printable { IsPrintable IsFit result }
@@ -34,7 +39,7 @@ pub fn audited<F: Files>(alloc: Global, files: &mut F, tables: &Tables, name: &s
 }
 
 // The audit of the plan in these bytes, by the tables.
-fn audit_of(alloc: Global, tables: &Tables, plan: &[u8]) -> Answer<Found>
+fn audit_of(alloc: Global, tables: &Tables, plan: &[u8]) -> Answer<Judgement>
     ensures answer { IsAnswerTo AreRefused AreJudged (record { tables = tables.now; subject = PlanBytes plan.now }) result }
     ensures printable { IsPrintable IsFit result }
 {
@@ -50,7 +55,7 @@ fn audit_of(alloc: Global, tables: &Tables, plan: &[u8]) -> Answer<Found>
     };
     audits_can_be_written();
     match audit(alloc, &book, &raw) {
-        Ok(found) => Answer::Found(Found::Plan(Judged { book, found })),
+        Ok(found) => Answer::Found(Judgement::Plan(Judged { book, found })),
         Err(_) => Answer::Memory,
     }
 }

@@ -7,7 +7,7 @@ ghost use Rattle.run_frame.specs.declared.answer.Answer.TheVariants.{ReadFailed}
 ghost use Rattle.tailcheck.specs.Texts.{CertificateName};
 ghost use Rattle.tailcheck.specs.inside.Findings.{IsAnswerOver, IsFit, IsVerdictOn};
 
-use crate::answer::Found;
+use crate::answer::Judgement;
 use book_maker::read_book;
 use cert_checker::judge;
 use cert_checker::laws::yes_is_true;
@@ -28,7 +28,7 @@ pub fn certified<F: Files>(
     files: &mut F,
     tables: &Tables,
     name: &str,
-) -> Answer<Found>
+) -> Answer<Judgement>
     requires { IsTrue ((F.shows files.old).lets_read name.now) }
     ensures answer { IsAnswerOver (F.shows files.old) tables.now (CertificateName name.now) result }
     ensures printable { IsPrintable IsFit result }
@@ -46,20 +46,20 @@ pub fn certified<F: Files>(
         Err(ReadFail::Memory) => return Answer::Memory,
     };
     if text.len() > CERTIFICATE_LIMIT {
-        return Answer::Found(Found::TooLong);
+        return Answer::Found(Judgement::TooLong);
     }
     verdict_on(alloc, &book, &text)
 }
 
 // The verdict on a certificate that is short enough.
-fn verdict_on(alloc: Global, book: &Book, text: &[u8]) -> Answer<Found>
+fn verdict_on(alloc: Global, book: &Book, text: &[u8]) -> Answer<Judgement>
     ensures verdict { IsVerdictOn book.now text.now result }
     ensures printable { IsPrintable IsFit result }
 {
     every_book_is_sound(book);
     yes_is_true();
     match judge(alloc, book, text) {
-        Ok(verdict) => Answer::Found(Found::Certificate(verdict)),
+        Ok(verdict) => Answer::Found(Judgement::Certificate(verdict)),
         Err(_) => Answer::Memory,
     }
 }

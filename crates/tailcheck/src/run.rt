@@ -14,7 +14,7 @@ ghost use Rattle.tailcheck.specs.Words.{check_of};
 ghost use Rattle.tailcheck.specs.inside.Findings.{IsAnswerOver, IsFit};
 ghost use Rattle.tailcheck.specs.inside.Texts.{subject_seen};
 
-use crate::answer::Found;
+use crate::answer::Judgement;
 use crate::audited::audited;
 use crate::certified::certified;
 use crate::usage::usage_line;
@@ -60,7 +60,7 @@ pub fn check_run<F: Files, S: Sink>(
 }
 
 // The answer to the words.
-fn answer_of<F: Files>(alloc: Global, words: &[String], files: &mut F) -> Answer<Found>
+fn answer_of<F: Files>(alloc: Global, words: &[String], files: &mut F) -> Answer<Judgement>
     requires { MayRead (spelled words.now) (F.shows files.old) }
     ensures answer { IsTrueAnswer (spelled words.now) (F.shows files.old) result }
     ensures printable { IsPrintable IsFit result }
@@ -85,7 +85,7 @@ fn judged<F: Files>(
     files: &mut F,
     tables: &Tables,
     subject: Subject<'_>,
-) -> Answer<Found>
+) -> Answer<Judgement>
     requires { MayReadSubject (F.shows files.old) (subject_seen subject) }
     ensures answer { IsAnswerOver (F.shows files.old) tables.now (subject_seen subject.entry) result }
     ensures printable { IsPrintable IsFit result }

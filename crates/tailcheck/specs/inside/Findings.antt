@@ -9,11 +9,11 @@ use Rattle.cert_checker.specs.declared.verdict.Verdict.TheVariants.{Yes, No}
 use Rattle.plan_report.specs.inside.AuditText.{AreOfBook}
 use Rattle.run_frame.specs.Tables.{TablesSeen}
 use Rattle.run_frame.specs.inside.Answer.{audit_status}
-use Rattle.run_frame.specs.declared.answer.Answer.TheVariants.{Usage, Refused, Found as WasFound, ReadFailed, Memory}
+use Rattle.run_frame.specs.declared.answer.Answer.TheVariants.{Usage, Refused, Found, ReadFailed, Memory}
 use Rattle.tailcheck.specs.Answers.{Answer, AreJudged, AreRefused, IsTrueVerdict}
 use Rattle.tailcheck.specs.Texts.{SubjectName, subject_held}
-use Rattle.tailcheck.specs.declared.answer.Found.{Found}
-use Rattle.tailcheck.specs.declared.answer.Found.TheVariants.{Plan, Certificate, TooLong}
+use Rattle.tailcheck.specs.declared.answer.Judgement.{Judgement}
+use Rattle.tailcheck.specs.declared.answer.Judgement.TheVariants.{Plan, Certificate, TooLong}
 use Rattle.tailcheck.specs.inside.Texts.{subject_front}
 
 -- the status of a verdict that was printed
@@ -22,13 +22,13 @@ verdict_status (Yes claim) = 0
 verdict_status (No line reason) = 1
 
 -- and that of whatever was found
-abbrev pub found_status : Found → ℕ
+abbrev pub found_status : Judgement → ℕ
 found_status (Plan judged) = audit_status judged.found
 found_status (Certificate found) = verdict_status found
 found_status TooLong = 8
 
 -- the names of what an audit found are in the book
-abbrev pub IsFit : Found → Type 0
+abbrev pub IsFit : Judgement → Type 0
 IsFit (Plan judged) = AreOfBook judged.book judged.found
 IsFit (Certificate found) = ⊤
 IsFit TooLong = ⊤
@@ -38,7 +38,7 @@ abbrev pub IsAnswerOver : FilesShown → TablesSeen → SubjectName → Answer �
 IsAnswerOver files tables name Usage = ⊥
 IsAnswerOver files tables name (Refused refusal) =
     IfSome (subject_held files name) (λ subject. AreRefused (record { tables = tables; subject = subject_front subject }) refusal)
-IsAnswerOver files tables name (WasFound found) =
+IsAnswerOver files tables name (Found found) =
     IfSome (subject_held files name) (λ subject. AreJudged (record { tables = tables; subject = subject_front subject }) found)
 IsAnswerOver files tables name ReadFailed = ⊤
 IsAnswerOver files tables name Memory = ⊤
@@ -47,8 +47,8 @@ IsAnswerOver files tables name Memory = ⊤
 abbrev pub IsVerdictOn : BookSeen → List ℕ → Answer → Type 0
 IsVerdictOn book bytes Usage = ⊥
 IsVerdictOn book bytes (Refused refusal) = ⊥
-IsVerdictOn book bytes (WasFound (Plan judged)) = ⊥
-IsVerdictOn book bytes (WasFound (Certificate found)) = IsTrueVerdict book found × (verdict book bytes ≡ found)
-IsVerdictOn book bytes (WasFound TooLong) = ⊥
+IsVerdictOn book bytes (Found (Plan judged)) = ⊥
+IsVerdictOn book bytes (Found (Certificate found)) = IsTrueVerdict book found × (verdict book bytes ≡ found)
+IsVerdictOn book bytes (Found TooLong) = ⊥
 IsVerdictOn book bytes ReadFailed = ⊥
 IsVerdictOn book bytes Memory = ⊤
