@@ -15,5 +15,5 @@ pub use printout::print;
 pub use process::{Process, process_of};
 pub use status::{NO_MEMORY, READ_FAILED, REFUSED, Ran, Status, USAGE, WRITE_FAILED, audit_status};
 pub use table_files::{READ_LIMIT, read_tables};
-pub use tables::{TableNames, Tables};
+pub use tables::{TableNames, Tables, book_of};
 pub use words::{matched, tables_command, tables_in, value_of};

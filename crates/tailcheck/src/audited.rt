@@ -9,11 +9,10 @@ ghost use Rattle.tailcheck.specs.Texts.{PlanBytes, PlanName};
 ghost use Rattle.tailcheck.specs.inside.Findings.{IsAnswerOver, IsFit};
 
 use crate::answer::{Judged, Judgement};
-use book_maker::read_book;
 use plan_audit::audit;
 use plan_report::laws::audits_can_be_written;
 use plan_report::read_plan;
-use run_frame::{Answer, READ_LIMIT, Tables};
+use run_frame::{Answer, READ_LIMIT, Tables, book_of};
 use std::alloc::Global;
 use tail_outside::{Files, ReadFail, read_all};
 use tail_text::Stopped;
@@ -43,10 +42,9 @@ fn audit_of(alloc: Global, tables: &Tables, plan: &[u8]) -> Answer<Judgement>
     ensures answer { IsAnswerTo AreRefused AreJudged (record { tables = tables.now; subject = PlanBytes plan.now }) result }
     ensures printable { IsPrintable IsFit result }
 {
-    let book = match read_book(alloc, &tables.timetable, &tables.fleet, &tables.rules) {
+    let book = match book_of(alloc, tables) {
         Ok(book) => book,
-        Err(Stopped::Refused(refusal)) => return Answer::Refused(refusal),
-        Err(Stopped::Memory) => return Answer::Memory,
+        Err(answer) => return answer,
     };
     let raw = match read_plan(alloc, plan) {
         Ok(raw) => raw,

@@ -8,15 +8,13 @@ ghost use Rattle.tailcheck.specs.Texts.{CertificateName};
 ghost use Rattle.tailcheck.specs.inside.Findings.{IsAnswerOver, IsFit, IsVerdictOn};
 
 use crate::answer::Judgement;
-use book_maker::read_book;
 use cert_checker::judge;
 use cert_checker::laws::yes_is_true;
-use run_frame::{Answer, Tables};
+use run_frame::{Answer, Tables, book_of};
 use std::alloc::Global;
 use tail_book::Book;
 use tail_book::laws::every_book_is_sound;
 use tail_outside::{Files, ReadFail, read_all};
-use tail_text::Stopped;
 
 /// The most bytes of a certificate that are judged.
 pub const CERTIFICATE_LIMIT: usize = 1_073_741_824;
@@ -35,10 +33,9 @@ pub fn certified<F: Files>(
     ensures same { OnlyRead (F.shows files.old) (F.shows files.new) }
     ensures cause { result ≡ ReadFailed → ReadHasFailed (F.shows files.old) (F.shows files.new) }
 {
-    let book = match read_book(alloc, &tables.timetable, &tables.fleet, &tables.rules) {
+    let book = match book_of(alloc, tables) {
         Ok(book) => book,
-        Err(Stopped::Refused(refusal)) => return Answer::Refused(refusal),
-        Err(Stopped::Memory) => return Answer::Memory,
+        Err(answer) => return answer,
     };
     let text = match read_all(alloc, files, name, CERTIFICATE_LIMIT + 1) {
         Ok(text) => text,

@@ -17,13 +17,12 @@ use crate::answer::Judged;
 use crate::texts::{Texts, read_texts};
 use crate::usage::usage_line;
 use crate::words::names_of;
-use book_maker::read_book;
 use plan_audit::laws::kept_plans_fly_once;
 use plan_audit::{audit, kept};
 use plan_picture::{View, port_named};
 use plan_report::laws::audits_can_be_written;
 use plan_report::read_plan;
-use run_frame::{Answer, Ran, print};
+use run_frame::{Answer, Ran, book_of, print};
 use std::alloc::Global;
 use tail_book::Book;
 use tail_outside::{Files, ReadFail, Sink};
@@ -96,11 +95,9 @@ fn judged(alloc: Global, texts: &Texts<'_>) -> Answer<Judged>
     ensures answer { IsAnswerTo AreRefused AreJudged texts.now result }
     ensures printable { IsPrintable (λ judged. IsDrawable judged.book judged.plan (drawn_rules judged.found)) result }
 {
-    let tables = &texts.tables;
-    let book = match read_book(alloc, &tables.timetable, &tables.fleet, &tables.rules) {
+    let book = match book_of(alloc, &texts.tables) {
         Ok(book) => book,
-        Err(Stopped::Refused(refusal)) => return Answer::Refused(refusal),
-        Err(Stopped::Memory) => return Answer::Memory,
+        Err(answer) => return answer,
     };
     let raw = match read_plan(alloc, &texts.plan) {
         Ok(raw) => raw,

@@ -1,10 +1,12 @@
 -- The status of an answer, and of an audit that is found; when an answer can be printed, and what printing it leaves.
-use Rattle.std.specs.Prelude.{ℕ, ◌≡◌, ◌⊎◌, ⊤, List}
+use Rattle.std.specs.Prelude.{ℕ, ◌≡◌, ◌⊎◌, ⊤, List, Err}
 use Rattle.tail_outside.specs.Outside.{PieceHasFailed, Takes, TakesFront}
 use Rattle.tail_outside.specs.Shown.{SinkShown}
 use Rattle.tail_text.specs.declared.refusal.Refusal.{Refusal}
+use Rattle.book_maker.specs.Made.{book_of}
 use Rattle.plan_audit.specs.declared.broken.Audit.{Audit}
 use Rattle.plan_audit.specs.declared.broken.Audit.TheVariants.{Legal, Broken}
+use Rattle.run_frame.specs.Tables.{TablesSeen}
 use Rattle.run_frame.specs.declared.answer.Answer.{Answer}
 use Rattle.run_frame.specs.declared.answer.Answer.TheVariants.{Usage, Refused, Found, ReadFailed, Memory}
 
@@ -36,6 +38,14 @@ IsAnswerTo refuses finds x (Refused refusal) = refuses x refusal
 IsAnswerTo refuses finds x (Found found) = finds x found
 IsAnswerTo refuses finds x ReadFailed = ⊥
 IsAnswerTo refuses finds x Memory = ⊤
+
+-- the tables are no book, and this answer tells why: their first refusal, or that memory was wanting
+abbrev pub IsNoBook : {T : Type 0} → TablesSeen → Answer T → Type 0
+IsNoBook tables Usage = ⊥
+IsNoBook tables (Refused refusal) = book_of tables.timetable tables.fleet tables.rules ≡ Err refusal
+IsNoBook tables (Found found) = ⊥
+IsNoBook tables ReadFailed = ⊥
+IsNoBook tables Memory = ⊤
 
 -- the text was printed, and the status says so; or a fault or want of memory came, and a front of it was printed
 abbrev pub IsPrinted : List ℕ → ℕ → SinkShown → SinkShown → ℕ → Type 0

@@ -14,5 +14,5 @@ pub returns-clause-answer : goal.returns-clause-answer
 returns-clause-answer g c =
     let tables = c.args.tables.now in
     let book : book_of tables.timetable tables.fleet tables.rules ≡ Ok c.in-Ok.book = search rules in
-    let own : IsVerdictOn c.in-Ok.book c.in-Ok-read_all.text.items c.verdict_on.result = rw c.deref-4.ensures.value at c.verdict_on.ensures.verdict in
+    let own : IsVerdictOn c.in-Ok.book c.in-Ok-read_all.text.items c.verdict_on.result = rw c.deref.ensures.value at c.verdict_on.ensures.verdict in
     verdict_over (g.F.Files.shows c.args.files.now) tables c.args.name.now c.in-Ok-read_all.text.items c.in-Ok.book c.verdict_on.result book c.in-Ok-read_all.ensures.bytes (search rules) own
