@@ -1,7 +1,7 @@
 //! The answer of a run with its files, and how it ends: what is printed of an answer, or nothing where no certificate could be
 //! written.
 
-ghost use Rattle.std.specs.Prelude.{◌≡◌, ◌≤◌, false, IfOk};
+ghost use Rattle.std.specs.Prelude.{◌≡◌, ◌≤◌, false, IfOk, IsErr, Ok};
 ghost use Rattle.plan_report.specs.inside.Report.{HasPlanFor};
 ghost use Rattle.run_frame.specs.inside.Answer.{IsPrintable as IsPrintableBy};
 ghost use Rattle.tailplan.specs.inside.Ending.{IsReported};
@@ -22,6 +22,30 @@ pub struct Answered<F> {
     pub answer: Result<Answer<Solved>, Unwritten>,
     /// The files that were handed in.
     pub files: F,
+}
+
+impl<F> Answered<F> {
+    /// This answer, over files as they stand.
+    pub fn of(answer: Answer<Solved>, files: F) -> Answered<F>
+        ensures answer { result.answer ≡ Ok answer }
+        ensures files { result.files ≡ files }
+    {
+        Answered {
+            answer: Ok(answer),
+            files,
+        }
+    }
+
+    /// No answer, since the certificate's file could not be written.
+    pub fn unwritten(files: F) -> Answered<F>
+        ensures answer { IsErr result.answer }
+        ensures files { result.files ≡ files }
+    {
+        Answered {
+            answer: Err(Unwritten),
+            files,
+        }
+    }
 }
 
 /// Prints an answer. Where the certificate could not be written nothing is printed.

@@ -1,7 +1,7 @@
 //! The planning of a book: the search, and its certificate where one is asked for. Without one no labels are priced to
 //! be told.
 
-ghost use Rattle.std.specs.Prelude.{◌≡◌, IfOk, IfSome, IsErr, IsTrue, None, Some, option_map};
+ghost use Rattle.std.specs.Prelude.{◌≡◌, IfOk, IfSome, IsErr, IsTrue, None, Some};
 ghost use Rattle.tail_book.specs.CostTable.{costs_of};
 ghost use Rattle.tail_book.specs.Faults.{HasRisen};
 ghost use Rattle.tail_outside.specs.Outside.{OnlyRead};
@@ -13,7 +13,8 @@ ghost use Rattle.tailplan.specs.Kept.{OnlyCertificate};
 ghost use Rattle.tailplan.specs.inside.Ending.{IsPlanned, LeavesPlanned, NeverRefused};
 
 use crate::answer::Solved;
-use crate::answered::{Answered, Unwritten};
+use crate::answered::Answered;
+use crate::tasks::Task;
 use branch_marks::NoLog;
 use branch_tree::{Limit, Stop, search};
 use certified_search::{Certified, certified_search};
@@ -24,39 +25,24 @@ use tail_book::laws::{every_book_is_sound, own_costs_are_for_book, own_costs_kee
 use tail_book::{Book, CostTable};
 use tail_outside::{Fault, FileSink, Files};
 
-/// Plans a book. The certificate goes to the file of this name, which is made empty first.
-pub fn planned<F: Files>(
-    alloc: Global,
-    book: Book,
-    limit: Limit,
-    cert: Option<&str>,
-    files: F,
-) -> Answered<F>
-    requires { IfSome (option_map (λ s. s.now) cert) (λ name. IsTrue ((F.shows files).lets_write name)) }
+/// Plans the book of a task. The certificate goes to the file that the task names, which is made empty first.
+pub fn planned<F: Files>(alloc: Global, book: Book, task: &Task<'_>, files: F) -> Answered<F>
+    requires { IfSome task.now.cert (λ name. IsTrue ((F.shows files).lets_write name)) }
     ensures answer { IfOk result.answer (IsAnswerTo NeverRefused (IsPlanned (F.shows result.files))
-        (record { book = book; limit = limit; cert = option_map (λ s. s.now) cert.entry })) }
+        (record { book = book; limit = task.now.limit; cert = task.now.cert })) }
     ensures printable { IfOk result.answer (IsPrintableBy (λ solved. HasPlanFor solved.book solved.outcome)) }
-    ensures left { LeavesPlanned (record { book = book; limit = limit; cert = option_map (λ s. s.now) cert.entry }) (F.shows files) (F.shows result.files) }
-    ensures others { OnlyCertificate (option_map (λ s. s.now) cert.entry) (F.shows files) (F.shows result.files) }
-    ensures cause { IsErr result.answer → AreGiven (option_map (λ s. s.now) cert.entry)
+    ensures left { LeavesPlanned (record { book = book; limit = task.now.limit; cert = task.now.cert }) (F.shows files) (F.shows result.files) }
+    ensures others { OnlyCertificate task.now.cert (F.shows files) (F.shows result.files) }
+    ensures cause { IsErr result.answer → AreGiven task.now.cert
         × HasRisen (F.shows files).write_faults (F.shows result.files).write_faults }
-    ensures same { option_map (λ s. s.now) cert.entry ≡ None → OnlyRead (F.shows files) (F.shows result.files) }
+    ensures same { task.now.cert ≡ None → OnlyRead (F.shows files) (F.shows result.files) }
 {
-    let table = match CostTable::of(alloc, &book) {
-        Ok(table) => table,
-        Err(_) => {
-            return Answered {
-                answer: Ok(Answer::Memory),
-                files,
-            };
-        }
+    let Ok(table) = CostTable::of(alloc, &book) else {
+        return Answered::of(Answer::Memory, files);
     };
-    match cert {
-        None => Answered {
-            answer: Ok(searched(alloc, book, &table, limit)),
-            files,
-        },
-        Some(name) => certified(alloc, book, &table, limit, name, files),
+    match task.cert {
+        None => Answered::of(searched(alloc, book, &table, task.limit), files),
+        Some(name) => certified(alloc, book, &table, task.limit, name, files),
     }
 }
 
@@ -99,34 +85,15 @@ fn certified<F: Files>(
     let mut files = files;
     match files.begin(name) {
         Ok(()) => {}
-        Err(Fault::Failed) => {
-            return Answered {
-                answer: Err(Unwritten),
-                files,
-            };
-        }
-        Err(Fault::Memory) => {
-            return Answered {
-                answer: Ok(Answer::Memory),
-                files,
-            };
-        }
+        Err(Fault::Failed) => return Answered::unwritten(files),
+        Err(Fault::Memory) => return Answered::of(Answer::Memory, files),
     }
     let sink = FileSink::new(files, name);
     let Certified { found, sink } = certified_search(alloc, &book, table, limit, sink);
     let files = sink.into_files();
     match found {
-        Ok(outcome) => Answered {
-            answer: Ok(Answer::Found(Solved { book, outcome })),
-            files,
-        },
-        Err(Stop::Log) => Answered {
-            answer: Err(Unwritten),
-            files,
-        },
-        Err(Stop::Memory) => Answered {
-            answer: Ok(Answer::Memory),
-            files,
-        },
+        Ok(outcome) => Answered::of(Answer::Found(Solved { book, outcome }), files),
+        Err(Stop::Log) => Answered::unwritten(files),
+        Err(Stop::Memory) => Answered::of(Answer::Memory, files),
     }
 }

@@ -6,6 +6,7 @@ mod answer;
 mod answered;
 mod book_plan;
 mod run;
+mod tasks;
 mod trial;
 mod usage;
 mod words;

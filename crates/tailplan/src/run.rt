@@ -1,6 +1,6 @@
 //! A whole run: the words, the three tables, the search for a least plan with its certificate, and what is printed; or a trial.
 
-ghost use Rattle.std.specs.Prelude.{◌≡◌, ◌≤◌, IfOk, IfSome, IsErr, IsSome, IsTrue, None, Ok, false, option_map};
+ghost use Rattle.std.specs.Prelude.{◌≡◌, ◌≤◌, IfOk, IfSome, IsErr, IsSome, IsTrue, None, Ok, false};
 ghost use Rattle.tail_book.specs.Faults.{HasRisen};
 ghost use Rattle.tail_outside.specs.Outside.{OnlyRead, ReadHasFailed};
 ghost use Rattle.plan_report.specs.inside.Report.{HasPlanFor};
@@ -16,17 +16,14 @@ ghost use Rattle.tailplan.specs.Trials.{RefusesWords, RunPromise};
 ghost use Rattle.tailplan.specs.Words.{run_of, seed_of};
 ghost use Rattle.tailplan.specs.inside.Ending.{KeepsFiles, LeavesFile};
 
-use crate::answer::Solved;
 use crate::answered::{Answered, report};
 use crate::book_plan::planned;
+use crate::tasks::Task;
 use crate::trial::{Checker, run_trial};
 use crate::words::{run_of, seed_of};
-use book_maker::read_book;
-use branch_tree::Limit;
-use run_frame::{Answer, Ran, Tables, read_tables};
+use run_frame::{Answer, Ran, book_of, read_tables};
 use std::alloc::Global;
 use tail_outside::{Files, ReadFail, Sink};
-use tail_text::Stopped;
 
 /// Plans the timetable, the fleet and the rules that the words name: prints a legal plan of least cost, or that no
 /// plan is legal, or, at a limit of nodes, a bound with the best plan found, or why the words or a table are refused. A
@@ -105,61 +102,37 @@ fn answer_of<F: Files>(alloc: Global, words: &[String], files: F) -> Answered<F>
     let mut files = files;
     let names = match run_of(alloc, words) {
         Ok(Some(names)) => names,
-        Ok(None) => {
-            return Answered {
-                answer: Ok(Answer::Usage),
-                files,
-            };
-        }
-        Err(_) => {
-            return Answered {
-                answer: Ok(Answer::Memory),
-                files,
-            };
-        }
+        Ok(None) => return Answered::of(Answer::Usage, files),
+        Err(_) => return Answered::of(Answer::Memory, files),
     };
     match read_tables(alloc, &mut files, &names.tables) {
-        Ok(tables) => solved(alloc, &tables, names.limit, names.cert, files),
-        Err(ReadFail::Failed) => Answered {
-            answer: Ok(Answer::ReadFailed),
-            files,
-        },
-        Err(ReadFail::Memory) => Answered {
-            answer: Ok(Answer::Memory),
-            files,
-        },
+        Ok(tables) => {
+            let task = Task {
+                tables,
+                limit: names.limit,
+                cert: names.cert,
+            };
+            solved(alloc, &task, files)
+        }
+        Err(ReadFail::Failed) => Answered::of(Answer::ReadFailed, files),
+        Err(ReadFail::Memory) => Answered::of(Answer::Memory, files),
     }
 }
 
-// The answer to the tables, under a limit, with a certificate or without.
-fn solved<F: Files>(
-    alloc: Global,
-    tables: &Tables,
-    limit: Limit,
-    cert: Option<&str>,
-    files: F,
-) -> Answered<F>
-    requires { IfSome (option_map (λ s. s.now) cert) (λ name. IsTrue ((F.shows files).lets_write name)) }
-    ensures answer { IfOk result.answer (IsAnswerTo AreRefused (AreSolved (F.shows result.files))
-        (record { tables = tables.now; limit = limit; cert = option_map (λ s. s.now) cert.entry })) }
+// The answer to a task.
+fn solved<F: Files>(alloc: Global, task: &Task<'_>, files: F) -> Answered<F>
+    requires { IfSome task.now.cert (λ name. IsTrue ((F.shows files).lets_write name)) }
+    ensures answer { IfOk result.answer (IsAnswerTo AreRefused (AreSolved (F.shows result.files)) task.now) }
     ensures printable { IfOk result.answer (IsPrintableBy (λ solved. HasPlanFor solved.book solved.outcome)) }
-    ensures others { OnlyCertificate (option_map (λ s. s.now) cert.entry) (F.shows files) (F.shows result.files) }
+    ensures others { OnlyCertificate task.now.cert (F.shows files) (F.shows result.files) }
     ensures kept { IfOk result.answer (KeepsFiles (F.shows files) (F.shows result.files)) }
-    ensures same { option_map (λ s. s.now) cert.entry ≡ None → OnlyRead (F.shows files) (F.shows result.files) }
-    ensures left { LeavesFile
-        (record { tables = tables.now; limit = limit; cert = option_map (λ s. s.now) cert.entry }) (F.shows files) (F.shows result.files) }
-    ensures cause { IsErr result.answer → AreGiven (option_map (λ s. s.now) cert.entry)
+    ensures same { task.now.cert ≡ None → OnlyRead (F.shows files) (F.shows result.files) }
+    ensures left { LeavesFile task.now (F.shows files) (F.shows result.files) }
+    ensures cause { IsErr result.answer → AreGiven task.now.cert
         × HasRisen (F.shows files).write_faults (F.shows result.files).write_faults }
 {
-    match read_book(alloc, &tables.timetable, &tables.fleet, &tables.rules) {
-        Ok(book) => planned(alloc, book, limit, cert, files),
-        Err(Stopped::Refused(refusal)) => Answered {
-            answer: Ok(Answer::Refused(refusal)),
-            files,
-        },
-        Err(Stopped::Memory) => Answered {
-            answer: Ok(Answer::Memory),
-            files,
-        },
+    match book_of(alloc, &task.tables) {
+        Ok(book) => planned(alloc, book, task, files),
+        Err(answer) => Answered::of(answer, files),
     }
 }

@@ -22,7 +22,7 @@ returns-in-Ok-found-clause-answer g c =
     (g.F.Files.shows c.begin.new.self) old new (g.F.Files.shows c.into_files-files.result)
     (ap (λ name. name.now) c.new-sink.ensures.name) (ap (λ name. name.now) run.ensures.beside.0) (ap (λ files. g.F.Files.shows files) c.new-sink.ensures.files)
     (ap (λ files. g.F.Files.shows files) c.into_files-files.ensures) c.in-Ok.ensures.empty run.ensures.beside.1 leaves in
-    (refl, truth, tree, held)
+    rw (c.of.ensures.answer, c.of.ensures.files) (refl, truth, tree, held)
 
 pub returns-in-Ok-found-clause-left : goal.returns-in-Ok-found-clause-left
 returns-in-Ok-found-clause-left g c = λ alive.
