@@ -5,7 +5,7 @@ use run_frame::Tables;
 use std::marker::Model;
 
 /// The bytes of the three tables, how many nodes the search may count, and the name of the certificate's file.
-#[derive(Debug, Drop)]
+#[derive(Drop)]
 pub struct Task<'a> {
     pub tables: Tables,
     pub limit: Limit,
