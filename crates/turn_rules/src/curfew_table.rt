@@ -2,13 +2,13 @@
 //!
 //! Whether a curfew keeps an aircraft from an activity depends on the activity and on the aircraft's type alone. So the
 //! table has one set of types for each activity, and a question is two reads and a shift.
-//! Making it compares each flight with each curfew: 1,600,000 comparisons at most, nearly all of an airport's number.
+//! Making it compares each flight with each curfew: 1,600,000 comparisons at most, nearly all of an airport's number. The
+//! two local minutes of a flight are found once, before its curfews are gone through.
 
 ghost use Rattle.std.specs.Prelude.{◌≡◌, ◌<◌, ◌&&◌, ℕ, IfOk, length, All};
 ghost use Rattle.std.specs.List.{list_any};
 ghost use Rattle.tail_book.specs.Lookup.{activities, aircraft, kind_of, from_port, to_port, start_of, end_of};
-ghost use Rattle.tail_book.specs.Curfew.{covers_type, is_curfewed};
-ghost use Rattle.tail_book.specs.inside.Sound.{IsMoment};
+ghost use Rattle.tail_book.specs.Curfew.{covers_type, is_curfewed, local_minute};
 ghost use Rattle.turn_rules.specs.inside.NumberSet.{has};
 ghost use Rattle.turn_rules.specs.inside.CurfewTable.{AreCurfewsOf, is_shut, is_type_curfewed, meets, stops_type};
 
@@ -38,40 +38,33 @@ impl CurfewTable {
     }
 }
 
-// Whether a curfew's hours hold at an airport at that moment.
-fn is_shut(book: &Book, curfew: &Curfew, port: u32, moment: i64) -> bool
-    requires port { port < length book.now.rules.airports }
-    requires moment { IsMoment moment }
-    ensures { result ≡ is_shut book.now curfew.now port moment }
-{
-    curfew.airport == port && in_window(curfew.from, curfew.to, local_minute(book, port, moment))
-}
-
-// Whether an activity starts in a curfew's hours.
-fn starts_shut(book: &Book, a: u32, curfew: &Curfew) -> bool
-    requires { a < activities book.now }
+// Whether an activity starts in a curfew's hours, by the local minute at which it does.
+fn starts_shut(book: &Book, a: u32, leaves: i64, curfew: &Curfew) -> bool
+    requires activity { a < activities book.now }
+    requires leaves { leaves ≡ local_minute book.now (from_port book.now a) (start_of book.now a) }
     ensures { result ≡ is_shut book.now curfew.now (from_port book.now a) (start_of book.now a) }
 {
-    let activity = &book.activities[a as usize];
-    is_shut(book, curfew, activity.from, activity.start)
+    curfew.airport == book.activities[a as usize].from && in_window(curfew.from, curfew.to, leaves)
 }
 
-// Whether an activity lands in a curfew's hours.
-fn lands_shut(book: &Book, a: u32, curfew: &Curfew) -> bool
-    requires { a < activities book.now }
+// Whether an activity lands in a curfew's hours, by the local minute at which it does.
+fn lands_shut(book: &Book, a: u32, lands: i64, curfew: &Curfew) -> bool
+    requires activity { a < activities book.now }
+    requires lands { lands ≡ local_minute book.now (to_port book.now a) (end_of book.now a) }
     ensures { result ≡ is_shut book.now curfew.now (to_port book.now a) (end_of book.now a) }
 {
-    let activity = &book.activities[a as usize];
-    is_shut(book, curfew, activity.to, activity.end)
+    curfew.airport == book.activities[a as usize].to && in_window(curfew.from, curfew.to, lands)
 }
 
 // Whether a curfew's hours stand in the way of an activity.
-fn meets(book: &Book, a: u32, curfew: &Curfew) -> bool
-    requires { a < activities book.now }
+fn meets(book: &Book, a: u32, leaves: i64, lands: i64, curfew: &Curfew) -> bool
+    requires activity { a < activities book.now }
+    requires leaves { leaves ≡ local_minute book.now (from_port book.now a) (start_of book.now a) }
+    requires lands { lands ≡ local_minute book.now (to_port book.now a) (end_of book.now a) }
     ensures { result ≡ meets book.now a curfew.now }
 {
-    (curfew.starts && starts_shut(book, a, curfew))
-        || (curfew.landings && lands_shut(book, a, curfew))
+    (curfew.starts && starts_shut(book, a, leaves, curfew))
+        || (curfew.landings && lands_shut(book, a, lands, curfew))
 }
 
 // The types that a curfew is for.
@@ -87,12 +80,14 @@ fn types_of(curfew: &Curfew) -> NumberSet
 }
 
 // The types that a curfew keeps from a flight.
-fn types_met(book: &Book, a: u32, curfew: &Curfew) -> NumberSet
+fn types_met(book: &Book, a: u32, leaves: i64, lands: i64, curfew: &Curfew) -> NumberSet
     requires activity { a < activities book.now }
+    requires leaves { leaves ≡ local_minute book.now (from_port book.now a) (start_of book.now a) }
+    requires lands { lands ≡ local_minute book.now (to_port book.now a) (end_of book.now a) }
     requires types { All (λ t. t < 32) curfew.now.types }
     ensures { (t : ℕ) → t < 32 → has result t ≡ stops_type book.now t a curfew.now }
 {
-    if meets(book, a, curfew) {
+    if meets(book, a, leaves, lands, curfew) {
         types_of(curfew)
     } else {
         NumberSet::none()
@@ -100,14 +95,16 @@ fn types_met(book: &Book, a: u32, curfew: &Curfew) -> NumberSet
 }
 
 // The types that one of the curfews keeps from a flight.
-fn types_stopped(book: &Book, a: u32, curfews: &[Curfew]) -> NumberSet
+fn types_stopped(book: &Book, a: u32, leaves: i64, lands: i64, curfews: &[Curfew]) -> NumberSet
     requires activity { a < activities book.now }
+    requires leaves { leaves ≡ local_minute book.now (from_port book.now a) (start_of book.now a) }
+    requires lands { lands ≡ local_minute book.now (to_port book.now a) (end_of book.now a) }
     requires types { All (λ c. All (λ t. t < 32) c.types) curfews.now }
     ensures { (t : ℕ) → t < 32 → has result t ≡ list_any (stops_type book.now t a) curfews.now }
 {
     let mut stopped = NumberSet::none();
     for curfew in curfews {
-        stopped = stopped.or(types_met(book, a, curfew));
+        stopped = stopped.or(types_met(book, a, leaves, lands, curfew));
     }
     stopped
 }
@@ -117,8 +114,11 @@ fn closed_types(book: &Book, a: u32) -> NumberSet
     requires { a < activities book.now }
     ensures { (t : ℕ) → t < 32 → has result t ≡ is_type_curfewed book.now t a }
 {
-    if book.activities[a as usize].flight {
-        types_stopped(book, a, &book.rules.curfews)
+    let activity = &book.activities[a as usize];
+    if activity.flight {
+        let leaves = local_minute(book, activity.from, activity.start);
+        let lands = local_minute(book, activity.to, activity.end);
+        types_stopped(book, a, leaves, lands, &book.rules.curfews)
     } else {
         NumberSet::none()
     }
