@@ -3,8 +3,8 @@
 -- Months have at least 28 days, so where a month is at least two behind another, its first day comes at least 56 days
 -- later, within a year and over its end. A rule's day comes at most 34 days behind the first of its month, and times of day
 -- and offsets move a moment by less than four days. So of two changes that follow each other the later one comes later.
-use Rattle.std.proofs.Common.{◌≡◌, ◌∙◌, ◌<◌, ◌≤◌, ◌+◌, ◌-◌, ◌*◌, ◌%◌, ℕ, ℤ, zero, suc, pos, Bool, true, false, List, [], ◌∷◌, ◌++◌, Result, Ok, refl, sym, inl, inr, arith, nat_lt, ◌⊎◌}
-use Rattle.std.specs.Prelude.{All, AllPairs, ⊤, ◌+ℤ◌, ◌-ℤ◌, ◌*ℤ◌, ◌≤ℤ◌, ◌<ℤ◌, ◌&&◌, ◌||◌, nat_le}
+use Rattle.std.proofs.Common.{◌≡◌, ◌≤◌, ◌+◌, ◌-◌, ◌*◌, ℕ, ℤ, zero, suc, pos, true, false, List, [], ◌∷◌, ◌++◌, Ok, refl, inl, inr, arith, nat_lt, ◌⊎◌}
+use Rattle.std.specs.Prelude.{All, AllPairs, ⊤, ◌+ℤ◌, ◌-ℤ◌, ◌*ℤ◌, ◌≤ℤ◌, ◌<ℤ◌}
 use Rattle.std.specs.List.{flat_map, range_with_len}
 use Rattle.std.proofs.lemmas.Int.{ints}
 use Rattle.std.proofs.lemmas.Bool.Decides.{nat_tests}
@@ -13,7 +13,7 @@ use Rattle.std.proofs.lemmas.List.Kept.{AllPairs-cons}
 use Rattle.std.proofs.Math.Numerals.{add-one}
 use Rattle.tail_book.proofs.Rows.{rows_more}
 use Rattle.jiff_core.specs.Calendar.{days_from_civil, days_in_month, days_of_months, weekday_number}
-use Rattle.jiff_core.proofs.CalendarLemmas.{days_from_civil-day_count, day_count-day_of_year, day_count-next_year, days_in_month_bounds, days_of_months-zero, days_of_months_all, days_of_months_more, weekday_number_bound}
+use Rattle.jiff_core.proofs.CalendarLemmas.{days_from_civil-day_count, day_count-day_of_year, day_count-next_year, days_in_month_bounds, days_of_months-zero, days_of_months_all, days_of_months_more}
 use Rattle.jiff_core.proofs.SignedLemmas.{signed_arith}
 use Rattle.tail_book.specs.Seen.{AirportSeen}
 use Rattle.tail_book.specs.declared.rules.Change.{Change}
@@ -21,7 +21,7 @@ use Rattle.tail_book.specs.inside.Sound.{IsAirport, IsOffset}
 use Rattle.fleet_rules.specs.RawRules.{RawAirportSeen}
 use Rattle.fleet_rules.specs.Zone.{are_months_apart}
 use Rattle.fleet_rules.specs.inside.RawRules.{IsRawAirport}
-use Rattle.fleet_rules.specs.inside.Zone.{IsDayRule, IsDaylight, IsZone}
+use Rattle.fleet_rules.specs.inside.Zone.{IsDayRule, IsZone}
 use Rattle.fleet_rules.specs.declared.zone_rule.DayRule.{DayRule}
 use Rattle.fleet_rules.specs.declared.zone_rule.ZoneRule.{ZoneRule}
 use Rattle.fleet_rules.specs.declared.zone_rule.ZoneRule.TheVariants.{Fixed, Daylight}

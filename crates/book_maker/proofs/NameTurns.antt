@@ -6,7 +6,6 @@ use Rattle.std.proofs.Common.{◌≡◌, ◌∙◌, ℕ, ◌+◌, ◌<◌, ◌�
 use Rattle.std.proofs.lemmas.List.{drop_all, drop_more, take_more}
 use Rattle.std.specs.List.{list_any}
 use Rattle.std.specs.Str.{bytes_eq}
-use Rattle.indexmap.specs.IndexSet.{insert_key}
 use Rattle.book_maker.specs.NameNumbers.{distinct_from, distinct_names, is_among, with_name}
 
 module _ (names : List (List ℕ)) (i : ℕ) (x : List ℕ) (within : i < length names) (here : x ≡ get_or names i x) where

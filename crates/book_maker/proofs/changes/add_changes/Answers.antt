@@ -1,4 +1,4 @@
-use Rattle.std.proofs.Common.{◌≡◌, true, false, nat_lt, [], ◌∷◌, append_assoc, rules}
+use Rattle.std.proofs.Common.{◌≡◌, true, false, nat_lt, append_assoc, rules}
 use Rattle.std.proofs.lemmas.Bool.Decides.{nat_tests}
 use Rattle.book_maker.proofs.ChangeLemmas.{first_sooner, second_sooner}
 use Rattle.book_maker.proofs.changes.add_changes.Goals as goal
