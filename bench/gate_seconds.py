@@ -3,10 +3,10 @@
 
 usage: gate_seconds.py [FOLDER]
 
-Start it beside the `rt ci` that runs at the top of the repository FOLDER, the working folder where none is named. Twice a
-second it looks at the processes of the prover that this run has started, and once the run has ended, it prints the table of
-docs/ARCHITECTURE.md and how long it watched. What a process took in its last half second is not seen: less than a hundredth
-of all.
+Start it beside the `rt ci` or `rt ci NAME` that runs at the top of the repository FOLDER, the working folder where none is
+named. Twice a second it looks at the processes of the prover that this run has started, and once the run has ended, it prints
+the table of docs/ARCHITECTURE.md and how long it watched. What a process took in its last half second is not seen: less than a
+hundredth of all.
 """
 import collections
 import os
@@ -31,10 +31,17 @@ def seconds_of(pid):
     return fields[1], sum(map(int, fields[11:15])) / TICKS, fields[19]
 
 
+def folder_of(pid):
+    """The folder that a process was started in, by its environment: `rt ci NAME` goes on in a copy."""
+    with open(f"/proc/{pid}/environ", "rb") as file:
+        named = [entry[4:] for entry in file.read().split(b"\0") if entry.startswith(b"PWD=")]
+    return os.path.realpath(os.fsdecode(named[0])) if named else None
+
+
 def is_run(pid, top):
-    """Whether the process is `rt ci` at the top of this repository."""
+    """Whether the process is `rt ci` at the top of this repository, for all crates or for some."""
     words = [os.path.basename(word) for word in words_of(pid)]
-    return "rt" in words and "ci" in words and os.path.realpath(f"/proc/{pid}/cwd") == top
+    return "rt" in words and "ci" in words and top in (os.path.realpath(f"/proc/{pid}/cwd"), folder_of(pid))
 
 
 def stands_under(pid, top):
