@@ -1,5 +1,5 @@
 -- What the records of a trial's tables say, with names in place of numbers.
-use Rattle.std.specs.Prelude.{ℕ, ◌+◌, ◌%◌, ◌==◌, pos, if◌then◌else◌, true, List, [], ◌∷◌, None, codes}
+use Rattle.std.specs.Prelude.{ℕ, ◌+◌, ◌%◌, ◌==◌, pos, if◌then◌else◌, true, List, [], ◌∷◌, map, None, codes}
 use Rattle.tail_book.specs.declared.rules.CounterKind.TheVariants.{Landings, Minutes}
 use Rattle.timetable_reader.specs.Activity.{RawActivitySeen}
 use Rattle.fleet_rules.specs.RawRules.{RawAirportSeen, RawRulesSeen}
@@ -46,14 +46,13 @@ raw_tails k (at ∷ more) = raw_tail k at ∷ raw_tails (k + 1) more
 abbrev pub all_airports : List (List ℕ)
 all_airports = codes "T0" ∷ codes "T1" ∷ codes "T2" ∷ codes "T3" ∷ codes "T4" ∷ []
 
-abbrev pub raw_airports : List (List ℕ) → List RawAirportSeen
-raw_airports [] = []
-raw_airports (name ∷ more) = record { name = name; zone = Fixed (pos 0); turn = pos 20 } ∷ raw_airports more
+abbrev pub raw_airport : List ℕ → RawAirportSeen
+raw_airport name = record { name = name; zone = Fixed (pos 0); turn = pos 20 }
 
 abbrev pub raw_rules : RawRulesSeen
 raw_rules = record {
   kinds = kinds_made;
-  airports = raw_airports all_airports;
+  airports = map raw_airport all_airports;
   curfews = [];
   counters = record { name = codes "fh"; kind = Minutes; limit = pos 900; bases = all_airports; stop = pos 480 }
       ∷ record { name = codes "ldg"; kind = Landings; limit = pos 20; bases = []; stop = pos 1 } ∷ [];
