@@ -3,7 +3,7 @@ use Rattle.cert_checker.specs.Verdict.{take_text}
 use Rattle.cert_checker.specs.declared.verdict.Verdict.{Verdict}
 use Rattle.cert_checker.specs.inside.Kept.{Answers, state_of}
 use Rattle.cert_checker.proofs.LineByLine.{ended_there, fails_there, few_lines, none_there, one_taken, taken_there}
-use Rattle.cert_checker.proofs.text.Judging.judge_lines.Goals as goal
+use Rattle.cert_checker.proofs.state.Judging.judge_lines.Goals as goal
 
 -- the number of lines is in range
 pub end-requires : goal.end-requires

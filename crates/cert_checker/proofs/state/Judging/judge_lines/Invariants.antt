@@ -2,7 +2,7 @@ use Rattle.std.proofs.Common.{◌≡◌, ◌≤◌, ◌+◌, length}
 use Rattle.tail_text.specs.Parts.{parts_of}
 use Rattle.cert_checker.specs.Verdict.{verdict, verdict_from}
 use Rattle.cert_checker.specs.inside.Kept.{IsJudging, state_of}
-use Rattle.cert_checker.proofs.text.Judging.judge_lines.Given as goal
+use Rattle.cert_checker.proofs.state.Judging.judge_lines.Given as goal
 
 -- the lines that are left give the verdict, and those that were taken are no more than the text's
 abbrev pub invariant-loop-next : goal.invariant-loop-next
