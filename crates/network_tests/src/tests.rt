@@ -1,5 +1,6 @@
 //! What is linked, what marks leave open, and what follows from them, on small books.
 
+mod books;
 mod floors;
 mod marks;
 mod networks;

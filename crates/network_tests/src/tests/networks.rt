@@ -3,6 +3,7 @@
 ghost use Rattle.std.specs.Prelude.{◌≡◌};
 ghost use Rattle.connection_net.specs.Net.{net_of};
 
+use super::books::made;
 use connection_net::Net;
 use connection_net::laws::rows_for_each;
 use small_books::{named_flight, named_tail, names_in_order};
@@ -79,63 +80,65 @@ fn fleet(alloc: Global, tails: &[Carried]) -> Result<Vec<Tail>, Memory> {
     Ok(fleet)
 }
 
-// The book of these parts, or a failure.
-fn made(activities: Vec<Activity>, fleet: Vec<Tail>, rules: Rules) -> Result<Book, Fail> {
-    match Book::new(activities, fleet, rules) {
-        Some(book) => Ok(book),
-        None => Err(Fail::new("no book")),
-    }
-}
-
 fn book(alloc: Global, legs: &[Leg], tails: &[Carried], turns: &[i64]) -> Result<Book, Fail> {
     let (activities, fleet) = (activities(alloc, legs)?, fleet(alloc, tails)?);
     made(activities, fleet, rules(alloc, turns, 2)?)
 }
 
-fn push_row(alloc: Global, text: &mut String, row: &[u32]) -> Result<(), Fail> {
-    text.push_str(&format!(in alloc; "{row:?}")?)?;
-    Ok(())
-}
-
-// Adds the rows of a book's network to a text: successors, predecessors, heads.
-fn push_rows(alloc: Global, text: &mut String, book: &Book, net: &Net) -> Result<(), Fail>
+// Whether these activities follow each activity of a network, and these come before it.
+fn are_linked(book: &Book, net: &Net, after: &[&[u32]], before: &[&[u32]]) -> bool
     requires { net.now ≡ net_of book.now }
 {
     rows_for_each();
-    for a in 0..book.activities.len() as u32 {
-        push_row(alloc, text, net.successors(a))?;
+    let n = book.activities.len();
+    if after.len() != n || before.len() != n {
+        return false;
     }
-    text.push_str(" ")?;
-    for b in 0..book.activities.len() as u32 {
-        push_row(alloc, text, net.predecessors(b))?;
+    for a in 0..n {
+        if net.successors(a as u32) != after[a] || net.predecessors(a as u32) != before[a] {
+            return false;
+        }
     }
-    text.push_str(" ")?;
-    for k in 0..book.tails.len() as u32 {
-        push_row(alloc, text, net.heads(k))?;
-    }
-    Ok(())
+    true
 }
 
+// Whether these are what each aircraft may fly first.
+fn are_heads(book: &Book, net: &Net, heads: &[&[u32]]) -> bool
+    requires { net.now ≡ net_of book.now }
+{
+    rows_for_each();
+    if heads.len() != book.tails.len() {
+        return false;
+    }
+    for k in 0..heads.len() {
+        if net.heads(k as u32) != heads[k] {
+            return false;
+        }
+    }
+    true
+}
+
+// The rows of a network: what follows each activity, what comes before it, and what each aircraft may fly first.
+type Links = (
+    &'static [&'static [u32]],
+    &'static [&'static [u32]],
+    &'static [&'static [u32]],
+);
+
 // Whether these are the rows of the network that is made of a book.
-fn has_rows(alloc: Global, book: &Book, want: &str) -> Result<bool, Fail> {
+fn has_links(alloc: Global, book: &Book, links: &Links) -> Result<bool, Memory> {
+    let &(after, before, heads) = links;
     let net = Net::new(alloc, book)?;
-    let mut text = String::new(alloc);
-    push_rows(alloc, &mut text, book, &net)?;
-    Ok(text.as_str() == want)
+    Ok(are_linked(book, &net, after, before) && are_heads(book, &net, heads))
 }
 
 // Activities, aircraft, the turns of the types, and the rows of the network.
-type Row = (
-    &'static [Leg],
-    &'static [Carried],
-    &'static [i64],
-    &'static str,
-);
+type Row = (&'static [Leg], &'static [Carried], &'static [i64], Links);
 
 fn is_right(alloc: Global, row: &Row) -> Result<bool, Fail> {
-    let &(legs, tails, turns, want) = row;
+    let &(legs, tails, turns, links) = row;
     let book = book(alloc, legs, tails, turns)?;
-    has_rows(alloc, &book, want)
+    Ok(has_links(alloc, &book, &links)?)
 }
 
 // There and back with half an hour between, which ground time may fill; and each for one aircraft alone, with an hour between.
@@ -158,24 +161,49 @@ const LATE: &[Carried] = &[(0, ARN, 361), (1, ARN, 360)];
 // There and back: a turn that is met exactly and missed by a minute; one type of two whose turn fits; a check between,
 // which asks for no turn; an aircraft that is ready a minute late; two of which neither may fly both; nothing to fly,
 // and nobody.
+const ROWS: &[Row] = &[
+    (
+        &[THERE, BACK],
+        &[EARLY],
+        &[30],
+        (&[&[1], &[]], &[&[], &[0]], &[&[0]]),
+    ),
+    (
+        &[THERE, BACK],
+        &[EARLY],
+        &[31],
+        (&[&[], &[]], &[&[], &[]], &[&[0]]),
+    ),
+    (
+        &[THERE, BACK],
+        LATE,
+        &[31, 30],
+        (&[&[1], &[]], &[&[], &[0]], &[&[], &[0]]),
+    ),
+    (
+        &[THERE, CHECK, BACK],
+        &[EARLY],
+        &[31],
+        (&[&[1], &[2], &[]], &[&[], &[0], &[1]], &[&[0]]),
+    ),
+    (
+        &[FIRST, SECOND],
+        LATE,
+        &[31, 30],
+        (&[&[], &[]], &[&[], &[]], &[&[], &[]]),
+    ),
+    (&[], &[EARLY], &[30], (&[], &[], &[&[]])),
+    (&[THERE, BACK], &[], &[30], (&[&[], &[]], &[&[], &[]], &[])),
+];
+
+fn rows() -> &'static [Row] {
+    ROWS
+}
+
 #[test]
 fn small_networks(rt: HostRuntime) -> Result<(), Fail> {
-    let rows: &[Row] = &[
-        (&[THERE, BACK], &[EARLY], &[30], "[1][] [][0] [0]"),
-        (&[THERE, BACK], &[EARLY], &[31], "[][] [][] [0]"),
-        (&[THERE, BACK], LATE, &[31, 30], "[1][] [][0] [][0]"),
-        (
-            &[THERE, CHECK, BACK],
-            &[EARLY],
-            &[31],
-            "[1][2][] [][0][1] [0]",
-        ),
-        (&[FIRST, SECOND], LATE, &[31, 30], "[][] [][] [][]"),
-        (&[], &[EARLY], &[30], "  []"),
-        (&[THERE, BACK], &[], &[30], "[][] [][] "),
-    ];
-    for row in rows {
-        assert!(rt; is_right(rt.alloc(), row)?, "{row:?}");
+    for (number, row) in rows().iter().enumerate() {
+        assert!(rt; is_right(rt.alloc(), row)?, "row {number}");
     }
     Ok(())
 }

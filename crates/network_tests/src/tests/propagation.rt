@@ -4,6 +4,7 @@ ghost use Rattle.std.specs.Prelude.{◌≡◌};
 ghost use Rattle.connection_net.specs.Net.{net_of};
 ghost use Rattle.branch_marks.specs.inside.MarkTables.{AreMarksOf};
 
+use super::books::made;
 use branch_marks::{Fact, Marks};
 use connection_net::Net;
 use propagator::{Closed, close};
@@ -59,14 +60,6 @@ fn ways_and_back() -> [SmallActivity; 3] {
 fn two_ways(alloc: Global) -> Result<Book, Fail> {
     let hours = hours(alloc, 100, 60)?;
     book(alloc, &ways_and_back(), &[0, 0], 30, hours, Vec::new(alloc))
-}
-
-// The book of these parts, or a failure.
-fn made(flights: Vec<Activity>, fleet: Vec<Tail>, rules: Rules) -> Result<Book, Fail> {
-    match Book::new(flights, fleet, rules) {
-        Some(book) => Ok(book),
-        None => Err(Fail::new("no book")),
-    }
 }
 
 // The same ways for three that may fly 130 minutes, with no stop long enough: two of them have flown 25 before.

@@ -4,7 +4,8 @@ ghost use Rattle.std.specs.Prelude.{◌≡◌, ◌<◌};
 ghost use Rattle.tail_book.specs.Lookup.{activities, aircraft};
 ghost use Rattle.connection_net.specs.Net.{net_of};
 
-use super::{made, rules};
+use super::rules;
+use crate::tests::books::made;
 use connection_net::Net;
 use connection_net::laws::rows_for_each;
 use dice::Dice;
@@ -123,89 +124,92 @@ fn some_link(book: &Book, a: u32, b: u32) -> bool
     some
 }
 
-// The activities to which some aircraft has a link from one, by the rules, and those from which some aircraft has one to it.
-fn all_after(alloc: Global, book: &Book, a: u32) -> Result<Vec<u32>, Memory>
+// Whether a row has just the activities to which some aircraft has a link from one, by the rules.
+fn are_after(book: &Book, a: u32, row: &[u32]) -> bool
     requires { a < activities book.now }
 {
-    let mut after = Vec::new(alloc);
+    let mut found = 0usize;
     for b in 0..book.activities.len() as u32 {
         if some_link(book, a, b) {
-            after.push(b)?;
+            if row.get(found) != Some(&b) {
+                return false;
+            }
+            found = found.saturating_add(1);
         }
     }
-    Ok(after)
+    found == row.len()
 }
 
-fn all_before(alloc: Global, book: &Book, b: u32) -> Result<Vec<u32>, Memory>
+// The same of the activities from which some aircraft has a link to one.
+fn are_before(book: &Book, b: u32, row: &[u32]) -> bool
     requires { b < activities book.now }
 {
-    let mut before = Vec::new(alloc);
+    let mut found = 0usize;
     for a in 0..book.activities.len() as u32 {
         if some_link(book, a, b) {
-            before.push(a)?;
+            if row.get(found) != Some(&a) {
+                return false;
+            }
+            found = found.saturating_add(1);
         }
     }
-    Ok(before)
+    found == row.len()
 }
 
-// What an aircraft may fly first, by the rules.
-fn all_heads(alloc: Global, book: &Book, k: u32) -> Result<Vec<u32>, Memory>
+// The same of what an aircraft may fly first.
+fn are_first(book: &Book, k: u32, row: &[u32]) -> bool
     requires { k < aircraft book.now }
 {
-    let mut first = Vec::new(alloc);
+    let mut found = 0usize;
     for b in 0..book.activities.len() as u32 {
         if link(book, k, Place::Carry, b) {
-            first.push(b)?;
+            if row.get(found) != Some(&b) {
+                return false;
+            }
+            found = found.saturating_add(1);
         }
     }
-    Ok(first)
+    found == row.len()
 }
 
 // Each row is what the rules say of every number. Counts the links.
-fn compare(rt: &impl Abort, alloc: Global, book: &Book, net: &Net) -> Result<usize, Fail>
+fn compare(rt: &impl Abort, book: &Book, net: &Net) -> usize
     requires { net.now ≡ net_of book.now }
 {
     rows_for_each();
     let mut linked = 0usize;
     for x in 0..book.activities.len() as u32 {
-        let (after, before) = (net.successors(x), net.predecessors(x));
-        assert!(rt; after == all_after(alloc, book, x)?.as_slice(), "after {x}");
-        assert!(rt;
-            before == all_before(alloc, book, x)?.as_slice(),
-            "before {x}"
-        );
+        let after = net.successors(x);
+        assert!(rt; are_after(book, x, after), "after {x}");
+        assert!(rt; are_before(book, x, net.predecessors(x)), "before {x}");
         linked = linked.saturating_add(after.len());
     }
-    Ok(linked)
+    linked
 }
 
 // So are the rows of what each aircraft may fly first. Counts these.
-fn compare_heads(rt: &impl Abort, alloc: Global, book: &Book, net: &Net) -> Result<usize, Fail>
+fn compare_heads(rt: &impl Abort, book: &Book, net: &Net) -> usize
     requires { net.now ≡ net_of book.now }
 {
     rows_for_each();
     let mut heads = 0usize;
     for k in 0..book.tails.len() as u32 {
         let first = net.heads(k);
-        assert!(rt;
-            first == all_heads(alloc, book, k)?.as_slice(),
-            "heads of {k}"
-        );
+        assert!(rt; are_first(book, k, first), "heads of {k}");
         heads = heads.saturating_add(first.len());
     }
-    Ok(heads)
+    heads
 }
 
 // Both, over the network that is made of the book.
-fn compare_both(rt: &impl Abort, alloc: Global, book: &Book) -> Result<(usize, usize), Fail> {
+fn compare_both(rt: &impl Abort, alloc: Global, book: &Book) -> Result<(usize, usize), Memory> {
     let net = Net::new(alloc, book)?;
-    let linked = compare(rt, alloc, book, &net)?;
-    Ok((linked, compare_heads(rt, alloc, book, &net)?))
+    Ok((compare(rt, book, &net), compare_heads(rt, book, &net)))
 }
 
 fn compare_one(rt: &impl Abort, alloc: Global, seed: u64) -> Result<(usize, usize), Fail> {
     let book = book_by_chance(alloc, seed)?;
-    compare_both(rt, alloc, &book)
+    Ok(compare_both(rt, alloc, &book)?)
 }
 
 // Of 40 books with 1,800 pairs that could be linked, and 1,600 first flights.

@@ -3,7 +3,8 @@
 
 ghost use Rattle.std.specs.Prelude.{◌<◌};
 
-use super::{closed, made};
+use super::closed;
+use crate::tests::books::made;
 use branch_marks::Fact;
 use dice::Dice;
 use propagator::Closed;
