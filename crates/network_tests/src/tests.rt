@@ -4,5 +4,6 @@ mod books;
 mod floors;
 mod marks;
 mod networks;
+mod plain_facts;
 mod propagation;
 mod tree_logs;

@@ -7,20 +7,16 @@ ghost use Rattle.maint_counters.specs.inside.StepTable.{IsStepTableOf};
 ghost use Rattle.branch_marks.specs.inside.MarkTables.{AreMarksOf};
 ghost use Rattle.floor_rows.specs.inside.FloorRow.{IsRowOf};
 
-use super::books::made;
+use super::books::{ARN, Carried, Count, Leg, OSL, book};
 use branch_marks::{Fact, Marks};
 use connection_net::Net;
 use floor_rows::*;
 use maint_counters::StepTable;
-use small_books::{marks, named_flight, named_tail, names_in_order, rules};
+use small_books::marks;
 use std::alloc::Global;
 use std::test::Fail;
 use tail_book::laws::every_book_is_sound;
 use tail_book::*;
-
-const ARN: u32 = 0;
-
-const OSL: u32 = 1;
 
 // The activities: an hour to OSL, which clears the landings; half an hour to OSL at the same time; an hour back; 40
 // minutes to OSL again, an hour after that.
@@ -32,9 +28,6 @@ const BACK: u32 = 2;
 
 const AGAIN: u32 = 3;
 
-// An activity: its airports, its start and its end, and the counters that it sets to 0.
-type Leg = ((u32, u32), (i64, i64), &'static [u32]);
-
 const LEGS: &[Leg] = &[
     ((ARN, OSL), (360, 420), &[1]),
     ((ARN, OSL), (370, 400), &[]),
@@ -42,75 +35,16 @@ const LEGS: &[Leg] = &[
     ((ARN, OSL), (600, 640), &[]),
 ];
 
-fn legs() -> &'static [Leg] {
-    LEGS
-}
-
-fn flight(alloc: Global, id: Name, leg: &Leg) -> Result<Activity, Memory> {
-    let &(ports, time, resets) = leg;
-    let mut flight = named_flight(alloc, id, ports, time);
-    flight.resets.extend_from_slice(resets)?;
-    Ok(flight)
-}
-
-fn flights(alloc: Global) -> Result<Vec<Activity>, Memory> {
-    let mut flights = Vec::new(alloc);
-    for (name, leg) in names_in_order().iter().zip(legs()) {
-        flights.push(flight(alloc, *name, leg)?)?;
-    }
-    Ok(flights)
-}
-
-fn aircraft_at(alloc: Global, name: Name, at: u32, carry: &[i64]) -> Result<Tail, Memory> {
-    let mut tail = named_tail(alloc, name, 0, at, 0);
-    tail.carry.extend_from_slice(carry)?;
-    Ok(tail)
-}
-
 // One aircraft at ARN that has flown nothing, and one at OSL with 50 minutes and 3 landings.
-fn fleet(alloc: Global) -> Result<Vec<Tail>, Memory> {
-    let (a, b) = (Name::new(b"A".as_slice()), Name::new(b"B".as_slice()));
-    let mut tails = Vec::new(alloc);
-    tails.push(aircraft_at(alloc, a, ARN, &[0, 0])?)?;
-    tails.push(aircraft_at(alloc, b, OSL, &[50, 3])?)?;
-    Ok(tails)
-}
+const FLEET: &[Carried] = &[(ARN, &[0, 0]), (OSL, &[50, 3])];
 
-// Minutes flown up to a limit, between stops of so long at ARN.
-fn minutes(alloc: Global, limit: i64, stop: i64) -> Result<Counter, Memory> {
-    let bases = vec![in alloc; ARN]?;
-    Ok(Counter {
-        name: Name::new(b"minutes".as_slice()),
-        kind: CounterKind::Minutes,
-        limit,
-        bases,
-        stop,
-    })
-}
-
-// Landings, which no stop clears.
-fn landings(alloc: Global) -> Counter {
-    Counter {
-        name: Name::new(b"landings".as_slice()),
-        kind: CounterKind::Landings,
-        limit: 9,
-        bases: Vec::new(alloc),
-        stop: 60,
-    }
-}
-
-fn counters(alloc: Global, limit: i64, stop: i64) -> Result<Vec<Counter>, Memory> {
-    let mut counters = Vec::new(alloc);
-    counters.push(minutes(alloc, limit, stop)?)?;
-    counters.push(landings(alloc))?;
-    Ok(counters)
-}
-
-// The book with this limit of minutes, between stops of so long at ARN.
-fn book(alloc: Global, limit: i64, stop: i64) -> Result<Book, Fail> {
-    let rules = rules(alloc, 30, counters(alloc, limit, stop)?, Vec::new(alloc))?;
-    let fleet = fleet(alloc)?;
-    made(flights(alloc)?, fleet, rules)
+// The book with this limit of minutes, between stops of so long at ARN, and landings, which no stop clears.
+fn floor_book(alloc: Global, limit: i64, stop: i64) -> Result<Book, Fail> {
+    let counts: &[Count] = &[
+        (CounterKind::Minutes, limit, &[ARN], stop),
+        (CounterKind::Landings, 9, &[], 60),
+    ];
+    book(alloc, LEGS, FLEET, 30, counts)
 }
 
 // Room for the values of a floor.
@@ -319,7 +253,7 @@ type Row = (i64, i64, &'static [Fact], Question);
 
 fn is_right(alloc: Global, row: &Row) -> Result<bool, Fail> {
     let &(limit, stop, facts, question) = row;
-    let book = book(alloc, limit, stop)?;
+    let book = floor_book(alloc, limit, stop)?;
     Ok(answer_under(alloc, &book, facts, question)?)
 }
 

@@ -3,6 +3,7 @@
 ghost use Rattle.branch_marks.specs.inside.MarkTables.{AreMarksOf};
 
 use super::{book, is_place_of};
+use crate::tests::plain_facts::{let_end, let_fly, let_go};
 use branch_marks::{Fact, Marks};
 use dice::Dice;
 use small_books::marks;
@@ -28,75 +29,11 @@ fn facts(dice: &mut Dice, alloc: Global) -> Result<Vec<Fact>, Memory> {
     Ok(facts)
 }
 
-fn is_at(from: Place, a: u32) -> bool {
-    from == Place::After(a)
-}
-
-fn is_before(from: Place, a: u32) -> bool {
+fn let_fly_at(facts: &[Fact], k: u32, from: Place) -> bool {
     match from {
         Place::Carry => true,
-        Place::After(x) => x < a,
+        Place::After(x) => let_fly(facts, k, x),
     }
-}
-
-// What one fact says, as the definition has it.
-fn lets_fly(fact: &Fact, k: u32, a: u32) -> bool {
-    match *fact {
-        Fact::Bar(j, c) => j != k || c != a,
-        Fact::Must(j, c) => c != a || j == k,
-        _ => true,
-    }
-}
-
-fn lets_go(fact: &Fact, k: u32, from: Place, b: u32) -> bool {
-    match *fact {
-        Fact::Bar(_, _) => true,
-        Fact::Must(j, c) => j != k || !is_before(from, c) || b <= c,
-        Fact::Cut(c, d) => !is_at(from, c) || d != b,
-        Fact::Tie(c, d) => is_at(from, c) == (d == b),
-    }
-}
-
-fn lets_end(fact: &Fact, k: u32, from: Place) -> bool {
-    match *fact {
-        Fact::Must(j, c) => j != k || !is_before(from, c),
-        Fact::Tie(c, _) => !is_at(from, c),
-        _ => true,
-    }
-}
-
-fn walk_alive(may: bool, facts: &[Fact], k: u32, a: u32) -> bool {
-    for fact in facts {
-        if !lets_fly(fact, k, a) {
-            return false;
-        }
-    }
-    may
-}
-
-fn walk_go(linked: bool, facts: &[Fact], k: u32, from: Place, b: u32) -> bool {
-    for fact in facts {
-        if !lets_go(fact, k, from, b) {
-            return false;
-        }
-    }
-    linked
-}
-
-fn walk_alive_at(facts: &[Fact], k: u32, from: Place) -> bool {
-    match from {
-        Place::Carry => true,
-        Place::After(x) => walk_alive(true, facts, k, x),
-    }
-}
-
-fn walk_end(facts: &[Fact], k: u32, from: Place) -> bool {
-    for fact in facts {
-        if !lets_end(fact, k, from) {
-            return false;
-        }
-    }
-    true
 }
 
 // Whether the tables say of a link what the walk says, and whether it is usable; nothing where it is none of the book.
@@ -110,9 +47,11 @@ fn link_as_walked(book: &Book, marks: &Marks, link_of: (u32, Place, u32)) -> Opt
     if !is_place_of(book, from) {
         return None;
     }
-    let want = walk_go(link(book, k, from, b), marks.facts(), k, from, b)
-        && walk_alive_at(marks.facts(), k, from)
-        && walk_alive(true, marks.facts(), k, b);
+    let facts = marks.facts();
+    let want = link(book, k, from, b)
+        && let_go(facts, k, from, b)
+        && let_fly_at(facts, k, from)
+        && let_fly(facts, k, b);
     Some((marks.usable(book, k, from, b) == want, want))
 }
 
@@ -123,11 +62,9 @@ fn end_as_walked(book: &Book, marks: &Marks, k: u32, a: u32) -> Option<(bool, bo
     if k as usize >= book.tails.len() || a as usize >= book.activities.len() {
         return None;
     }
-    let (alive, place) = (
-        walk_alive(allowed(book, k, a), marks.facts(), k, a),
-        Place::After(a),
-    );
-    let ends = walk_end(marks.facts(), k, place);
+    let (facts, place) = (marks.facts(), Place::After(a));
+    let alive = allowed(book, k, a) && let_fly(facts, k, a);
+    let ends = let_end(facts, k, place);
     Some((
         marks.alive(book, k, a) == alive,
         marks.may_end(book, k, place) == ends,
@@ -141,7 +78,7 @@ fn carry_as_walked(book: &Book, marks: &Marks, k: u32) -> Option<bool>
     if k as usize >= book.tails.len() {
         return None;
     }
-    Some(marks.may_end(book, k, Place::Carry) == walk_end(marks.facts(), k, Place::Carry))
+    Some(marks.may_end(book, k, Place::Carry) == let_end(marks.facts(), k, Place::Carry))
 }
 
 // Marks, for an aircraft: whether all answers are as walked, and how many links are usable.

@@ -4,7 +4,8 @@
 ghost use Rattle.std.specs.Prelude.{◌<◌};
 
 use super::closed;
-use crate::tests::books::made;
+use crate::tests::books::{Count, counters, made};
+use crate::tests::plain_facts::{let_end, let_fly, let_go};
 use branch_marks::Fact;
 use dice::Dice;
 use propagator::Closed;
@@ -36,38 +37,29 @@ fn facts_by(alloc: Global, dice: &mut Dice) -> Result<Vec<Fact>, Memory> {
 
 // Minutes flown and landings, cleared by stops at ARN, and at both airports.
 fn two_counters(alloc: Global, dice: &mut Dice) -> Result<Vec<Counter>, Memory> {
-    let (hours, landings) = (
-        Name::new(b"hours".as_slice()),
-        Name::new(b"landings".as_slice()),
-    );
     let stop = 30 + dice.below(120) as i64;
     let (limit, most) = (120 + dice.below(60) as i64, 1 + dice.below(3) as i64);
-    let mut counters = Vec::new(alloc);
-    let rows: &[(Name, CounterKind, i64, &[u32], i64)] = &[
-        (hours, CounterKind::Minutes, limit, &[0], stop),
-        (landings, CounterKind::Landings, most, &[0, 1], 100),
+    let rows: &[Count] = &[
+        (CounterKind::Minutes, limit, &[0], stop),
+        (CounterKind::Landings, most, &[0, 1], 100),
     ];
-    for &(name, kind, limit, bases, stop) in rows {
-        counters.push(Counter {
-            name,
-            kind,
-            limit,
-            bases: Vec::from_slice(alloc, bases)?,
-            stop,
-        })?;
-    }
-    Ok(counters)
+    counters(alloc, rows)
+}
+
+// Puts an aircraft at one of two airports, with some minutes and maybe a landing.
+fn place_tail(tail: &mut Tail, dice: &mut Dice) -> Result<(), Memory> {
+    let (minutes, landings) = (dice.below(60) as i64, dice.below(2) as i64);
+    tail.carry.clear();
+    tail.carry.extend_from_slice(&[minutes, landings])?;
+    tail.at = dice.below(2);
+    Ok(())
 }
 
 // One to three aircraft.
 fn few_tails(alloc: Global, dice: &mut Dice) -> Result<Vec<Tail>, Memory> {
     let (mut fleet, many) = (tails(alloc, &[0, 0, 0], 2)?, 1 + dice.below(3) as usize);
-    for k in 0..3 {
-        let carry = vec![in alloc; dice.below(60) as i64, dice.below(2) as i64]?;
-        let at = dice.below(2);
-        if let Some(tail) = fleet.get_mut(k) {
-            (tail.at, tail.carry) = (at, carry);
-        }
+    for tail in fleet.iter_mut() {
+        place_tail(tail, dice)?;
     }
     fleet.truncate(many);
     Ok(fleet)
@@ -95,18 +87,30 @@ type Pair = (i64, i64);
 
 fn free(book: &Book, k: u32, from: Place) -> i64 {
     match from {
-        Place::Carry => book.tails.get(k as usize).map_or(0, |t| t.ready),
-        Place::After(x) => book.activities.get(x as usize).map_or(0, |a| a.end),
+        Place::Carry => match book.tails.get(k as usize) {
+            Some(tail) => tail.ready,
+            None => 0,
+        },
+        Place::After(x) => match book.activities.get(x as usize) {
+            Some(activity) => activity.end,
+            None => 0,
+        },
     }
 }
 
 fn carried(book: &Book, k: u32) -> Pair {
-    let carry = |c: usize| book
-        .tails
-        .get(k as usize)
-        .and_then(|t| t.carry.get(c))
-        .copied();
-    (carry(0).unwrap_or(0), carry(1).unwrap_or(0))
+    match book.tails.get(k as usize) {
+        Some(tail) => pair_of(&tail.carry),
+        None => (0, 0),
+    }
+}
+
+fn pair_of(values: &[i64]) -> Pair {
+    if values.len() == 2 {
+        (values[0], values[1])
+    } else {
+        (0, 0)
+    }
 }
 
 // What a counter is after an activity, and whether that is within its limit.
@@ -142,48 +146,11 @@ fn stepped(book: &Book, k: u32, from: Place, b: u32, values: Pair) -> Option<Pai
     }
 }
 
-fn is_before(from: Place, a: u32) -> bool {
-    match from {
-        Place::Carry => true,
-        Place::After(x) => x < a,
-    }
-}
-
-fn lets_fly(fact: &Fact, k: u32, a: u32) -> bool {
-    match *fact {
-        Fact::Bar(j, c) => j != k || c != a,
-        Fact::Must(j, c) => c != a || j == k,
-        _ => true,
-    }
-}
-
-fn lets_go(fact: &Fact, k: u32, from: Place, b: u32) -> bool {
-    match *fact {
-        Fact::Bar(_, _) => true,
-        Fact::Must(j, c) => j != k || !is_before(from, c) || b <= c,
-        Fact::Cut(c, d) => from != Place::After(c) || d != b,
-        Fact::Tie(c, d) => (from == Place::After(c)) == (d == b),
-    }
-}
-
-fn lets_end(fact: &Fact, k: u32, from: Place) -> bool {
-    match *fact {
-        Fact::Must(j, c) => j != k || !is_before(from, c),
-        Fact::Tie(c, _) => from != Place::After(c),
-        _ => true,
-    }
-}
-
 fn alive(book: &Book, facts: &[Fact], k: u32, a: u32) -> bool {
     if k as usize >= book.tails.len() || a as usize >= book.activities.len() {
         return false;
     }
-    for fact in facts {
-        if !lets_fly(fact, k, a) {
-            return false;
-        }
-    }
-    allowed(book, k, a)
+    let_fly(facts, k, a) && allowed(book, k, a)
 }
 
 fn linked(book: &Book, k: u32, from: Place, b: u32) -> bool {
@@ -198,25 +165,11 @@ fn linked(book: &Book, k: u32, from: Place, b: u32) -> bool {
 }
 
 fn usable(book: &Book, facts: &[Fact], k: u32, from: Place, b: u32) -> bool {
-    for fact in facts {
-        if !lets_go(fact, k, from, b) {
-            return false;
-        }
-    }
     let before = match from {
         Place::Carry => true,
         Place::After(x) => alive(book, facts, k, x),
     };
-    before && alive(book, facts, k, b) && linked(book, k, from, b)
-}
-
-fn may_end(facts: &[Fact], k: u32, from: Place) -> bool {
-    for fact in facts {
-        if !lets_end(fact, k, from) {
-            return false;
-        }
-    }
-    true
+    before && let_go(facts, k, from, b) && alive(book, facts, k, b) && linked(book, k, from, b)
 }
 
 // What a place brings to an activity.
@@ -244,23 +197,29 @@ fn least(one: Option<Pair>, other: Option<Pair>) -> Option<Pair> {
     }
 }
 
-fn floor_of(floors: &[Option<Pair>], a: u32) -> Option<Pair> {
+// The floors of an aircraft at each activity.
+type Floors = [Option<Pair>; 6];
+
+fn floor_in(floors: &Floors, a: u32) -> Option<Pair> {
     floors.get(a as usize).copied().flatten()
 }
 
-fn floors(alloc: Global, book: &Book, facts: &[Fact], k: u32) -> Result<Vec<Option<Pair>>, Memory> {
-    let mut floors = Vec::new(alloc);
-    for b in 0..6 {
-        let mut floor = brought(book, facts, k, Place::Carry, b, Some(carried(book, k)));
-        for x in 0..b {
-            floor = least(
-                floor,
-                brought(book, facts, k, Place::After(x), b, floor_of(&floors, x)),
-            );
-        }
-        floors.push(floor)?;
+// The floor at an activity, by those at the activities before it.
+fn floor_at(book: &Book, facts: &[Fact], k: u32, b: u32, floors: &Floors) -> Option<Pair> {
+    let mut floor = brought(book, facts, k, Place::Carry, b, Some(carried(book, k)));
+    for x in 0..b {
+        let one = brought(book, facts, k, Place::After(x), b, floor_in(floors, x));
+        floor = least(floor, one);
     }
-    Ok(floors)
+    floor
+}
+
+fn floor(book: &Book, facts: &[Fact], k: u32, a: u32) -> Option<Pair> {
+    let mut floors = [None; 6];
+    for b in 0..6 {
+        floors[b] = floor_at(book, facts, k, b as u32, &floors);
+    }
+    floor_in(&floors, a)
 }
 
 fn goes_on(book: &Book, facts: &[Fact], k: u32, a: u32, floor: Option<Pair>) -> bool {
@@ -273,10 +232,12 @@ fn goes_on(book: &Book, facts: &[Fact], k: u32, a: u32, floor: Option<Pair>) -> 
 }
 
 // Dead on arrival, or a dead end.
-fn is_dead(alloc: Global, book: &Book, facts: &[Fact], k: u32, a: u32) -> Result<bool, Memory> {
-    let floor = floor_of(&floors(alloc, book, facts, k)?, a);
-    let stuck = !may_end(facts, k, Place::After(a)) && !goes_on(book, facts, k, a, floor);
-    Ok(alive(book, facts, k, a) && (floor.is_none() || stuck))
+fn is_dead(book: &Book, facts: &[Fact], k: u32, a: u32) -> bool {
+    if !alive(book, facts, k, a) {
+        return false;
+    }
+    let floor = floor(book, facts, k, a);
+    floor.is_none() || (!let_end(facts, k, Place::After(a)) && !goes_on(book, facts, k, a, floor))
 }
 
 fn is_only_carrier(book: &Book, facts: &[Fact], k: u32, a: u32) -> bool {
@@ -288,78 +249,85 @@ fn is_only_carrier(book: &Book, facts: &[Fact], k: u32, a: u32) -> bool {
     alive(book, facts, k, a)
 }
 
-fn is_dead_connection(
-    alloc: Global,
-    book: &Book,
-    facts: &[Fact],
-    a: u32,
-    b: u32,
-) -> Result<bool, Memory> {
+fn is_dead_connection(book: &Book, facts: &[Fact], a: u32, b: u32) -> bool {
     let mut used = false;
     for k in 0..3 {
         if usable(book, facts, k, Place::After(a), b) {
-            let floor = floor_of(&floors(alloc, book, facts, k)?, a);
+            let floor = floor(book, facts, k, a);
             if brought(book, facts, k, Place::After(a), b, floor).is_some() {
-                return Ok(false);
+                return false;
             }
             used = true;
         }
     }
-    Ok(used && !facts.contains(&Fact::Cut(a, b)))
+    used && !facts.contains(&Fact::Cut(a, b))
 }
 
-fn follows(alloc: Global, book: &Book, facts: &[Fact], fact: Fact) -> Result<bool, Memory> {
+fn follows(book: &Book, facts: &[Fact], fact: Fact) -> bool {
     match fact {
-        Fact::Bar(k, a) => is_dead(alloc, book, facts, k, a),
-        Fact::Must(k, a) => Ok(is_only_carrier(book, facts, k, a)),
-        Fact::Cut(a, b) => is_dead_connection(alloc, book, facts, a, b),
-        Fact::Tie(_, _) => Ok(false),
+        Fact::Bar(k, a) => is_dead(book, facts, k, a),
+        Fact::Must(k, a) => is_only_carrier(book, facts, k, a),
+        Fact::Cut(a, b) => is_dead_connection(book, facts, a, b),
+        Fact::Tie(_, _) => false,
     }
 }
 
 // Whether something is dead for some aircraft.
-fn is_any_dead(alloc: Global, book: &Book, facts: &[Fact]) -> Result<bool, Memory> {
+fn is_any_dead(book: &Book, facts: &[Fact]) -> bool {
     for k in 0..3 {
         for a in 0..6 {
-            if is_dead(alloc, book, facts, k, a)? {
-                return Ok(true);
+            if is_dead(book, facts, k, a) {
+                return true;
             }
         }
     }
-    Ok(false)
+    false
+}
+
+// Whether a carrier or a dead connection follows at an activity.
+fn is_open_at(book: &Book, facts: &[Fact], a: u32) -> bool {
+    for k in 0..3 {
+        if is_only_carrier(book, facts, k, a) {
+            return true;
+        }
+    }
+    for b in 0..6 {
+        if is_dead_connection(book, facts, a, b) {
+            return true;
+        }
+    }
+    false
 }
 
 // Whether anything follows at all.
-fn is_open(alloc: Global, book: &Book, facts: &[Fact]) -> Result<bool, Memory> {
+fn is_open(book: &Book, facts: &[Fact]) -> bool {
     for a in 0..6 {
-        for k in 0..3 {
-            if is_only_carrier(book, facts, k, a) {
-                return Ok(true);
-            }
-        }
-        for b in 0..6 {
-            if is_dead_connection(alloc, book, facts, a, b)? {
-                return Ok(true);
-            }
+        if is_open_at(book, facts, a) {
+            return true;
         }
     }
-    is_any_dead(alloc, book, facts)
+    is_any_dead(book, facts)
 }
 
-// Whether the facts follow one after the other, those about all aircraft only where nothing is dead, and nothing is left.
+// Whether a fact follows in its turn: those about all aircraft only where nothing is dead, and none twice.
+fn follows_now(book: &Book, facts: &[Fact], fact: Fact) -> bool {
+    let waits = match fact {
+        Fact::Bar(_, _) => false,
+        _ => is_any_dead(book, facts),
+    };
+    !waits && !facts.contains(&fact) && follows(book, facts, fact)
+}
+
+// Whether the facts follow one after the other in their turns, and nothing is left.
 fn is_closed(alloc: Global, book: &Book, facts: &[Fact], added: &[Fact]) -> Result<bool, Memory> {
     let mut so_far = Vec::from_slice(alloc, facts)?;
     for fact in added {
-        let waits = match *fact {
-            Fact::Bar(_, _) => true,
-            _ => !is_any_dead(alloc, book, &so_far)?,
-        };
-        if !waits || so_far.contains(fact) || !follows(alloc, book, &so_far, *fact)? {
+        if !follows_now(book, &so_far, *fact) {
             return Ok(false);
         }
         so_far.push(*fact)?;
     }
-    Ok(!is_open(alloc, book, &so_far)?)
+    Ok(!is_open(book, &so_far))
 }
 
 // The least activity that nobody may fly.
@@ -518,7 +486,7 @@ impl Seen {
 
 // What is found of a book: whether each fact that was added followed in its turn and none is left, whether each legal plan
 // that keeps the marks keeps these facts, and whether the answer is right.
-#[derive(Debug, PartialEq, Drop)]
+#[derive(PartialEq, Drop)]
 struct Judged {
     follow: bool,
     keep: bool,
@@ -534,9 +502,7 @@ const RIGHT: Judged = Judged {
 // The facts of two lists.
 fn both(alloc: Global, facts: &[Fact], added: &[Fact]) -> Result<Vec<Fact>, Memory> {
     let mut all = Vec::from_slice(alloc, facts)?;
-    for fact in added {
-        all.push(*fact)?;
-    }
+    all.extend_from_slice(added)?;
     Ok(all)
 }
 
@@ -565,9 +531,21 @@ fn judge_closed(
     book: &Book,
     facts: &[Fact],
     seen: &mut Seen,
-) -> Result<Judged, Fail> {
-    let (added, answer) = closed(alloc, book, facts)?;
-    Ok(judge(alloc, book, facts, &added, answer, seen)?)
+) -> Result<Judged, Memory> {
+    let mut added = Vec::new(alloc);
+    let answer = closed(alloc, book, facts, &mut added)?;
+    judge(alloc, book, facts, &added, answer, seen)
+}
+
+// The same of those of these facts that are of the book.
+fn judge_facts(
+    alloc: Global,
+    book: &Book,
+    facts: &[Fact],
+    seen: &mut Seen,
+) -> Result<Judged, Memory> {
+    let facts = of_book(alloc, book, facts)?;
+    judge_closed(alloc, book, &facts, seen)
 }
 
 fn judge_next(
@@ -575,15 +553,14 @@ fn judge_next(
     book: &Book,
     dice: &mut Dice,
     seen: &mut Seen,
-) -> Result<Judged, Fail> {
+) -> Result<Judged, Memory> {
     let facts = facts_by(alloc, dice)?;
-    let facts = of_book(alloc, book, &facts)?;
-    judge_closed(alloc, book, &facts, seen)
+    judge_facts(alloc, book, &facts, seen)
 }
 
 fn judge_by_chance(alloc: Global, dice: &mut Dice, seen: &mut Seen) -> Result<Judged, Fail> {
     let book = book_by_chance(alloc, dice)?;
-    judge_next(alloc, &book, dice, seen)
+    Ok(judge_next(alloc, &book, dice, seen)?)
 }
 
 // 300 books with up to three facts. Each kind of fact is added often, there are plans to be lost, and both answers come.
