@@ -1,6 +1,6 @@
 //! Small books, and plans that break their rules.
 
-mod books;
+ghost use Rattle.tail_book.specs.CostTable.{IsTableFor};
 
 use crate::tests::books::has_routes;
 use books::*;
@@ -10,309 +10,359 @@ use std::test::Fail;
 use tail_book::laws::own_costs_are_for_book;
 use tail_book::*;
 
-// The cost that an audit tells, if it tells one.
-fn cost_of(alloc: Global, book: &Book, text: &[u8]) -> Result<Option<u64>, Memory> {
-    let plan = plan(alloc, text)?;
-    match audit(alloc, book, &plan)? {
-        Audit::Legal(cost) => Ok(Some(cost)),
-        Audit::Broken(_) => Ok(None),
+mod books;
+
+// A broken rule, with the names that are unknown or repeated as they are spelled.
+#[derive(Clone, Copy)]
+enum Told {
+    Unknown(&'static [u8; 2]),
+    Twice(&'static [u8; 2]),
+    Uncovered(u32),
+    NotAllowed(u32, u32),
+    Curfew(u32, u32),
+    NoLink(u32, u32),
+    Counter(u32, u32, u32),
+}
+
+// What is told of a plan: what it costs, which rules it breaks, or which routes are left of it.
+#[derive(Clone, Copy)]
+enum Want {
+    Cost(u64),
+    Broken(&'static [Told]),
+    Kept(&'static [&'static [u32]]),
+}
+
+// A book, the text of a plan, and what is told of it.
+type Row = (Made, &'static str, Want);
+
+fn rule_of(told: Told) -> Broken {
+    match told {
+        Told::Unknown(id) => Broken::Unknown(name(id)),
+        Told::Twice(id) => Broken::Twice(name(id)),
+        Told::Uncovered(a) => Broken::Uncovered(a),
+        Told::NotAllowed(k, a) => Broken::NotAllowed(k, a),
+        Told::Curfew(k, a) => Broken::Curfew(k, a),
+        Told::NoLink(k, a) => Broken::NoLink(k, a),
+        Told::Counter(k, a, c) => Broken::Counter(k, a, c),
+    }
+}
+
+fn are_told(rules: &[Broken], told: &[Told]) -> bool {
+    for (rule, want) in rules.iter().zip(told) {
+        if *rule != rule_of(*want) {
+            return false;
+        }
+    }
+    rules.len() == told.len()
+}
+
+// Whether an audit tells this cost.
+fn costs(alloc: Global, book: &Book, plan: &RawPlan, cost: u64) -> bool {
+    match audit(alloc, book, plan) {
+        Ok(Audit::Legal(told)) => told == cost,
+        _ => false,
     }
 }
 
 // Whether an audit tells these broken rules.
-fn is_broken(alloc: Global, book: &Book, text: &[u8], want: &[Broken]) -> Result<bool, Memory> {
-    let plan = plan(alloc, text)?;
-    match audit(alloc, book, &plan)? {
-        Audit::Legal(_) => Ok(false),
-        Audit::Broken(list) => Ok(list.as_slice() == want),
+fn is_broken(alloc: Global, book: &Book, plan: &RawPlan, told: &[Told]) -> bool {
+    match audit(alloc, book, plan) {
+        Ok(Audit::Broken(rules)) => are_told(&rules, told),
+        _ => false,
     }
 }
 
 // Whether these routes are left of a plan.
-fn is_kept(alloc: Global, book: &Book, text: &[u8], want: &[&[u32]]) -> Result<bool, Memory> {
-    let read = plan(alloc, text)?;
-    let found = kept(alloc, book, &read)?;
-    Ok(has_routes(&found, want))
+fn is_kept(alloc: Global, book: &Book, plan: &RawPlan, routes: &[&[u32]]) -> bool {
+    match kept(alloc, book, plan) {
+        Ok(found) => has_routes(&found, routes),
+        Err(_) => false,
+    }
+}
+
+fn is_so(alloc: Global, book: &Book, plan: &RawPlan, want: Want) -> bool {
+    match want {
+        Want::Cost(cost) => costs(alloc, book, plan, cost),
+        Want::Broken(told) => is_broken(alloc, book, plan, told),
+        Want::Kept(routes) => is_kept(alloc, book, plan, routes),
+    }
+}
+
+fn is_judged(alloc: Global, book: &Book, text: &[u8], want: Want) -> bool {
+    match plan(alloc, text) {
+        Ok(read) => is_so(alloc, book, &read, want),
+        Err(_) => false,
+    }
+}
+
+fn is_right(alloc: Global, row: &Row) -> Result<bool, Fail> {
+    let &(made, text, want) = row;
+    let book = book_of(alloc, made)?;
+    Ok(is_judged(alloc, &book, text.as_bytes(), want))
 }
 
 // There and back, with the gap of exactly the turn.
-fn two_flights(alloc: Global) -> Result<Book, Fail> {
-    let there = flight(b"F1", ARN, OSL, 360, 420);
-    flights(alloc, &[there, flight(b"F2", OSL, ARN, 450, 510)])
-}
+const TWO_FLIGHTS: Made = (CounterKind::Minutes, BOTH, &[THERE, BACK]);
 
 // Two flights at the same time, of an hour and of two.
-fn two_at_once(alloc: Global) -> Result<Book, Fail> {
-    let short = flight(b"F1", ARN, OSL, 360, 420);
-    flights(alloc, &[short, flight(b"F2", ARN, OSL, 360, 480)])
-}
+const TWO_AT_ONCE: Made = (
+    CounterKind::Minutes,
+    BOTH,
+    &[THERE, (b"F2", (Task::Flight, (ARN, OSL), (360, 480)))],
+);
 
-// One aircraft flies both, the dearer one flies both and stands first, and two fly at once either way round.
-#[test]
-fn legal_plans(rt: HostRuntime) -> Result<(), Fail> {
-    let alloc = rt.alloc();
-    let two = two_flights(alloc)?;
-    for &(text, want) in &[
-        (b"A1:F1 F2 ".as_slice(), 120),
-        (b"A2:F1 F2 A1:".as_slice(), 240),
-    ] {
-        assert!(rt; cost_of(alloc, &two, text)? == Some(want), "{text:?}");
-    }
-    let pair = two_at_once(alloc)?;
-    for &(text, want) in &[
-        (b"A1:F2 A2:F1 ".as_slice(), 240),
-        (b"A2:F2 A1:F1 ".as_slice(), 300),
-    ] {
-        assert!(rt; cost_of(alloc, &pair, text)? == Some(want), "{text:?}");
-    }
-    Ok(())
-}
-
-// A route backwards; an id that is unknown and one that is repeated; no line; an aircraft that is unknown and one that
-// is repeated, each with an id that is not met; an id unknown twice; an id known twice more.
-#[test]
-fn names_of_two_flights(rt: HostRuntime) -> Result<(), Fail> {
-    let alloc = rt.alloc();
-    let book = two_flights(alloc)?;
-    let (a1, b7, f1, f9) = (name(b"A1"), name(b"B7"), name(b"F1"), name(b"F9"));
-    for &(text, want) in &[
-        (
-            b"A1:F2 F1 ".as_slice(),
-            [Broken::NoLink(0, 1), Broken::NoLink(0, 0)].as_slice(),
-        ),
-        (
-            b"A1:F1 F9 F1 ".as_slice(),
-            [Broken::Unknown(f9), Broken::Twice(f1), Broken::Uncovered(1)].as_slice(),
-        ),
-        (
-            b"".as_slice(),
-            [Broken::Uncovered(0), Broken::Uncovered(1)].as_slice(),
-        ),
-        (
-            b"B7:F9 A1:F1 A1:F2 ".as_slice(),
-            [Broken::Unknown(b7), Broken::Twice(a1), Broken::Uncovered(1)].as_slice(),
-        ),
-        (
-            b"A1:F9 F1 F9 F2 ".as_slice(),
-            [Broken::Unknown(f9), Broken::Unknown(f9)].as_slice(),
-        ),
-        (
-            b"A1:F1 F2 A2:F1 F1 ".as_slice(),
-            [Broken::Twice(f1), Broken::Twice(f1)].as_slice(),
-        ),
-    ] {
-        assert!(rt; is_broken(alloc, &book, text, want)?, "{text:?}");
-    }
-    Ok(())
-}
-
-// The routes that are left of the same kinds of plans, legal or not: each aircraft has one, in the book's order.
-#[test]
-fn kept_plans(rt: HostRuntime) -> Result<(), Fail> {
-    let alloc = rt.alloc();
-    let book = two_flights(alloc)?;
-    let rows: &[(&[u8], &[&[u32]])] = &[
-        (b"A1:F1 F2 ", &[&[0, 1], &[]]),
-        (b"A2:F2 F1 A1:", &[&[], &[1, 0]]),
-        (b"A2:F1 A1:F2 ", &[&[1], &[0]]),
-        (b"A1:F1 F9 F1 F2 ", &[&[0, 1], &[]]),
-        (b"B7:F2 A1:F1 A1:F2 ", &[&[0], &[]]),
-        (b"A1:F2 A2:F1 F2 ", &[&[1], &[0]]),
-        (b"", &[&[], &[]]),
-    ];
-    for &(text, want) in rows {
-        assert!(rt; is_kept(alloc, &book, text, want)?, "{text:?}");
-    }
-    Ok(())
-}
-
-// FA is for A2 alone, and FB for A1: the lines come in the order of the plan's.
-#[test]
-fn lines_in_reading_order(rt: HostRuntime) -> Result<(), Fail> {
-    let alloc = rt.alloc();
-    let legs = [
-        Leg {
-            tail: Some(1),
-            ..flight(b"FA", ARN, OSL, 360, 420)
-        },
-        Leg {
-            tail: Some(0),
-            ..flight(b"FB", ARN, OSL, 360, 420)
-        },
-    ];
-    let book = flights(alloc, &legs)?;
-    let (first, second) = (Broken::NotAllowed(0, 0), Broken::NotAllowed(1, 1));
-    for &(text, want) in &[
-        (b"A1:FA A2:FB ".as_slice(), [first, second].as_slice()),
-        (b"A2:FB A1:FA ".as_slice(), [second, first].as_slice()),
-    ] {
-        assert!(rt; is_broken(alloc, &book, text, want)?, "{text:?}");
-    }
-    Ok(())
-}
-
-// Whether the first aircraft may not fly an activity that is called F1, and the second may, for 120.
-fn is_for_the_second(alloc: Global, leg: Leg, rows: [TailRow; 2]) -> Result<bool, Fail> {
-    let rules = rules(alloc, CounterKind::Minutes, 120)?;
-    let book = book(alloc, rules, rows, &[leg])?;
-    let want = [Broken::NotAllowed(0, 0)];
-    let is_kept = is_broken(alloc, &book, b"A1:F1 ".as_slice(), want.as_slice())?;
-    let cost = cost_of(alloc, &book, b"A2:F1 ".as_slice())?;
-    Ok(is_kept && cost == Some(120))
-}
+// FA is for A2 alone, and FB for A1.
+const CROSSED: Made = (
+    CounterKind::Minutes,
+    BOTH,
+    &[
+        (b"FA", (Task::FlightOf(1), (ARN, OSL), (360, 420))),
+        (b"FB", (Task::FlightOf(0), (ARN, OSL), (360, 420))),
+    ],
+);
 
 // A type, a tag, and an airport avoided at either end keep the first aircraft from a flight that the second may fly.
-#[test]
-fn only_the_second_aircraft_may(rt: HostRuntime) -> Result<(), Fail> {
-    let alloc = rt.alloc();
-    let leg = flight(b"F1", ARN, OSL, 360, 420);
-    let (p, q) = (aircraft(P, ARN), aircraft(Q, ARN));
-    let typed = Leg {
-        kind: Some(Q),
-        ..leg
-    };
-    let tagged = Leg {
-        tag: Some(7),
-        ..leg
-    };
-    let able = TailRow { tag: Some(7), ..q };
-    let leaves_not = TailRow {
-        avoid: Some(ARN),
-        ..p
-    };
-    let lands_not = TailRow {
-        avoid: Some(OSL),
-        ..p
-    };
-    for &(leg, rows) in &[
-        (typed, [p, q]),
-        (tagged, [p, able]),
-        (leg, [leaves_not, q]),
-        (leg, [lands_not, q]),
-    ] {
-        assert!(rt; is_for_the_second(alloc, leg, rows)?);
-    }
-    Ok(())
-}
+const OF_A_TYPE: Made = (
+    CounterKind::Minutes,
+    BOTH,
+    &[(b"F1", (Task::FlightOfType(Q), (ARN, OSL), (360, 420)))],
+);
 
-// A counter that is past its limit twice: a minute less than the stop at ARN does not clear it.
-#[test]
-fn a_counter_twice(rt: HostRuntime) -> Result<(), Fail> {
-    let alloc = rt.alloc();
-    let legs = [
-        flight(b"F1", ARN, OSL, 360, 420),
-        flight(b"F2", OSL, ARN, 450, 510),
-        flight(b"F3", ARN, OSL, 569, 629),
-        flight(b"F4", OSL, ARN, 660, 720),
-    ];
-    let book = flights(alloc, &legs)?;
-    let want = [Broken::Counter(0, 2, 0), Broken::Counter(0, 3, 0)];
-    assert!(rt; is_broken(alloc, &book, b"A1:F1 F2 F3 F4 ".as_slice(), want.as_slice())?);
-    Ok(())
-}
+const OF_A_TAG: Made = (
+    CounterKind::Minutes,
+    &[CHEAP, TailRow { tags: &[7], ..DEAR }],
+    &[(b"F1", (Task::FlightOfTag(7), (ARN, OSL), (360, 420)))],
+);
 
-// Days along a route that runs backwards: 0 at the check's end at 5,000, then less than 0 after a flight that ends at
-// 420, and from there the day is over a minute past 6,440.
-#[test]
-fn days_below_zero(rt: HostRuntime) -> Result<(), Fail> {
-    let alloc = rt.alloc();
-    let (backwards, past) = (Broken::NoLink(0, 0), Broken::Counter(0, 2, 0));
-    for &(end, want) in &[
-        (6440, [backwards].as_slice()),
-        (6441, [backwards, past].as_slice()),
-    ] {
-        let book = days_until(alloc, end)?;
-        assert!(rt;
-            is_broken(alloc, &book, b"A1:C1 F1 F2 ".as_slice(), want)?,
-            "{end}"
-        );
-    }
-    Ok(())
-}
+const START_AVOIDED: Made = (
+    CounterKind::Minutes,
+    &[
+        TailRow {
+            avoid: &[ARN],
+            ..CHEAP
+        },
+        DEAR,
+    ],
+    &[THERE],
+);
 
-// A day between checks, of which one ends at 5,000, and the last flight ends at this minute.
-fn days_until(alloc: Global, end: u16) -> Result<Book, Fail> {
-    let end = end as i64;
-    let legs = [
-        flight(b"F1", ARN, OSL, 360, 420),
-        check(b"C1", 4940, 5000),
-        flight(b"F2", OSL, ARN, end - 60, end),
-    ];
-    let rules = rules(alloc, CounterKind::Days, 1440)?;
-    book(alloc, rules, [aircraft(P, ARN), aircraft(Q, ARN)], &legs)
-}
+const END_AVOIDED: Made = (
+    CounterKind::Minutes,
+    &[
+        TailRow {
+            avoid: &[OSL],
+            ..CHEAP
+        },
+        DEAR,
+    ],
+    &[THERE],
+);
+
+// The stop at ARN is a minute too short to clear the counter.
+const SHORT_STOP: Made = (
+    CounterKind::Minutes,
+    BOTH,
+    &[
+        THERE,
+        BACK,
+        (b"F3", (Task::Flight, (ARN, OSL), (569, 629))),
+        (b"F4", (Task::Flight, (OSL, ARN), (660, 720))),
+    ],
+);
+
+// A day between checks, of which one ends at 5,000, and the last flight ends a day later, or a minute more.
+const A_DAY_LATER: Made = (
+    CounterKind::Days,
+    BOTH,
+    &[
+        THERE,
+        CHECK,
+        (b"F2", (Task::Flight, (OSL, ARN), (6380, 6440))),
+    ],
+);
+
+const A_MINUTE_MORE: Made = (
+    CounterKind::Days,
+    BOTH,
+    &[
+        THERE,
+        CHECK,
+        (b"F2", (Task::Flight, (OSL, ARN), (6381, 6441))),
+    ],
+);
 
 // A landing at ARN at the minute at which the curfew begins.
-#[test]
-fn a_curfew(rt: HostRuntime) -> Result<(), Fail> {
-    let alloc = rt.alloc();
-    let rules = rules(alloc, CounterKind::Minutes, 120)?;
-    let rows = [aircraft(P, OSL), aircraft(Q, OSL)];
-    let book = book(alloc, rules, rows, &[flight(b"F1", OSL, ARN, 1260, 1320)])?;
-    let want = [Broken::Curfew(0, 0)];
-    assert!(rt; is_broken(alloc, &book, b"A1:F1 ".as_slice(), want.as_slice())?);
-    Ok(())
+const LATE_LANDING: Made = (
+    CounterKind::Minutes,
+    &[TailRow { at: OSL, ..CHEAP }, TailRow { at: OSL, ..DEAR }],
+    &[(b"F1", (Task::Flight, (OSL, ARN), (1260, 1320)))],
+);
+
+// FA is for A2 alone, FC leaves ten minutes behind FB, FD lands in the curfew, and FE goes on.
+const EVERY_RULE: Made = (
+    CounterKind::Minutes,
+    BOTH,
+    &[
+        (b"FA", (Task::FlightOf(1), (ARN, OSL), (360, 420))),
+        (b"FB", (Task::Flight, (OSL, ARN), (450, 510))),
+        (b"FC", (Task::Flight, (ARN, OSL), (520, 580))),
+        (b"FD", (Task::Flight, (OSL, ARN), (1260, 1320))),
+        (b"FE", (Task::Flight, (ARN, OSL), (1380, 1439))),
+    ],
+);
+
+const ROWS: &[Row] = &[
+    // One aircraft flies both, the dearer one flies both and stands first, and two fly at once either way round.
+    (TWO_FLIGHTS, "A1:F1 F2 ", Want::Cost(120)),
+    (TWO_FLIGHTS, "A2:F1 F2 A1:", Want::Cost(240)),
+    (TWO_AT_ONCE, "A1:F2 A2:F1 ", Want::Cost(240)),
+    (TWO_AT_ONCE, "A2:F2 A1:F1 ", Want::Cost(300)),
+    // A route backwards; an id that is unknown and one that is repeated; no line; an aircraft that is unknown and one that
+    // is repeated, each with an id that is not met; an id unknown twice; an id known twice more.
+    (
+        TWO_FLIGHTS,
+        "A1:F2 F1 ",
+        Want::Broken(&[Told::NoLink(0, 1), Told::NoLink(0, 0)]),
+    ),
+    (
+        TWO_FLIGHTS,
+        "A1:F1 F9 F1 ",
+        Want::Broken(&[Told::Unknown(b"F9"), Told::Twice(b"F1"), Told::Uncovered(1)]),
+    ),
+    (
+        TWO_FLIGHTS,
+        "",
+        Want::Broken(&[Told::Uncovered(0), Told::Uncovered(1)]),
+    ),
+    (
+        TWO_FLIGHTS,
+        "B7:F9 A1:F1 A1:F2 ",
+        Want::Broken(&[Told::Unknown(b"B7"), Told::Twice(b"A1"), Told::Uncovered(1)]),
+    ),
+    (
+        TWO_FLIGHTS,
+        "A1:F9 F1 F9 F2 ",
+        Want::Broken(&[Told::Unknown(b"F9"), Told::Unknown(b"F9")]),
+    ),
+    (
+        TWO_FLIGHTS,
+        "A1:F1 F2 A2:F1 F1 ",
+        Want::Broken(&[Told::Twice(b"F1"), Told::Twice(b"F1")]),
+    ),
+    // The routes that are left of the same kinds of plans, legal or not: each aircraft has one, in the book's order.
+    (TWO_FLIGHTS, "A1:F1 F2 ", Want::Kept(&[&[0, 1], &[]])),
+    (TWO_FLIGHTS, "A2:F2 F1 A1:", Want::Kept(&[&[], &[1, 0]])),
+    (TWO_FLIGHTS, "A2:F1 A1:F2 ", Want::Kept(&[&[1], &[0]])),
+    (TWO_FLIGHTS, "A1:F1 F9 F1 F2 ", Want::Kept(&[&[0, 1], &[]])),
+    (TWO_FLIGHTS, "B7:F2 A1:F1 A1:F2 ", Want::Kept(&[&[0], &[]])),
+    (TWO_FLIGHTS, "A1:F2 A2:F1 F2 ", Want::Kept(&[&[1], &[0]])),
+    (TWO_FLIGHTS, "", Want::Kept(&[&[], &[]])),
+    // The lines come in the order of the plan's.
+    (
+        CROSSED,
+        "A1:FA A2:FB ",
+        Want::Broken(&[Told::NotAllowed(0, 0), Told::NotAllowed(1, 1)]),
+    ),
+    (
+        CROSSED,
+        "A2:FB A1:FA ",
+        Want::Broken(&[Told::NotAllowed(1, 1), Told::NotAllowed(0, 0)]),
+    ),
+    // The first aircraft may not, and the second may, for 120.
+    (OF_A_TYPE, "A1:F1 ", Want::Broken(&[Told::NotAllowed(0, 0)])),
+    (OF_A_TYPE, "A2:F1 ", Want::Cost(120)),
+    (OF_A_TAG, "A1:F1 ", Want::Broken(&[Told::NotAllowed(0, 0)])),
+    (OF_A_TAG, "A2:F1 ", Want::Cost(120)),
+    (
+        START_AVOIDED,
+        "A1:F1 ",
+        Want::Broken(&[Told::NotAllowed(0, 0)]),
+    ),
+    (START_AVOIDED, "A2:F1 ", Want::Cost(120)),
+    (
+        END_AVOIDED,
+        "A1:F1 ",
+        Want::Broken(&[Told::NotAllowed(0, 0)]),
+    ),
+    (END_AVOIDED, "A2:F1 ", Want::Cost(120)),
+    // A counter that is past its limit twice.
+    (
+        SHORT_STOP,
+        "A1:F1 F2 F3 F4 ",
+        Want::Broken(&[Told::Counter(0, 2, 0), Told::Counter(0, 3, 0)]),
+    ),
+    // Days along a route that runs backwards: 0 at the check's end at 5,000, then less than 0 after a flight that ends at
+    // 420, and from there the day is over a minute past 6,440.
+    (
+        A_DAY_LATER,
+        "A1:C1 F1 F2 ",
+        Want::Broken(&[Told::NoLink(0, 0)]),
+    ),
+    (
+        A_MINUTE_MORE,
+        "A1:C1 F1 F2 ",
+        Want::Broken(&[Told::NoLink(0, 0), Told::Counter(0, 2, 0)]),
+    ),
+    (LATE_LANDING, "A1:F1 ", Want::Broken(&[Told::Curfew(0, 0)])),
+    // Each kind of rule at once, in the order of the rules.
+    (
+        EVERY_RULE,
+        "A1:FA X9 FB FC FA FD B7:FE A1:FE ",
+        Want::Broken(&[
+            Told::Unknown(b"X9"),
+            Told::Unknown(b"B7"),
+            Told::Twice(b"FA"),
+            Told::Twice(b"A1"),
+            Told::Uncovered(4),
+            Told::NotAllowed(0, 0),
+            Told::Curfew(0, 3),
+            Told::NoLink(0, 2),
+            Told::Counter(0, 2, 0),
+            Told::Counter(0, 3, 0),
+        ]),
+    ),
+];
+
+fn rows() -> &'static [Row] {
+    ROWS
 }
 
-// Each kind of rule at once, in the order of the rules: FA is for A2 alone, FC leaves ten minutes behind FB, FD lands in
-// the curfew, and FE goes on.
 #[test]
-fn every_rule_at_once(rt: HostRuntime) -> Result<(), Fail> {
-    let alloc = rt.alloc();
-    let legs = [
-        Leg {
-            tail: Some(1),
-            ..flight(b"FA", ARN, OSL, 360, 420)
-        },
-        flight(b"FB", OSL, ARN, 450, 510),
-        flight(b"FC", ARN, OSL, 520, 580),
-        flight(b"FD", OSL, ARN, 1260, 1320),
-        flight(b"FE", ARN, OSL, 1380, 1439),
-    ];
-    let book = flights(alloc, &legs)?;
-    let (a1, b7, fa, x9) = (name(b"A1"), name(b"B7"), name(b"FA"), name(b"X9"));
-    let want = [
-        Broken::Unknown(x9),
-        Broken::Unknown(b7),
-        Broken::Twice(fa),
-        Broken::Twice(a1),
-        Broken::Uncovered(4),
-        Broken::NotAllowed(0, 0),
-        Broken::Curfew(0, 3),
-        Broken::NoLink(0, 2),
-        Broken::Counter(0, 2, 0),
-        Broken::Counter(0, 3, 0),
-    ];
-    let text = b"A1:FA X9 FB FC FA FD B7:FE A1:FE ".as_slice();
-    assert!(rt; is_broken(alloc, &book, text, want.as_slice())?);
-    Ok(())
-}
-
-// The two legal plans of two flights at once, and plans with a route too few, an activity that is flown twice, not at
-// all, or behind another that is not over, and a number of no activity.
-#[test]
-fn plans_by_number(rt: HostRuntime) -> Result<(), Fail> {
-    let alloc = rt.alloc();
-    let book = two_at_once(alloc)?;
-    own_costs_are_for_book();
-    let table = CostTable::of(alloc, &book)?;
-    let rows: &[(&[&[u32]], Option<u64>)] = &[
-        (&[&[1], &[0]], Some(240)),
-        (&[&[0], &[1]], Some(300)),
-        (&[&[0]], None),
-        (&[&[0], &[0]], None),
-        (&[&[0], &[]], None),
-        (&[&[0, 1], &[]], None),
-        (&[&[0], &[7]], None),
-    ];
-    for &(listed, want) in rows {
-        let plan = routes(alloc, listed)?;
-        assert!(rt;
-            audit_plan(alloc, &book, &table, &plan)? == want,
-            "{listed:?}"
-        );
+fn plans_are_audited(rt: HostRuntime) -> Result<(), Fail> {
+    for (number, row) in rows().iter().enumerate() {
+        assert!(rt; is_right(rt.alloc(), row)?, "row {number}");
     }
     Ok(())
+}
+
+// Whose prices the cost of a plan is by: the book's own, or others.
+#[derive(Clone, Copy)]
+enum Prices {
+    Own,
+    Other,
+}
+
+// What a plan costs in a table.
+fn cost_in(
+    alloc: Global,
+    book: &Book,
+    table: &CostTable,
+    listed: &[&[u32]],
+) -> Result<Option<u64>, Memory>
+    requires { IsTableFor book.now table.now }
+{
+    let plan = routes(alloc, listed)?;
+    audit_plan(alloc, book, table, &plan)
+}
+
+fn cost_by_own_prices(
+    alloc: Global,
+    book: &Book,
+    listed: &[&[u32]],
+) -> Result<Option<u64>, Memory> {
+    own_costs_are_for_book();
+    let table = CostTable::of(alloc, book)?;
+    cost_in(alloc, book, &table, listed)
 }
 
 // What a plan of two flights costs by prices that are not the book's own, with one for half an hour on the ground.
@@ -321,32 +371,62 @@ fn cost_by_other_prices(
     book: &Book,
     listed: &[&[u32]],
 ) -> Result<Option<u64>, Fail> {
-    let plan = routes(alloc, listed)?;
-    let fly = vec![in alloc; 5, 7, 11, 17]?;
-    let bands = vec![in alloc; Band { upto: 30, cost: 3 }]?;
-    let Some(table) = CostTable::new(2, 2, fly, bands, 100, 100) else {
-        return Err(Fail::new("no table"));
-    };
     if book.activities.len() != 2 || book.tails.len() != 2 {
         return Err(Fail::new("another book"));
     }
-    Ok(audit_plan(alloc, book, &table, &plan)?)
+    let fly = vec![in alloc; 5, 7, 11, 17]?;
+    let bands = vec![in alloc; Band { upto: 30, cost: 3 }]?;
+    match CostTable::new(2, 2, fly, bands, 100, 100) {
+        Some(table) => Ok(cost_in(alloc, book, &table, listed)?),
+        None => Err(Fail::new("no table")),
+    }
+}
+
+// A book, whose prices, the routes of a plan, and what it costs.
+type Priced = (Made, Prices, &'static [&'static [u32]], Option<u64>);
+
+fn cost_by(
+    alloc: Global,
+    book: &Book,
+    prices: Prices,
+    listed: &[&[u32]],
+) -> Result<Option<u64>, Fail> {
+    match prices {
+        Prices::Own => Ok(cost_by_own_prices(alloc, book, listed)?),
+        Prices::Other => cost_by_other_prices(alloc, book, listed),
+    }
+}
+
+fn is_priced(alloc: Global, row: &Priced) -> Result<bool, Fail> {
+    let &(made, prices, listed, want) = row;
+    let book = book_of(alloc, made)?;
+    Ok(cost_by(alloc, &book, prices, listed)? == want)
+}
+
+const PRICED: &[Priced] = &[
+    // The two legal plans of two flights at once, and plans with a route too few, an activity that is flown twice, not at
+    // all, or behind another that is not over, and a number of no activity.
+    (TWO_AT_ONCE, Prices::Own, &[&[1], &[0]], Some(240)),
+    (TWO_AT_ONCE, Prices::Own, &[&[0], &[1]], Some(300)),
+    (TWO_AT_ONCE, Prices::Own, &[&[0]], None),
+    (TWO_AT_ONCE, Prices::Own, &[&[0], &[0]], None),
+    (TWO_AT_ONCE, Prices::Own, &[&[0], &[]], None),
+    (TWO_AT_ONCE, Prices::Own, &[&[0, 1], &[]], None),
+    (TWO_AT_ONCE, Prices::Own, &[&[0], &[7]], None),
+    // By another table: each aircraft flies both, and they are flown backwards.
+    (TWO_FLIGHTS, Prices::Other, &[&[0, 1], &[]], Some(15)),
+    (TWO_FLIGHTS, Prices::Other, &[&[], &[0, 1]], Some(31)),
+    (TWO_FLIGHTS, Prices::Other, &[&[1, 0], &[]], None),
+];
+
+fn priced() -> &'static [Priced] {
+    PRICED
 }
 
 #[test]
-fn plans_by_another_table(rt: HostRuntime) -> Result<(), Fail> {
-    let alloc = rt.alloc();
-    let book = two_flights(alloc)?;
-    let rows: &[(&[&[u32]], Option<u64>)] = &[
-        (&[&[0, 1], &[]], Some(15)),
-        (&[&[], &[0, 1]], Some(31)),
-        (&[&[1, 0], &[]], None),
-    ];
-    for &(listed, want) in rows {
-        assert!(rt;
-            cost_by_other_prices(alloc, &book, listed)? == want,
-            "{listed:?}"
-        );
+fn plans_by_number_are_priced(rt: HostRuntime) -> Result<(), Fail> {
+    for (number, row) in priced().iter().enumerate() {
+        assert!(rt; is_priced(rt.alloc(), row)?, "row {number}");
     }
     Ok(())
 }

@@ -1,5 +1,6 @@
 //! Small books, made through the checked constructor: a test that breaks a limit has no book, and fails when it runs.
 
+use small_books::{named_flight, named_tail};
 use std::alloc::Global;
 use std::test::Fail;
 use tail_book::*;
@@ -15,248 +16,194 @@ pub const P: u32 = 0;
 
 pub const Q: u32 = 1;
 
-// What an activity is called, what decides who flies it, and when it is; times are minutes of 1970-01-01 UTC.
+// What an activity is.
 #[derive(Clone, Copy)]
-pub struct Leg {
-    pub id: Option<Name>,
-    pub flight: bool,
-    pub from: u32,
-    pub to: u32,
-    pub start: i64,
-    pub end: i64,
-    pub kind: Option<u32>,
-    pub tag: Option<u32>,
-    pub tail: Option<u32>,
-    pub resets: bool,
+pub enum Task {
+    // A flight for every aircraft, for a type, for those with a tag, or for one aircraft.
+    Flight,
+    FlightOfType(u32),
+    FlightOfTag(u32),
+    FlightOf(u32),
+    // Ground time for every aircraft.
+    Ground,
+    // Ground time that sets the counter to 0 at its end, for every aircraft or for one.
+    Check,
+    CheckOf(u32),
 }
 
-// A flight that every aircraft may fly.
-pub fn flight(from: u32, to: u32, start: i64, end: i64) -> Leg {
-    Leg {
-        id: None,
-        flight: true,
-        from,
-        to,
-        start,
-        end,
-        kind: None,
-        tag: None,
-        tail: None,
-        resets: false,
-    }
-}
+// An activity: what it is, its airports, and its start and its end in minutes of 1970-01-01 UTC.
+pub type Leg = (Task, (u32, u32), (i64, i64));
 
-// Ground time for any aircraft.
-pub fn ground(at: u32, start: i64, end: i64) -> Leg {
-    Leg {
-        flight: false,
-        ..flight(at, at, start, end)
-    }
-}
-
+// An aircraft that is ready at midnight.
 #[derive(Clone, Copy)]
 pub struct TailRow {
     pub kind: u32,
     pub at: u32,
     pub fixed: u64,
-    pub tag: Option<u32>,
-    pub avoid: Option<u32>,
+    pub tags: &'static [u32],
+    pub avoid: &'static [u32],
     pub carry: i64,
 }
 
-// An aircraft of a type that comes in at ARN, ready at midnight.
-pub fn aircraft(kind: u32) -> TailRow {
-    TailRow {
-        kind,
-        at: ARN,
-        fixed: 0,
-        tag: None,
-        avoid: None,
-        carry: 0,
-    }
+// An aircraft of each type that comes in at ARN.
+pub const CHEAP: TailRow = TailRow {
+    kind: P,
+    at: ARN,
+    fixed: 0,
+    tags: &[],
+    avoid: &[],
+    carry: 0,
+};
+
+pub const DEAR: TailRow = TailRow { kind: Q, ..CHEAP };
+
+fn put_check(activity: &mut Activity) -> Result<(), Memory> {
+    activity.flight = false;
+    activity.resets.push(0)?;
+    Ok(())
 }
 
-// What the activities are called that have no id: F0 to F9 in their order.
-fn id_of(a: usize) -> Name {
-    match a {
-        0 => Name::new(b"F0".as_slice()),
-        1 => Name::new(b"F1".as_slice()),
-        2 => Name::new(b"F2".as_slice()),
-        3 => Name::new(b"F3".as_slice()),
-        4 => Name::new(b"F4".as_slice()),
-        5 => Name::new(b"F5".as_slice()),
-        6 => Name::new(b"F6".as_slice()),
-        7 => Name::new(b"F7".as_slice()),
-        8 => Name::new(b"F8".as_slice()),
-        _ => Name::new(b"F9".as_slice()),
+fn put_task(activity: &mut Activity, task: Task) -> Result<(), Memory> {
+    match task {
+        Task::Flight => {}
+        Task::FlightOfType(kind) => activity.types.push(kind)?,
+        Task::FlightOfTag(tag) => activity.tags.push(tag)?,
+        Task::FlightOf(k) => activity.tail = Some(k),
+        Task::Ground => activity.flight = false,
+        Task::Check => put_check(activity)?,
+        Task::CheckOf(k) => {
+            activity.tail = Some(k);
+            put_check(activity)?;
+        }
     }
+    Ok(())
+}
+
+// The activity of a row, of this name.
+pub fn activity(alloc: Global, id: Name, leg: &Leg) -> Result<Activity, Memory> {
+    let &(task, ports, time) = leg;
+    let mut activity = named_flight(alloc, id, ports, time);
+    put_task(&mut activity, task)?;
+    Ok(activity)
+}
+
+fn put_lists(tail: &mut Tail, row: &TailRow, counters: usize) -> Result<(), Memory> {
+    tail.fixed = row.fixed;
+    tail.tags.extend_from_slice(row.tags)?;
+    tail.avoid.extend_from_slice(row.avoid)?;
+    for _ in 0..counters {
+        tail.carry.push(row.carry)?;
+    }
+    Ok(())
+}
+
+fn tail(alloc: Global, name: Name, row: &TailRow, counters: usize) -> Result<Tail, Memory> {
+    let mut tail = named_tail(alloc, name, row.kind, row.at, 0);
+    put_lists(&mut tail, row, counters)?;
+    Ok(tail)
 }
 
 // The aircraft are called A1 to A4 in their order.
-fn name_of(k: usize) -> Name {
-    match k {
-        0 => Name::new(b"A1".as_slice()),
-        1 => Name::new(b"A2".as_slice()),
-        2 => Name::new(b"A3".as_slice()),
-        _ => Name::new(b"A4".as_slice()),
+fn tail_names() -> [Name; 4] {
+    [
+        Name::new(b"A1".as_slice()),
+        Name::new(b"A2".as_slice()),
+        Name::new(b"A3".as_slice()),
+        Name::new(b"A4".as_slice()),
+    ]
+}
+
+fn tails(alloc: Global, rows: &[TailRow], counters: usize) -> Result<Vec<Tail>, Memory> {
+    let mut tails = Vec::new(alloc);
+    for (name, row) in tail_names().iter().zip(rows) {
+        tails.push(tail(alloc, *name, row, counters)?)?;
     }
+    Ok(tails)
 }
 
 // The types, of which P has this turn.
 fn kinds(alloc: Global, turn: i64) -> Result<Vec<AircraftType>, Memory> {
     let (p, q) = (Name::new(b"P".as_slice()), Name::new(b"Q".as_slice()));
-    let listed = vec![in alloc;
-        AircraftType {
-            name: p,
-            rate: 1,
-            turn
-        },
-        AircraftType {
-            name: q,
-            rate: 2,
-            turn: 30
-        },
-    ]?;
-    Ok(listed)
+    let mut kinds = Vec::new(alloc);
+    for &(name, rate, turn) in &[(p, 1, turn), (q, 2, 30)] {
+        kinds.push(AircraftType { name, rate, turn })?;
+    }
+    Ok(kinds)
 }
 
 // The airports, an hour ahead of UTC; the turn at CPH is 50 minutes.
-fn ports(alloc: Global) -> Result<Vec<Airport>, Memory> {
-    let (arn, osl) = (Name::new(b"ARN".as_slice()), Name::new(b"OSL".as_slice()));
-    let cph = Name::new(b"CPH".as_slice());
-    let listed = vec![in alloc;
-        Airport::fixed(alloc, arn, 60, 20),
-        Airport::fixed(alloc, osl, 60, 20),
-        Airport::fixed(alloc, cph, 60, 50),
-    ]?;
-    Ok(listed)
+fn airports(alloc: Global) -> Result<Vec<Airport>, Memory> {
+    let mut airports = Vec::new(alloc);
+    for &(name, turn) in &[
+        (Name::new(b"ARN".as_slice()), 20),
+        (Name::new(b"OSL".as_slice()), 20),
+        (Name::new(b"CPH".as_slice()), 50),
+    ] {
+        airports.push(Airport::fixed(alloc, name, 60, turn))?;
+    }
+    Ok(airports)
 }
 
 // No curfew, no counter and no band; type P has this turn.
 pub fn plain(alloc: Global, turn: i64) -> Result<Rules, Memory> {
+    let (kinds, airports) = (kinds(alloc, turn)?, airports(alloc)?);
     Ok(Rules {
-        kinds: kinds(alloc, turn)?,
-        airports: ports(alloc)?,
+        kinds,
+        airports,
         curfews: Vec::new(alloc),
         counters: Vec::new(alloc),
         bands: Vec::new(alloc),
     })
 }
 
-// ARN is closed from 23:00 to 06:00 there, for starts or else for landings of these types.
-pub fn night(alloc: Global, starts: bool, types: Vec<u32>) -> Result<Vec<Curfew>, Memory> {
-    Ok(vec![in alloc;
-        Curfew {
-            airport: ARN,
-            from: 1380,
-            to: 360,
-            types,
-            starts,
-            landings: !starts
-        },
-    ]?)
+// Closes ARN from 23:00 to 06:00 there, for starts or else for landings of these types.
+pub fn put_night(rules: &mut Rules, starts: bool, types: Vec<u32>) -> Result<(), Memory> {
+    rules.curfews.push(Curfew {
+        airport: ARN,
+        from: 1380,
+        to: 360,
+        types,
+        starts,
+        landings: !starts,
+    })?;
+    Ok(())
 }
 
-// The same for type P, and no counter and no band.
-pub fn closed(alloc: Global, starts: bool) -> Result<Rules, Memory> {
-    let curfews = night(alloc, starts, vec![in alloc; P]?)?;
-    Ok(Rules {
-        curfews,
-        ..plain(alloc, 30)?
-    })
-}
-
-// One counter with this limit, of days in minutes, which an hour at ARN clears, and bands.
-pub fn counted(
+// Adds a counter with this limit, of days in minutes, which an hour at ARN clears.
+pub fn put_counter(
     alloc: Global,
+    rules: &mut Rules,
     kind: CounterKind,
     limit: i64,
-    bands: Vec<Band>,
-) -> Result<Rules, Memory> {
-    let kinds = kinds(alloc, 30)?;
-    let airports = ports(alloc)?;
-    let (name, bases) = (Name::new(b"c".as_slice()), vec![in alloc; ARN]?);
-    let counters = vec![in alloc;
-        Counter {
-            name,
-            kind,
-            limit,
-            bases,
-            stop: 60
-        },
-    ]?;
-    Ok(Rules {
-        kinds,
-        airports,
-        curfews: Vec::new(alloc),
-        counters,
-        bands,
-    })
+) -> Result<(), Memory> {
+    let bases = vec![in alloc; ARN]?;
+    rules.counters.push(Counter {
+        name: Name::new(b"c".as_slice()),
+        kind,
+        limit,
+        bases,
+        stop: 60,
+    })?;
+    Ok(())
 }
 
-fn listed(alloc: Global, number: Option<u32>) -> Result<Vec<u32>, Memory> {
-    let mut list = Vec::new(alloc);
-    if let Some(number) = number {
-        list.push(number)?;
-    }
-    Ok(list)
-}
-
-fn activity(alloc: Global, a: usize, leg: Leg) -> Result<Activity, Memory> {
-    let resets = if leg.resets { Some(0) } else { None };
-    Ok(Activity {
-        id: leg.id.unwrap_or(id_of(a)),
-        flight: leg.flight,
-        from: leg.from,
-        to: leg.to,
-        start: leg.start,
-        end: leg.end,
-        types: listed(alloc, leg.kind)?,
-        tags: listed(alloc, leg.tag)?,
-        tail: leg.tail,
-        resets: listed(alloc, resets)?,
-    })
-}
-
-fn tail(alloc: Global, counters: usize, k: usize, row: TailRow) -> Result<Tail, Memory> {
-    Ok(Tail {
-        name: name_of(k),
-        kind: row.kind,
-        at: row.at,
-        ready: 0,
-        fixed: row.fixed,
-        tags: listed(alloc, row.tag)?,
-        avoid: listed(alloc, row.avoid)?,
-        carry: vec![in alloc; row.carry; counters]?,
-    })
-}
-
-fn activities(alloc: Global, legs: &[Leg]) -> Result<Vec<Activity>, Memory> {
-    let mut list = Vec::new(alloc);
-    for leg in legs {
-        let next = activity(alloc, list.len(), *leg)?;
-        list.push(next)?;
-    }
-    Ok(list)
-}
-
-fn tails(alloc: Global, counters: usize, rows: &[TailRow]) -> Result<Vec<Tail>, Memory> {
-    let mut list = Vec::new(alloc);
-    for row in rows {
-        let next = tail(alloc, counters, list.len(), *row)?;
-        list.push(next)?;
-    }
-    Ok(list)
-}
-
-// A book of these rules, with these aircraft and activities.
-pub fn book(alloc: Global, rules: Rules, rows: &[TailRow], legs: &[Leg]) -> Result<Book, Fail> {
-    let tails = tails(alloc, rules.counters.len(), rows)?;
-    let activities = activities(alloc, legs)?;
+// The book of these parts, or a failure.
+fn made(activities: Vec<Activity>, tails: Vec<Tail>, rules: Rules) -> Result<Book, Fail> {
     match Book::new(activities, tails, rules) {
         Some(book) => Ok(book),
         None => Err(Fail::new("no book")),
     }
+}
+
+// A book of these activities and rules, with these aircraft.
+pub fn book(
+    alloc: Global,
+    activities: Vec<Activity>,
+    rows: &[TailRow],
+    rules: Rules,
+) -> Result<Book, Fail> {
+    let tails = tails(alloc, rows, rules.counters.len())?;
+    made(activities, tails, rules)
 }
 
 pub fn has_routes(plan: &Plan, routes: &[&[u32]]) -> bool {

@@ -2,450 +2,563 @@
 
 use crate::tests::books::*;
 use plan_enumeration::least_plan;
+use small_books::names_in_order;
 use std::alloc::Global;
 use std::test::Fail;
 use tail_book::*;
 
-// Whether these routes are the least plan, and cost this.
-fn is_least(
-    alloc: Global,
-    rules: Result<Rules, Memory>,
-    rows: &[TailRow],
-    legs: &[Leg],
-    cost: u64,
-    routes: &[&[u32]],
-) -> Result<bool, Fail> {
-    let made = book(alloc, rules?, rows, legs)?;
-    match least_plan(alloc, &made)? {
-        Outcome::Optimal(plan, least) => Ok(least == cost && has_routes(&plan, routes)),
-        _ => Ok(false),
+// The rules of a book.
+#[derive(Clone, Copy)]
+enum Ruled {
+    // This turn of type P, and no curfew, counter or band.
+    Plain(i64),
+    // ARN is closed at night, for starts or else for landings of type P.
+    Closed(bool),
+    // One counter with this limit, and bands.
+    Counted(CounterKind, i64, &'static [Band]),
+}
+
+// What is known of the least plan: that there is none, what it costs, or its routes as well.
+#[derive(Clone, Copy)]
+enum Want {
+    NoPlan,
+    Cost(u64),
+    Plan(u64, &'static [&'static [u32]]),
+}
+
+// What a row is about, rules, aircraft and activities, and what is known of their least plan.
+type Row = (
+    &'static str,
+    Ruled,
+    &'static [TailRow],
+    &'static [Leg],
+    Want,
+);
+
+// The turn of type P.
+fn turn(ruled: Ruled) -> i64 {
+    match ruled {
+        Ruled::Plain(turn) => turn,
+        _ => 30,
     }
 }
 
-// Whether some least plan costs this.
-fn costs(
-    alloc: Global,
-    rules: Result<Rules, Memory>,
-    rows: &[TailRow],
-    legs: &[Leg],
-    cost: u64,
-) -> Result<bool, Fail> {
-    let made = book(alloc, rules?, rows, legs)?;
-    match least_plan(alloc, &made)? {
-        Outcome::Optimal(_, least) => Ok(least == cost),
-        _ => Ok(false),
-    }
-}
-
-// Whether no plan is legal.
-fn has_none(
-    alloc: Global,
-    rules: Result<Rules, Memory>,
-    rows: &[TailRow],
-    legs: &[Leg],
-) -> Result<bool, Fail> {
-    let made = book(alloc, rules?, rows, legs)?;
-    Ok(matches!(least_plan(alloc, &made)?, Outcome::Infeasible))
-}
-
-// One counter with this limit, and no band.
-fn limited(alloc: Global, kind: CounterKind, limit: i64) -> Result<Rules, Memory> {
-    counted(alloc, kind, limit, Vec::new(alloc))
-}
-
-// No activities, and no aircraft.
-#[test]
-fn nothing_to_fly(rt: HostRuntime) -> Result<(), Fail> {
-    let (alloc, none) = (rt.alloc(), [].as_slice());
-    let rows = [aircraft(P), aircraft(P)];
-    assert!(rt; is_least(alloc, plain(alloc, 30), &rows, &[], 0, &[none, none])?);
-    assert!(rt; is_least(alloc, plain(alloc, 30), &[], &[], 0, &[])?);
-    assert!(rt; has_none(alloc, plain(alloc, 30), &[], &[flight(ARN, OSL, 360, 420)])?);
-    Ok(())
-}
-
-// A gap that is exactly the turn, and a turn that is a minute longer.
-#[test]
-fn gap_is_exactly_the_turn(rt: HostRuntime) -> Result<(), Fail> {
-    let (alloc, rows) = (rt.alloc(), [aircraft(P)]);
-    let legs = [flight(ARN, OSL, 360, 420), flight(OSL, ARN, 450, 510)];
-    let both = [0, 1].as_slice();
-    assert!(rt; is_least(alloc, plain(alloc, 30), &rows, &legs, 120, &[both])?);
-    assert!(rt; has_none(alloc, plain(alloc, 31), &rows, &legs)?);
-    Ok(())
-}
-
-// The turn at CPH is 50 minutes, whatever the type's is; ground time needs none.
-#[test]
-fn turn_of_the_airport(rt: HostRuntime) -> Result<(), Fail> {
-    let (alloc, rows) = (rt.alloc(), [aircraft(P)]);
-    let there = flight(ARN, CPH, 360, 420);
-    let both = [0, 1].as_slice();
-    let late = [there, flight(CPH, ARN, 470, 530)];
-    assert!(rt; is_least(alloc, plain(alloc, 30), &rows, &late, 120, &[both])?);
-    let early = [there, flight(CPH, ARN, 469, 529)];
-    assert!(rt; has_none(alloc, plain(alloc, 30), &rows, &early)?);
-    let around = [there, ground(CPH, 420, 430), flight(CPH, ARN, 430, 490)];
-    let all = [0, 1, 2].as_slice();
-    assert!(rt; is_least(alloc, plain(alloc, 30), &rows, &around, 120, &[all])?);
-    Ok(())
-}
-
-// The longer flight goes to the type that costs less: 120 and 2 * 60, and not 60 and 2 * 120.
-#[test]
-fn longer_flight_to_the_cheaper_type(rt: HostRuntime) -> Result<(), Fail> {
-    let (alloc, rows) = (rt.alloc(), [aircraft(P), aircraft(Q)]);
-    let legs = [flight(ARN, OSL, 360, 420), flight(ARN, OSL, 360, 480)];
-    let routes = [[1].as_slice(), [0].as_slice()];
-    assert!(rt; is_least(alloc, plain(alloc, 30), &rows, &legs, 240, &routes)?);
-    Ok(())
-}
-
-// Ground time costs the fixed amount and no minutes.
-#[test]
-fn ground_time_costs_the_fixed_amount(rt: HostRuntime) -> Result<(), Fail> {
-    let alloc = rt.alloc();
-    let rows = [
-        TailRow {
-            fixed: 7,
-            ..aircraft(P)
-        },
-        TailRow {
-            fixed: 5,
-            ..aircraft(Q)
-        },
-    ];
-    let routes = [[].as_slice(), [0].as_slice()];
-    let legs = [ground(ARN, 360, 420)];
-    assert!(rt; is_least(alloc, plain(alloc, 30), &rows, &legs, 5, &routes)?);
-    Ok(())
-}
-
-// Whether of two aircraft the second flies an hour, for twice as much.
-fn second_flies(alloc: Global, rows: &[TailRow], leg: Leg) -> Result<bool, Fail> {
-    is_least(alloc, plain(alloc, 30), rows, &[leg], 120, &[&[], &[0]])
-}
-
-// Each rule of who may fly what sends the flight to the type that costs more.
-#[test]
-fn only_the_dearer_type_may(rt: HostRuntime) -> Result<(), Fail> {
-    let alloc = rt.alloc();
-    let (leg, p, q) = (flight(ARN, OSL, 360, 420), aircraft(P), aircraft(Q));
-    let typed = Leg {
-        kind: Some(Q),
-        ..leg
-    };
-    assert!(rt; second_flies(alloc, &[p, q], typed)?);
-    let tagged = Leg {
-        tag: Some(7),
-        ..leg
-    };
-    let able = TailRow { tag: Some(7), ..q };
-    assert!(rt; second_flies(alloc, &[p, able], tagged)?);
-    let wary = TailRow {
-        avoid: Some(ARN),
-        ..p
-    };
-    assert!(rt; second_flies(alloc, &[wary, q], leg)?);
-    let wary = TailRow {
-        avoid: Some(OSL),
-        ..p
-    };
-    assert!(rt; second_flies(alloc, &[wary, q], leg)?);
-    let assigned = Leg {
-        tail: Some(1),
-        ..leg
-    };
-    assert!(rt; second_flies(alloc, &[p, q], assigned)?);
-    Ok(())
-}
-
-// Two flights at once, each preassigned.
-#[test]
-fn each_its_own(rt: HostRuntime) -> Result<(), Fail> {
-    let (alloc, rows) = (rt.alloc(), [aircraft(P), aircraft(P)]);
-    let leg = flight(ARN, OSL, 360, 420);
-    let legs = [
-        Leg {
-            tail: Some(1),
-            ..leg
-        },
-        Leg {
-            tail: Some(0),
-            ..leg
-        },
-    ];
-    let routes = [[1].as_slice(), [0].as_slice()];
-    assert!(rt; is_least(alloc, plain(alloc, 30), &rows, &legs, 120, &routes)?);
-    Ok(())
-}
-
-// ARN, an hour ahead, is closed for landings of type P from 23:00 to 06:00 there: not a minute before or after.
-#[test]
-fn closed_for_landings(rt: HostRuntime) -> Result<(), Fail> {
-    let alloc = rt.alloc();
-    let rows = [TailRow {
-        at: OSL,
-        ..aircraft(P)
-    }];
-    for (end, lands) in [(1319, true), (1320, false), (299, false), (300, true)] {
-        let legs = [flight(OSL, ARN, end - 60, end)];
-        let found = costs(alloc, closed(alloc, false), &rows, &legs, 60)?;
-        assert!(rt; found == lands, "at {end}");
-        let none = has_none(alloc, closed(alloc, false), &rows, &legs)?;
-        assert!(rt; none == !lands, "at {end}");
+fn put_rules(alloc: Global, rules: &mut Rules, ruled: Ruled) -> Result<(), Memory> {
+    match ruled {
+        Ruled::Plain(_) => {}
+        Ruled::Closed(starts) => put_night(rules, starts, vec![in alloc; P]?)?,
+        Ruled::Counted(kind, limit, bands) => {
+            put_counter(alloc, rules, kind, limit)?;
+            rules.bands.extend_from_slice(bands)?;
+        }
     }
     Ok(())
 }
 
-// The same hours for starts; type Q has none, and ground time neither.
-#[test]
-fn closed_for_starts(rt: HostRuntime) -> Result<(), Fail> {
-    let (alloc, p, q) = (rt.alloc(), [aircraft(P)], [aircraft(Q)]);
-    let legs = [flight(ARN, OSL, 299, 359)];
-    assert!(rt; has_none(alloc, closed(alloc, true), &p, &legs)?);
-    assert!(rt; costs(alloc, closed(alloc, true), &q, &legs, 120)?);
-    let legs = [flight(ARN, OSL, 300, 360)];
-    assert!(rt; costs(alloc, closed(alloc, true), &p, &legs, 60)?);
-    let legs = [ground(ARN, 0, 60)];
-    assert!(rt; costs(alloc, closed(alloc, true), &p, &legs, 0)?);
-    Ok(())
+fn rules(alloc: Global, ruled: Ruled) -> Result<Rules, Memory> {
+    let mut rules = plain(alloc, turn(ruled))?;
+    put_rules(alloc, &mut rules, ruled)?;
+    Ok(rules)
 }
 
-// There and back twice, the second time from an hour on the ground at the counter's base.
-fn there_and_back_twice(third: u16) -> [Leg; 4] {
-    let third = third as i64;
-    [
-        flight(ARN, OSL, 360, 420),
-        flight(OSL, ARN, 450, 510),
-        flight(ARN, OSL, third, third + 60),
-        flight(OSL, ARN, 660, 720),
-    ]
-}
-
-// Minutes flown, cleared by a stop that is just long enough; a stop a minute shorter, and a limit a minute lower.
-#[test]
-fn stop_at_the_base_clears_minutes(rt: HostRuntime) -> Result<(), Fail> {
-    let (alloc, rows, all) = (rt.alloc(), [aircraft(P)], [0, 1, 2, 3].as_slice());
-    let legs = there_and_back_twice(570);
-    assert!(rt;
-        is_least(
-            alloc,
-            limited(alloc, CounterKind::Minutes, 120),
-            &rows,
-            &legs,
-            240,
-            &[all]
-        )?
-    );
-    assert!(rt;
-        has_none(
-            alloc,
-            limited(alloc, CounterKind::Minutes, 120),
-            &rows,
-            &there_and_back_twice(569)
-        )?
-    );
-    assert!(rt;
-        has_none(
-            alloc,
-            limited(alloc, CounterKind::Minutes, 119),
-            &rows,
-            &legs
-        )?
-    );
-    Ok(())
-}
-
-// A check at OSL, which is no base, resets the days since midnight and 1,000 minutes before it.
-#[test]
-fn check_resets_days(rt: HostRuntime) -> Result<(), Fail> {
-    let alloc = rt.alloc();
-    let rows = [TailRow {
-        at: OSL,
-        fixed: 7,
-        carry: 1000,
-        ..aircraft(P)
-    }];
-    let (check, home) = (ground(OSL, 600, 720), flight(OSL, ARN, 750, 810));
-    let reset = Leg {
-        tail: Some(0),
-        resets: true,
-        ..check
-    };
-    let both = [0, 1].as_slice();
-    assert!(rt;
-        is_least(
-            alloc,
-            limited(alloc, CounterKind::Days, 1440),
-            &rows,
-            &[reset, home],
-            74,
-            &[both]
-        )?
-    );
-    assert!(rt;
-        has_none(
-            alloc,
-            limited(alloc, CounterKind::Days, 1440),
-            &rows,
-            &[check, home]
-        )?
-    );
-    Ok(())
-}
-
-// A day away from the base, to the minute.
-#[test]
-fn a_day_is_1440_minutes(rt: HostRuntime) -> Result<(), Fail> {
-    let (alloc, rows) = (rt.alloc(), [aircraft(P)]);
-    let away = flight(ARN, OSL, 0, 60);
-    let legs = [away, flight(OSL, ARN, 1400, 1440)];
-    assert!(rt;
-        costs(
-            alloc,
-            limited(alloc, CounterKind::Days, 1440),
-            &rows,
-            &legs,
-            100
-        )?
-    );
-    let legs = [away, flight(OSL, ARN, 1400, 1441)];
-    assert!(rt; has_none(alloc, limited(alloc, CounterKind::Days, 1440), &rows, &legs)?);
-    Ok(())
-}
-
-// A value above its limit is no fault of an aircraft that stays, and an hour at the base clears it.
-#[test]
-fn carried_above_the_limit(rt: HostRuntime) -> Result<(), Fail> {
-    let alloc = rt.alloc();
-    let used = TailRow {
-        carry: 130,
-        ..aircraft(P)
-    };
-    let away = TailRow { at: OSL, ..used };
-    let none = [].as_slice();
-    assert!(rt;
-        is_least(
-            alloc,
-            limited(alloc, CounterKind::Minutes, 120),
-            &[away],
-            &[],
-            0,
-            &[none]
-        )?
-    );
-    assert!(rt;
-        has_none(
-            alloc,
-            limited(alloc, CounterKind::Minutes, 120),
-            &[away],
-            &[flight(OSL, ARN, 360, 420)]
-        )?
-    );
-    assert!(rt;
-        costs(
-            alloc,
-            limited(alloc, CounterKind::Minutes, 120),
-            &[used],
-            &[flight(ARN, OSL, 360, 420)],
-            60
-        )?
-    );
-    Ok(())
-}
-
-// Three landings at most. Through the ground time a stop of an hour is lost, and the fourth landing is one too many,
-// so the dear connection from the second flight to the third is in the least plan.
-#[test]
-fn dear_connection_saves_a_landing(rt: HostRuntime) -> Result<(), Fail> {
-    let (alloc, rows) = (rt.alloc(), [aircraft(P), aircraft(P)]);
-    let bands = vec![in alloc;
-        Band { upto: 59, cost: 0 },
-        Band {
-            upto: 10_000_000,
-            cost: 500
-        },
-    ]?;
-    let rules = counted(alloc, CounterKind::Landings, 3, bands);
-    let first = Some(0);
-    let legs = [
-        Leg {
-            tail: first,
-            ..flight(ARN, OSL, 360, 420)
-        },
-        Leg {
-            tail: first,
-            ..flight(OSL, ARN, 450, 510)
-        },
-        ground(ARN, 540, 585),
-        Leg {
-            tail: first,
-            ..flight(ARN, OSL, 600, 660)
-        },
-        Leg {
-            tail: first,
-            ..flight(OSL, ARN, 690, 750)
-        },
-    ];
-    let routes = [[0, 1, 3, 4].as_slice(), [2].as_slice()];
-    assert!(rt; is_least(alloc, rules, &rows, &legs, 740, &routes)?);
-    Ok(())
-}
-
-// The first band in the table's order that reaches counts, and where none does the connection is free. The connection
-// from the carry-in, six hours long, is free as well.
-#[test]
-fn first_band_that_reaches(rt: HostRuntime) -> Result<(), Fail> {
-    let (alloc, rows) = (rt.alloc(), [aircraft(P)]);
-    for (start, cost) in [(450, 125), (480, 125), (481, 121), (820, 121), (821, 120)] {
-        let bands = vec![in alloc;
-            Band { upto: 60, cost: 5 },
-            Band { upto: 400, cost: 1 },
-            Band { upto: 40, cost: 3 },
-        ]?;
-        let rules = counted(alloc, CounterKind::Landings, 10, bands);
-        let legs = [
-            flight(ARN, OSL, 360, 420),
-            flight(OSL, ARN, start, start + 60),
-        ];
-        let found = costs(alloc, rules, &rows, &legs, cost)?;
-        assert!(rt; found, "from {start}");
+fn activities(alloc: Global, legs: &[Leg]) -> Result<Vec<Activity>, Memory> {
+    let mut activities = Vec::new(alloc);
+    for (name, leg) in names_in_order().iter().zip(legs) {
+        activities.push(activity(alloc, *name, leg)?)?;
     }
-    Ok(())
+    Ok(activities)
 }
 
-// Of ten flights, each overlaps the next. Two aircraft take them in turn, the second at 5 for each of its five.
+fn book_of(alloc: Global, row: &Row) -> Result<Book, Fail> {
+    let &(_, ruled, tails, legs, _) = row;
+    let activities = activities(alloc, legs)?;
+    book(alloc, activities, tails, rules(alloc, ruled)?)
+}
+
+fn is_wanted(outcome: &Outcome, want: Want) -> bool {
+    match outcome {
+        Outcome::Infeasible => matches!(want, Want::NoPlan),
+        Outcome::Optimal(plan, least) => match want {
+            Want::NoPlan => false,
+            Want::Cost(cost) => *least == cost,
+            Want::Plan(cost, routes) => *least == cost && has_routes(plan, routes),
+        },
+        _ => false,
+    }
+}
+
+fn has_least(alloc: Global, book: &Book, want: Want) -> bool {
+    match least_plan(alloc, book) {
+        Ok(outcome) => is_wanted(&outcome, want),
+        Err(_) => false,
+    }
+}
+
+// Whether the least plan of a row is what is known of it.
+fn is_found(alloc: Global, row: &Row) -> Result<bool, Fail> {
+    let book = book_of(alloc, row)?;
+    Ok(has_least(alloc, &book, row.4))
+}
+
+const DEAR_AND_TAGGED: TailRow = TailRow { tags: &[7], ..DEAR };
+
+const LEAVES_NOT: TailRow = TailRow {
+    avoid: &[ARN],
+    ..CHEAP
+};
+
+const LANDS_NOT: TailRow = TailRow {
+    avoid: &[OSL],
+    ..CHEAP
+};
+
+const AT_OSL: TailRow = TailRow { at: OSL, ..CHEAP };
+
+// An aircraft that has used 130 minutes, at the counter's base or away from it.
+const USED: TailRow = TailRow {
+    carry: 130,
+    ..CHEAP
+};
+
+const USED_AWAY: TailRow = TailRow {
+    carry: 130,
+    ..AT_OSL
+};
+
+// An aircraft at OSL that left its base 1,000 minutes before midnight.
+const LONG_AWAY: TailRow = TailRow {
+    fixed: 7,
+    carry: 1000,
+    ..AT_OSL
+};
+
+// Four of the cheaper type, which differ in their fixed amounts.
+const FOUR: &[TailRow] = &[
+    TailRow { fixed: 10, ..CHEAP },
+    CHEAP,
+    TailRow { fixed: 12, ..CHEAP },
+    TailRow { fixed: 5, ..CHEAP },
+];
+
+// To OSL and back, with half an hour between.
+const THERE: Leg = (Task::Flight, (ARN, OSL), (360, 420));
+
+const BACK: Leg = (Task::Flight, (OSL, ARN), (450, 510));
+
+const LAST_HOME: Leg = (Task::Flight, (OSL, ARN), (660, 720));
+
+// Two hours or a minute less between stops of an hour at ARN, and a day.
+const TWO_HOURS: Ruled = Ruled::Counted(CounterKind::Minutes, 120, &[]);
+
+const A_MINUTE_LESS: Ruled = Ruled::Counted(CounterKind::Minutes, 119, &[]);
+
+const A_DAY: Ruled = Ruled::Counted(CounterKind::Days, 1440, &[]);
+
+// A connection of an hour and more costs 500.
+const DEAR_STAYS: &[Band] = &[
+    Band { upto: 59, cost: 0 },
+    Band {
+        upto: 10_000_000,
+        cost: 500,
+    },
+];
+
+// A shorter band stands behind longer ones.
+const BANDED: Ruled = Ruled::Counted(
+    CounterKind::Landings,
+    10,
+    &[
+        Band { upto: 60, cost: 5 },
+        Band { upto: 400, cost: 1 },
+        Band { upto: 40, cost: 3 },
+    ],
+);
+
+const ROWS: &[Row] = &[
+    (
+        "no activities",
+        Ruled::Plain(30),
+        &[CHEAP, CHEAP],
+        &[],
+        Want::Plan(0, &[&[], &[]]),
+    ),
+    (
+        "no activities and no aircraft",
+        Ruled::Plain(30),
+        &[],
+        &[],
+        Want::Plan(0, &[]),
+    ),
+    ("no aircraft", Ruled::Plain(30), &[], &[THERE], Want::NoPlan),
+    // A gap that is exactly the turn, and a turn that is a minute longer.
+    (
+        "a gap of exactly the turn",
+        Ruled::Plain(30),
+        &[CHEAP],
+        &[THERE, BACK],
+        Want::Plan(120, &[&[0, 1]]),
+    ),
+    (
+        "a turn that is a minute longer",
+        Ruled::Plain(31),
+        &[CHEAP],
+        &[THERE, BACK],
+        Want::NoPlan,
+    ),
+    // The turn at CPH is 50 minutes, whatever the type's is; ground time needs none.
+    (
+        "the turn of the airport",
+        Ruled::Plain(30),
+        &[CHEAP],
+        &[
+            (Task::Flight, (ARN, CPH), (360, 420)),
+            (Task::Flight, (CPH, ARN), (470, 530)),
+        ],
+        Want::Plan(120, &[&[0, 1]]),
+    ),
+    (
+        "a minute less than the turn of the airport",
+        Ruled::Plain(30),
+        &[CHEAP],
+        &[
+            (Task::Flight, (ARN, CPH), (360, 420)),
+            (Task::Flight, (CPH, ARN), (469, 529)),
+        ],
+        Want::NoPlan,
+    ),
+    (
+        "ground time in place of a turn",
+        Ruled::Plain(30),
+        &[CHEAP],
+        &[
+            (Task::Flight, (ARN, CPH), (360, 420)),
+            (Task::Ground, (CPH, CPH), (420, 430)),
+            (Task::Flight, (CPH, ARN), (430, 490)),
+        ],
+        Want::Plan(120, &[&[0, 1, 2]]),
+    ),
+    // 120 and 2 * 60, and not 60 and 2 * 120.
+    (
+        "the longer flight goes to the cheaper type",
+        Ruled::Plain(30),
+        &[CHEAP, DEAR],
+        &[THERE, (Task::Flight, (ARN, OSL), (360, 480))],
+        Want::Plan(240, &[&[1], &[0]]),
+    ),
+    (
+        "ground time costs the fixed amount and no minutes",
+        Ruled::Plain(30),
+        &[TailRow { fixed: 7, ..CHEAP }, TailRow { fixed: 5, ..DEAR }],
+        &[(Task::Ground, (ARN, ARN), (360, 420))],
+        Want::Plan(5, &[&[], &[0]]),
+    ),
+    // Each rule of who may fly what sends the flight to the type that costs more: its types, its tag, an airport that the
+    // cheaper one avoids at either end, and its aircraft.
+    (
+        "of a type",
+        Ruled::Plain(30),
+        &[CHEAP, DEAR],
+        &[(Task::FlightOfType(Q), (ARN, OSL), (360, 420))],
+        Want::Plan(120, &[&[], &[0]]),
+    ),
+    (
+        "of a tag",
+        Ruled::Plain(30),
+        &[CHEAP, DEAR_AND_TAGGED],
+        &[(Task::FlightOfTag(7), (ARN, OSL), (360, 420))],
+        Want::Plan(120, &[&[], &[0]]),
+    ),
+    (
+        "one avoids the start",
+        Ruled::Plain(30),
+        &[LEAVES_NOT, DEAR],
+        &[THERE],
+        Want::Plan(120, &[&[], &[0]]),
+    ),
+    (
+        "one avoids the end",
+        Ruled::Plain(30),
+        &[LANDS_NOT, DEAR],
+        &[THERE],
+        Want::Plan(120, &[&[], &[0]]),
+    ),
+    (
+        "preassigned",
+        Ruled::Plain(30),
+        &[CHEAP, DEAR],
+        &[(Task::FlightOf(1), (ARN, OSL), (360, 420))],
+        Want::Plan(120, &[&[], &[0]]),
+    ),
+    (
+        "two at once, each preassigned",
+        Ruled::Plain(30),
+        &[CHEAP, CHEAP],
+        &[
+            (Task::FlightOf(1), (ARN, OSL), (360, 420)),
+            (Task::FlightOf(0), (ARN, OSL), (360, 420)),
+        ],
+        Want::Plan(120, &[&[1], &[0]]),
+    ),
+    // ARN, an hour ahead, is closed for landings of type P from 23:00 to 06:00 there: not a minute before or after.
+    (
+        "a landing a minute before it closes",
+        Ruled::Closed(false),
+        &[AT_OSL],
+        &[(Task::Flight, (OSL, ARN), (1259, 1319))],
+        Want::Cost(60),
+    ),
+    (
+        "a landing as it closes",
+        Ruled::Closed(false),
+        &[AT_OSL],
+        &[(Task::Flight, (OSL, ARN), (1260, 1320))],
+        Want::NoPlan,
+    ),
+    (
+        "a landing a minute before it opens",
+        Ruled::Closed(false),
+        &[AT_OSL],
+        &[(Task::Flight, (OSL, ARN), (239, 299))],
+        Want::NoPlan,
+    ),
+    (
+        "a landing as it opens",
+        Ruled::Closed(false),
+        &[AT_OSL],
+        &[(Task::Flight, (OSL, ARN), (240, 300))],
+        Want::Cost(60),
+    ),
+    // The same hours for starts; type Q has none, and ground time neither.
+    (
+        "a start a minute before it opens",
+        Ruled::Closed(true),
+        &[CHEAP],
+        &[(Task::Flight, (ARN, OSL), (299, 359))],
+        Want::NoPlan,
+    ),
+    (
+        "a start of the other type",
+        Ruled::Closed(true),
+        &[DEAR],
+        &[(Task::Flight, (ARN, OSL), (299, 359))],
+        Want::Cost(120),
+    ),
+    (
+        "a start as it opens",
+        Ruled::Closed(true),
+        &[CHEAP],
+        &[(Task::Flight, (ARN, OSL), (300, 360))],
+        Want::Cost(60),
+    ),
+    (
+        "ground time where it is closed",
+        Ruled::Closed(true),
+        &[CHEAP],
+        &[(Task::Ground, (ARN, ARN), (0, 60))],
+        Want::Cost(0),
+    ),
+    // There and back twice, the second time from an hour on the ground at the counter's base: a stop that is just long
+    // enough, a minute shorter, and a limit that is a minute lower.
+    (
+        "a stop at the base clears minutes",
+        TWO_HOURS,
+        &[CHEAP],
+        &[
+            THERE,
+            BACK,
+            (Task::Flight, (ARN, OSL), (570, 630)),
+            LAST_HOME,
+        ],
+        Want::Plan(240, &[&[0, 1, 2, 3]]),
+    ),
+    (
+        "a stop that is a minute too short",
+        TWO_HOURS,
+        &[CHEAP],
+        &[
+            THERE,
+            BACK,
+            (Task::Flight, (ARN, OSL), (569, 629)),
+            LAST_HOME,
+        ],
+        Want::NoPlan,
+    ),
+    (
+        "a limit that is a minute lower",
+        A_MINUTE_LESS,
+        &[CHEAP],
+        &[
+            THERE,
+            BACK,
+            (Task::Flight, (ARN, OSL), (570, 630)),
+            LAST_HOME,
+        ],
+        Want::NoPlan,
+    ),
+    // A check at OSL, which is no base, resets the days since midnight and 1,000 minutes before it.
+    (
+        "a check resets days",
+        A_DAY,
+        &[LONG_AWAY],
+        &[
+            (Task::CheckOf(0), (OSL, OSL), (600, 720)),
+            (Task::Flight, (OSL, ARN), (750, 810)),
+        ],
+        Want::Plan(74, &[&[0, 1]]),
+    ),
+    (
+        "ground time resets no days",
+        A_DAY,
+        &[LONG_AWAY],
+        &[
+            (Task::Ground, (OSL, OSL), (600, 720)),
+            (Task::Flight, (OSL, ARN), (750, 810)),
+        ],
+        Want::NoPlan,
+    ),
+    // A day away from the base, to the minute.
+    (
+        "a day of 1,440 minutes",
+        A_DAY,
+        &[CHEAP],
+        &[
+            (Task::Flight, (ARN, OSL), (0, 60)),
+            (Task::Flight, (OSL, ARN), (1400, 1440)),
+        ],
+        Want::Cost(100),
+    ),
+    (
+        "a day of 1,441 minutes",
+        A_DAY,
+        &[CHEAP],
+        &[
+            (Task::Flight, (ARN, OSL), (0, 60)),
+            (Task::Flight, (OSL, ARN), (1400, 1441)),
+        ],
+        Want::NoPlan,
+    ),
+    // A value above its limit is no fault of an aircraft that stays, and an hour at the base clears it.
+    (
+        "carried above the limit",
+        TWO_HOURS,
+        &[USED_AWAY],
+        &[],
+        Want::Plan(0, &[&[]]),
+    ),
+    (
+        "carried above the limit, away from the base",
+        TWO_HOURS,
+        &[USED_AWAY],
+        &[(Task::Flight, (OSL, ARN), (360, 420))],
+        Want::NoPlan,
+    ),
+    (
+        "carried above the limit, cleared at the base",
+        TWO_HOURS,
+        &[USED],
+        &[THERE],
+        Want::Cost(60),
+    ),
+    // Three landings at most. Through the ground time a stop of an hour is lost, and the fourth landing is one too many,
+    // so the dear connection from the second flight to the third is in the least plan.
+    (
+        "a dear connection saves a landing",
+        Ruled::Counted(CounterKind::Landings, 3, DEAR_STAYS),
+        &[CHEAP, CHEAP],
+        &[
+            (Task::FlightOf(0), (ARN, OSL), (360, 420)),
+            (Task::FlightOf(0), (OSL, ARN), (450, 510)),
+            (Task::Ground, (ARN, ARN), (540, 585)),
+            (Task::FlightOf(0), (ARN, OSL), (600, 660)),
+            (Task::FlightOf(0), (OSL, ARN), (690, 750)),
+        ],
+        Want::Plan(740, &[&[0, 1, 3, 4], &[2]]),
+    ),
+    // The first band in the table's order that reaches counts, and where none does the connection is free. The connection
+    // from the carry-in, six hours long, is free as well.
+    (
+        "half an hour in the first band",
+        BANDED,
+        &[CHEAP],
+        &[THERE, (Task::Flight, (OSL, ARN), (450, 510))],
+        Want::Cost(125),
+    ),
+    (
+        "an hour in the first band",
+        BANDED,
+        &[CHEAP],
+        &[THERE, (Task::Flight, (OSL, ARN), (480, 540))],
+        Want::Cost(125),
+    ),
+    (
+        "a minute more in the second band",
+        BANDED,
+        &[CHEAP],
+        &[THERE, (Task::Flight, (OSL, ARN), (481, 541))],
+        Want::Cost(121),
+    ),
+    (
+        "400 minutes in the second band",
+        BANDED,
+        &[CHEAP],
+        &[THERE, (Task::Flight, (OSL, ARN), (820, 880))],
+        Want::Cost(121),
+    ),
+    (
+        "401 minutes in no band",
+        BANDED,
+        &[CHEAP],
+        &[THERE, (Task::Flight, (OSL, ARN), (821, 881))],
+        Want::Cost(120),
+    ),
+    // Of ten flights, each overlaps the next. Two aircraft take them in turn, the second at 5 for each of its five. Where
+    // the last five are at one time, four aircraft are too few.
+    (
+        "ten flights on four aircraft",
+        Ruled::Plain(30),
+        FOUR,
+        &[
+            (Task::Flight, (ARN, ARN), (360, 450)),
+            (Task::Flight, (ARN, ARN), (420, 510)),
+            (Task::Flight, (ARN, ARN), (480, 570)),
+            (Task::Flight, (ARN, ARN), (540, 630)),
+            (Task::Flight, (ARN, ARN), (600, 690)),
+            (Task::Flight, (ARN, ARN), (660, 750)),
+            (Task::Flight, (ARN, ARN), (720, 810)),
+            (Task::Flight, (ARN, ARN), (780, 870)),
+            (Task::Flight, (ARN, ARN), (840, 930)),
+            (Task::Flight, (ARN, ARN), (900, 990)),
+        ],
+        Want::Cost(925),
+    ),
+    (
+        "five flights at one time on four aircraft",
+        Ruled::Plain(30),
+        FOUR,
+        &[
+            (Task::Flight, (ARN, ARN), (360, 450)),
+            (Task::Flight, (ARN, ARN), (420, 510)),
+            (Task::Flight, (ARN, ARN), (480, 570)),
+            (Task::Flight, (ARN, ARN), (540, 630)),
+            (Task::Flight, (ARN, ARN), (600, 690)),
+            (Task::Flight, (ARN, ARN), (900, 990)),
+            (Task::Flight, (ARN, ARN), (900, 990)),
+            (Task::Flight, (ARN, ARN), (900, 990)),
+            (Task::Flight, (ARN, ARN), (900, 990)),
+            (Task::Flight, (ARN, ARN), (900, 990)),
+        ],
+        Want::NoPlan,
+    ),
+];
+
+fn rows() -> &'static [Row] {
+    ROWS
+}
+
 #[test]
-fn ten_flights_on_four_aircraft(rt: HostRuntime) -> Result<(), Fail> {
-    let alloc = rt.alloc();
-    let rows = [
-        TailRow {
-            fixed: 10,
-            ..aircraft(P)
-        },
-        TailRow {
-            fixed: 0,
-            ..aircraft(P)
-        },
-        TailRow {
-            fixed: 12,
-            ..aircraft(P)
-        },
-        TailRow {
-            fixed: 5,
-            ..aircraft(P)
-        },
-    ];
-    let mut legs = [flight(ARN, ARN, 360, 450); 10];
-    for a in 0..10 {
-        let start = 360 + 60 * a as i64;
-        legs[a] = flight(ARN, ARN, start, start + 90);
+fn least_plans_are_found(rt: HostRuntime) -> Result<(), Fail> {
+    for row in rows() {
+        assert!(rt; is_found(rt.alloc(), row)?, "{}", row.0);
     }
-    assert!(rt; costs(alloc, plain(alloc, 30), &rows, &legs, 925)?);
-    for a in 5..10 {
-        legs[a] = flight(ARN, ARN, 900, 990);
-    }
-    assert!(rt; has_none(alloc, plain(alloc, 30), &rows, &legs)?);
     Ok(())
 }

@@ -1,8 +1,7 @@
 //! Books with names of their own, a counter and a curfew, and plans as texts.
 
-use crate::tests::books;
-use crate::tests::books::{counted, night};
-pub use crate::tests::books::{ARN, Leg, OSL, P, Q, TailRow};
+use crate::tests::books::{Leg, activity, book, plain, put_counter, put_night};
+pub use crate::tests::books::{ARN, CHEAP, DEAR, OSL, Q, TailRow, Task};
 use std::alloc::Global;
 use std::test::Fail;
 use tail_book::*;
@@ -15,49 +14,54 @@ pub fn name(id: &[u8; 2]) -> Name {
     Name::new(b"X9".as_slice())
 }
 
-// A flight that every aircraft may fly.
-pub fn flight(id: &[u8; 2], from: u32, to: u32, start: i64, end: i64) -> Leg {
-    Leg {
-        id: Some(name(id)),
-        ..books::flight(from, to, start, end)
+// What an activity is called, and its row.
+pub type Called = (&'static [u8; 2], Leg);
+
+// What the one counter counts, two aircraft, and activities.
+pub type Made = (CounterKind, &'static [TailRow], &'static [Called]);
+
+// An aircraft of each type at ARN.
+pub const BOTH: &[TailRow] = &[CHEAP, DEAR];
+
+pub const THERE: Called = (b"F1", (Task::Flight, (ARN, OSL), (360, 420)));
+
+pub const BACK: Called = (b"F2", (Task::Flight, (OSL, ARN), (450, 510)));
+
+pub const CHECK: Called = (b"C1", (Task::Check, (ARN, ARN), (4940, 5000)));
+
+fn activities(alloc: Global, called: &[Called]) -> Result<Vec<Activity>, Memory> {
+    let mut activities = Vec::new(alloc);
+    for (id, leg) in called {
+        activities.push(activity(alloc, name(id), leg)?)?;
     }
+    Ok(activities)
 }
 
-// Ground time at ARN that sets the counter to 0 at its end.
-pub fn check(id: &[u8; 2], start: i64, end: i64) -> Leg {
-    Leg {
-        flight: false,
-        resets: true,
-        ..flight(id, ARN, ARN, start, end)
-    }
-}
-
-// An aircraft of a type that comes in there, ready at midnight.
-pub fn aircraft(kind: u32, at: u32) -> TailRow {
-    TailRow {
-        at,
-        ..books::aircraft(kind)
+// Two hours of flying between stops, or a day.
+fn limit(kind: CounterKind) -> i64 {
+    match kind {
+        CounterKind::Days => 1440,
+        _ => 120,
     }
 }
 
 // One counter, which an hour at ARN clears; ARN is closed for landings at night.
-pub fn rules(alloc: Global, kind: CounterKind, limit: i64) -> Result<Rules, Memory> {
-    let curfews = night(alloc, false, Vec::new(alloc))?;
-    Ok(Rules {
-        curfews,
-        ..counted(alloc, kind, limit, Vec::new(alloc))?
-    })
+fn rules(alloc: Global, kind: CounterKind) -> Result<Rules, Memory> {
+    let mut rules = plain(alloc, 30)?;
+    put_rules(alloc, &mut rules, kind)?;
+    Ok(rules)
 }
 
-// A book of these rules with the aircraft A1 and A2.
-pub fn book(alloc: Global, rules: Rules, rows: [TailRow; 2], legs: &[Leg]) -> Result<Book, Fail> {
-    books::book(alloc, rules, &rows, legs)
+fn put_rules(alloc: Global, rules: &mut Rules, kind: CounterKind) -> Result<(), Memory> {
+    put_night(rules, false, Vec::new(alloc))?;
+    put_counter(alloc, rules, kind, limit(kind))
 }
 
-// A book with two hours of flying between stops, and an aircraft of each type at ARN.
-pub fn flights(alloc: Global, legs: &[Leg]) -> Result<Book, Fail> {
-    let rules = rules(alloc, CounterKind::Minutes, 120)?;
-    book(alloc, rules, [aircraft(P, ARN), aircraft(Q, ARN)], legs)
+// A book with the aircraft A1 and A2.
+pub fn book_of(alloc: Global, made: Made) -> Result<Book, Fail> {
+    let (kind, rows, called) = made;
+    let activities = activities(alloc, called)?;
+    book(alloc, activities, rows, rules(alloc, kind)?)
 }
 
 // Adds a name to a plan: an aircraft begins a line, and an id goes to the last one.
@@ -87,9 +91,7 @@ pub fn plan(alloc: Global, text: &[u8]) -> Result<RawPlan, Memory> {
 pub fn routes(alloc: Global, listed: &[&[u32]]) -> Result<Plan, Memory> {
     let mut routes = Vec::new(alloc);
     for route in listed {
-        let mut copied = Vec::new(alloc);
-        copied.extend_from_slice(route)?;
-        routes.push(Route(copied))?;
+        routes.push(Route(Vec::from_slice(alloc, route)?))?;
     }
     Ok(Plan(routes))
 }
