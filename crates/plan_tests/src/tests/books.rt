@@ -1,6 +1,6 @@
 //! Small books, made through the checked constructor: a test that breaks a limit has no book, and fails when it runs.
 
-use small_books::{named_flight, named_tail};
+use small_books::{named_flight, named_tail, names_in_order};
 use std::alloc::Global;
 use std::test::Fail;
 use tail_book::*;
@@ -34,21 +34,23 @@ pub enum Task {
 // An activity: what it is, its airports, and its start and its end in minutes of 1970-01-01 UTC.
 pub type Leg = (Task, (u32, u32), (i64, i64));
 
-// An aircraft that is ready at midnight.
+// An aircraft, and the minute at which it is ready.
 #[derive(Clone, Copy)]
 pub struct TailRow {
     pub kind: u32,
     pub at: u32,
+    pub ready: i64,
     pub fixed: u64,
     pub tags: &'static [u32],
     pub avoid: &'static [u32],
     pub carry: i64,
 }
 
-// An aircraft of each type that comes in at ARN.
+// An aircraft of each type that comes in at ARN at midnight.
 pub const CHEAP: TailRow = TailRow {
     kind: P,
     at: ARN,
+    ready: 0,
     fixed: 0,
     tags: &[],
     avoid: &[],
@@ -87,6 +89,15 @@ pub fn activity(alloc: Global, id: Name, leg: &Leg) -> Result<Activity, Memory> 
     Ok(activity)
 }
 
+// The activities of these rows, of which at most ten count.
+pub fn activities(alloc: Global, legs: &[Leg]) -> Result<Vec<Activity>, Memory> {
+    let mut activities = Vec::new(alloc);
+    for (name, leg) in names_in_order().iter().zip(legs) {
+        activities.push(activity(alloc, *name, leg)?)?;
+    }
+    Ok(activities)
+}
+
 fn put_lists(tail: &mut Tail, row: &TailRow, counters: usize) -> Result<(), Memory> {
     tail.fixed = row.fixed;
     tail.tags.extend_from_slice(row.tags)?;
@@ -98,7 +109,7 @@ fn put_lists(tail: &mut Tail, row: &TailRow, counters: usize) -> Result<(), Memo
 }
 
 fn tail(alloc: Global, name: Name, row: &TailRow, counters: usize) -> Result<Tail, Memory> {
-    let mut tail = named_tail(alloc, name, row.kind, row.at, 0);
+    let mut tail = named_tail(alloc, name, row.kind, row.at, row.ready);
     put_lists(&mut tail, row, counters)?;
     Ok(tail)
 }

@@ -2,73 +2,46 @@
 
 ghost use Rattle.std.specs.Prelude.{◌≡◌, ◌<◌, length};
 
+use super::books::{ARN, CHEAP, DEAR, Leg, OSL, TailRow, Task, activities, book, plain};
 use cert_checker::{Verdict, judge};
-use small_books::{named_flight, named_tail};
 use std::alloc::Global;
 use std::test::Fail;
 use tail_book::*;
 
-// An aircraft of a type, ready at the first airport at minute 300.
-fn tail(alloc: Global, name: Name, kind: u32) -> Tail {
-    named_tail(alloc, name, kind, 0, 300)
+// Activities, aircraft, and the turn of the first type.
+type Made = (&'static [Leg], &'static [TailRow], i64);
+
+fn book_of(alloc: Global, made: &Made) -> Result<Book, Fail> {
+    let &(legs, rows, turn) = made;
+    let activities = activities(alloc, legs)?;
+    book(alloc, activities, rows, plain(alloc, turn)?)
 }
 
-// Two airports with turns of 20 minutes, and types with these rates and turns.
-fn rules(alloc: Global, first: (u64, i64), second: (u64, i64)) -> Result<Rules, Memory> {
-    let kind = |name, (rate, turn)| AircraftType { name, rate, turn };
-    let (p, q) = (Name::new(b"P".as_slice()), Name::new(b"Q".as_slice()));
-    let airport = |name| Airport::fixed(alloc, name, 60, 20);
-    let (x, y) = (Name::new(b"ARN".as_slice()), Name::new(b"OSL".as_slice()));
-    Ok(Rules {
-        kinds: vec![in alloc; kind(p, first), kind(q, second)]?,
-        airports: vec![in alloc; airport(x), airport(y)]?,
-        curfews: Vec::new(alloc),
-        counters: Vec::new(alloc),
-        bands: Vec::new(alloc),
-    })
-}
+const THERE: Leg = (Task::Flight, (ARN, OSL), (360, 420));
+
+const FIRST: TailRow = TailRow {
+    ready: 300,
+    ..CHEAP
+};
+
+const SECOND: TailRow = TailRow { ready: 300, ..DEAR };
 
 // A flight and no aircraft.
-fn nobody(alloc: Global) -> Result<Book, Fail> {
-    let first = named_flight(alloc, Name::new(b"F1".as_slice()), (0, 1), (360, 420));
-    let flights = vec![in alloc; first]?;
-    Ok(Book::new(flights, Vec::new(alloc), rules(alloc, (1, 30), (2, 30))?).ok_or("no book")?)
-}
+const NOBODY: Made = (&[THERE], &[], 30);
 
 // Two flights half an hour apart, and an aircraft that takes a minute more to turn.
-fn late(alloc: Global) -> Result<Book, Fail> {
-    let first = named_flight(alloc, Name::new(b"F1".as_slice()), (0, 1), (360, 420));
-    let second = named_flight(alloc, Name::new(b"F2".as_slice()), (1, 0), (450, 510));
-    let flights = vec![in alloc; first, second]?;
-    let tails = vec![in alloc; tail(alloc, Name::new(b"A1".as_slice()), 0)]?;
-    Ok(Book::new(flights, tails, rules(alloc, (1, 31), (2, 30))?).ok_or("no book")?)
-}
+const LATE: Made = (
+    &[THERE, (Task::Flight, (OSL, ARN), (450, 510))],
+    &[FIRST],
+    31,
+);
 
 // Two flights at once, of an hour and of two, and two aircraft of which the second costs twice as much.
-fn rates(alloc: Global) -> Result<Book, Fail> {
-    let first = named_flight(alloc, Name::new(b"F1".as_slice()), (0, 1), (360, 420));
-    let second = named_flight(alloc, Name::new(b"F2".as_slice()), (0, 1), (360, 480));
-    let flights = vec![in alloc; first, second]?;
-    let (a, b) = (Name::new(b"A1".as_slice()), Name::new(b"A2".as_slice()));
-    let tails = vec![in alloc; tail(alloc, a, 0), tail(alloc, b, 1)]?;
-    Ok(Book::new(flights, tails, rules(alloc, (1, 30), (2, 30))?).ok_or("no book")?)
-}
-
-// A book of these.
-#[derive(Clone, Copy)]
-enum Kind {
-    Nobody,
-    Late,
-    Rates,
-}
-
-fn book_of(alloc: Global, kind: Kind) -> Result<Book, Fail> {
-    match kind {
-        Kind::Nobody => nobody(alloc),
-        Kind::Late => late(alloc),
-        Kind::Rates => rates(alloc),
-    }
-}
+const RATES: Made = (
+    &[THERE, (Task::Flight, (ARN, OSL), (360, 480))],
+    &[FIRST, SECOND],
+    30,
+);
 
 // The claim that a certificate shows, or the line and the reason of its first failure.
 type Want = Result<Claim, (u64, u8)>;
@@ -104,8 +77,8 @@ fn first_wrong(alloc: Global, book: &Book, rows: &[Judged]) -> Option<usize> {
     None
 }
 
-fn first_wrong_of(alloc: Global, kind: Kind, rows: &[Judged]) -> Result<Option<usize>, Fail> {
-    let book = book_of(alloc, kind)?;
+fn first_wrong_of(alloc: Global, made: &Made, rows: &[Judged]) -> Result<Option<usize>, Fail> {
+    let book = book_of(alloc, made)?;
     Ok(first_wrong(alloc, &book, rows))
 }
 
@@ -232,20 +205,20 @@ const BRANCHES_AND_LOW_SUMS: &[Judged] = &[
 ];
 
 // What the texts are about, their book, and their verdicts.
-const TEXTS: &[(&str, Kind, &[Judged])] = &[
-    ("trees without a bound", Kind::Late, WITHOUT_A_BOUND),
-    ("nobody covers", Kind::Nobody, NOBODY_COVERS),
-    ("branches and low sums", Kind::Rates, BRANCHES_AND_LOW_SUMS),
+const TEXTS: &[(&str, Made, &[Judged])] = &[
+    ("trees without a bound", LATE, WITHOUT_A_BOUND),
+    ("nobody covers", NOBODY, NOBODY_COVERS),
+    ("branches and low sums", RATES, BRANCHES_AND_LOW_SUMS),
 ];
 
-fn texts() -> &'static [(&'static str, Kind, &'static [Judged])] {
+fn texts() -> &'static [(&'static str, Made, &'static [Judged])] {
     TEXTS
 }
 
 #[test]
 fn texts_are_judged(rt: HostRuntime) -> Result<(), Fail> {
-    for &(about, kind, rows) in texts() {
-        let wrong = first_wrong_of(rt.alloc(), kind, rows)?;
+    for (about, made, rows) in texts() {
+        let wrong = first_wrong_of(rt.alloc(), made, rows)?;
         assert!(rt; wrong.is_none(), "{about}, row {wrong:?}");
     }
     Ok(())
@@ -254,7 +227,7 @@ fn texts_are_judged(rt: HostRuntime) -> Result<(), Fail> {
 // Bytes that no newline ends.
 #[test]
 fn nothing_but_zeros(rt: HostRuntime) -> Result<(), Fail> {
-    let book = nobody(rt.alloc())?;
+    let book = book_of(rt.alloc(), &NOBODY)?;
     let zeros = [b'0'; 201];
     assert!(rt; is_judged(rt.alloc(), &book, &zeros[..200], fails(1, 10)));
     assert!(rt; is_judged(rt.alloc(), &book, &zeros, fails(1, 1)));
@@ -404,7 +377,7 @@ fn changes() -> [&'static [Change]; 2] {
 
 #[test]
 fn changes_are_judged(rt: HostRuntime) -> Result<(), Fail> {
-    let book = rates(rt.alloc())?;
+    let book = book_of(rt.alloc(), &RATES)?;
     let [away, twice] = changes();
     let wrong = first_wrong_change(rt.alloc(), &book, away);
     assert!(rt; wrong.is_none(), "one line away, row {wrong:?}");
@@ -430,7 +403,7 @@ fn first_end(alloc: Global, book: &Book, bytes: &[u8]) -> Option<usize> {
 // A certificate of the least cost that is cut before any of its bytes is unfinished in the line of that byte.
 #[test]
 fn cut_at_every_byte(rt: HostRuntime) -> Result<(), Fail> {
-    let book = rates(rt.alloc())?;
+    let book = book_of(rt.alloc(), &RATES)?;
     let text = with_lines(rt.alloc(), 0, 0, "")?;
     let end = first_end(rt.alloc(), &book, text.as_bytes());
     assert!(rt; end.is_none(), "{end:?}");
@@ -498,11 +471,11 @@ fn unsafe_place(
 
 fn unsafe_place_of(
     alloc: Global,
-    kind: Kind,
+    made: &Made,
     costs: &[u64],
     text: &str,
 ) -> Result<Option<usize>, Fail> {
-    let book = book_of(alloc, kind)?;
+    let book = book_of(alloc, made)?;
     Ok(unsafe_place(alloc, &book, costs, text)?)
 }
 
@@ -517,11 +490,11 @@ const BARE_LEAF: &str = "tailcert 1 1 0 0\nbound\ndual 0 1001\nclaim limit 2 -\n
 #[test]
 fn one_byte_away(rt: HostRuntime) -> Result<(), Fail> {
     let least = with_lines(rt.alloc(), 0, 0, "")?;
-    let place = unsafe_place_of(rt.alloc(), Kind::Rates, &[240, 300], &least)?;
+    let place = unsafe_place_of(rt.alloc(), &RATES, &[240, 300], &least)?;
     assert!(rt; place.is_none(), "a least cost, {place:?}");
-    let place = unsafe_place_of(rt.alloc(), Kind::Late, &[], SPLIT)?;
+    let place = unsafe_place_of(rt.alloc(), &LATE, &[], SPLIT)?;
     assert!(rt; place.is_none(), "a split, {place:?}");
-    let place = unsafe_place_of(rt.alloc(), Kind::Nobody, &[], BARE_LEAF)?;
+    let place = unsafe_place_of(rt.alloc(), &NOBODY, &[], BARE_LEAF)?;
     assert!(rt; place.is_none(), "a bare leaf, {place:?}");
     Ok(())
 }

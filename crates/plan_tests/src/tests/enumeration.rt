@@ -2,7 +2,6 @@
 
 use crate::tests::books::*;
 use plan_enumeration::least_plan;
-use small_books::names_in_order;
 use std::alloc::Global;
 use std::test::Fail;
 use tail_book::*;
@@ -59,14 +58,6 @@ fn rules(alloc: Global, ruled: Ruled) -> Result<Rules, Memory> {
     let mut rules = plain(alloc, turn(ruled))?;
     put_rules(alloc, &mut rules, ruled)?;
     Ok(rules)
-}
-
-fn activities(alloc: Global, legs: &[Leg]) -> Result<Vec<Activity>, Memory> {
-    let mut activities = Vec::new(alloc);
-    for (name, leg) in names_in_order().iter().zip(legs) {
-        activities.push(activity(alloc, *name, leg)?)?;
-    }
-    Ok(activities)
 }
 
 fn book_of(alloc: Global, row: &Row) -> Result<Book, Fail> {

@@ -43,76 +43,86 @@ const SPELLED: &[&str] = &[
     "claim limit 0 -",
 ];
 
+fn spelled() -> &'static [&'static str] {
+    SPELLED
+}
+
 #[test]
 fn lines_have_one_spelling(rt: HostRuntime) -> Result<(), Fail> {
     let mut line = Line::new(rt.alloc())?;
-    for &text in SPELLED {
+    for &text in spelled() {
         assert!(rt; is_written_again(&mut line, text), "at {text}");
     }
     Ok(())
 }
 
 // A line is nothing else: no other word, sign, zero in front, space, end of line or number of words.
+const NEAR_MISSES: &[&str] = &[
+    "",
+    " ",
+    "bound\r",
+    "bound ",
+    " bound",
+    "Bound",
+    "bounds",
+    "bound 0",
+    "tailcert 1 1 1",
+    "tailcert 2 1 1 0",
+    "tailcert 01 1 1 0",
+    "tailcert 1 1 1 0 0",
+    "tailcert 1 4294967296 1 0",
+    "bar 0",
+    "bar 0 1 2",
+    "bar 00 1",
+    "bar 0 01",
+    "bar +0 1",
+    "bar -1 1",
+    "bar  0 1",
+    "bar 0\t1",
+    "must 4294967296 0",
+    "tie 0 1",
+    "cut 0 x",
+    "hole",
+    "hole 0 0",
+    "stuck -0",
+    "dual 0 0",
+    "dual 0 -0",
+    "dual 0 +1",
+    "dual 0 0180000",
+    "dual 0 -01",
+    "dual 0 -",
+    "dual 0 2305843009213693953",
+    "cover 0 -2305843009213693953",
+    "cover 0",
+    "label 0",
+    "label 0 0 -1",
+    "label 0 0 00",
+    "label 0 0 2305843009213693953",
+    "label 0 0 1 2 3 4 5 6 7",
+    "split fly 0",
+    "split tie 0 1",
+    "split 0 1",
+    "plan 0",
+    "fly 0",
+    "claim",
+    "claim optimal",
+    "claim optimal -1",
+    "claim optimal 18446744073709551616",
+    "claim infeasible 0",
+    "claim limit 5 5",
+    "claim limit 6 5",
+    "claim limit 5",
+    "claim limit - 5",
+    "claim limit 5 - ",
+];
+
+fn near_misses() -> &'static [&'static str] {
+    NEAR_MISSES
+}
+
 #[test]
 fn near_misses_are_bad(rt: HostRuntime) -> Result<(), Fail> {
-    for &text in &[
-        "",
-        " ",
-        "bound\r",
-        "bound ",
-        " bound",
-        "Bound",
-        "bounds",
-        "bound 0",
-        "tailcert 1 1 1",
-        "tailcert 2 1 1 0",
-        "tailcert 01 1 1 0",
-        "tailcert 1 1 1 0 0",
-        "tailcert 1 4294967296 1 0",
-        "bar 0",
-        "bar 0 1 2",
-        "bar 00 1",
-        "bar 0 01",
-        "bar +0 1",
-        "bar -1 1",
-        "bar  0 1",
-        "bar 0\t1",
-        "must 4294967296 0",
-        "tie 0 1",
-        "cut 0 x",
-        "hole",
-        "hole 0 0",
-        "stuck -0",
-        "dual 0 0",
-        "dual 0 -0",
-        "dual 0 +1",
-        "dual 0 0180000",
-        "dual 0 -01",
-        "dual 0 -",
-        "dual 0 2305843009213693953",
-        "cover 0 -2305843009213693953",
-        "cover 0",
-        "label 0",
-        "label 0 0 -1",
-        "label 0 0 00",
-        "label 0 0 2305843009213693953",
-        "label 0 0 1 2 3 4 5 6 7",
-        "split fly 0",
-        "split tie 0 1",
-        "split 0 1",
-        "plan 0",
-        "fly 0",
-        "claim",
-        "claim optimal",
-        "claim optimal -1",
-        "claim optimal 18446744073709551616",
-        "claim infeasible 0",
-        "claim limit 5 5",
-        "claim limit 6 5",
-        "claim limit 5",
-        "claim limit - 5",
-        "claim limit 5 - ",
-    ] {
+    for &text in near_misses() {
         assert!(rt; read_line(text.as_bytes()).is_err(), "at {text}");
     }
     Ok(())

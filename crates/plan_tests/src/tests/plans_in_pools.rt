@@ -29,54 +29,78 @@ fn add(
     Ok(())
 }
 
-// What is found below a cost, in a pool of each flight for each aircraft.
-fn found(
+// The flights of aircraft that are in a pool, duals, a cost, how many turns a search may take, and what the plan costs that
+// it finds below that cost.
+type Row = (&'static [(u32, u32)], &'static [i64], u64, u64, Option<u64>);
+
+fn has_cost(found: Option<JudgedPlan>, cost: Option<u64>) -> bool {
+    match found {
+        Some(plan) => Some(plan.cost) == cost,
+        None => cost.is_none(),
+    }
+}
+
+// Whether this is found in a pool, by these duals.
+fn finds(
     alloc: Global,
     book: &Book,
-    duals: [i64; 2],
-    target: u64,
-) -> Result<Option<JudgedPlan>, Fail> {
-    own_costs_are_for_book();
-    every_book_is_sound(book);
-    let table = CostTable::of(alloc, book)?;
+    table: &CostTable,
+    pool: &Pool,
+    row: &Row,
+) -> Result<bool, Memory>
+    requires { IsTableFor book.now table.now }
+{
+    let &(_, duals, target, turns, cost) = row;
+    let duals = duals_of(alloc, duals)?;
+    let found = find_plan(alloc, book, table, pool, &duals, target, turns)?;
+    Ok(has_cost(found, cost))
+}
+
+// The same in the pool of the flights.
+fn finds_in_pool(alloc: Global, book: &Book, table: &CostTable, row: &Row) -> Result<bool, Memory>
+    requires { IsTableFor book.now table.now }
+{
     let mut pool = Pool::new(alloc)?;
-    for k in 0..2 {
-        for a in 0..2 {
-            add(alloc, book, &table, &mut pool, k, a)?;
-        }
+    for &(k, a) in row.0 {
+        add(alloc, book, table, &mut pool, k, a)?;
     }
-    let duals = duals_of(alloc, &duals)?;
-    Ok(find_plan(alloc, book, &table, &pool, &duals, target, 100)?)
+    finds(alloc, book, table, &pool, row)
 }
 
-// The cheap aircraft takes the long flight, for 240; the other way round is 300, which does not undercut 300. Below 240
-// there is nothing.
-#[test]
-fn a_plan_that_undercuts_a_cost_is_found(rt: HostRuntime) -> Result<(), Fail> {
-    let book = two_at_once(rt.alloc())?;
-    for &(duals, target, cost) in &[
-        ([120_000, 180_000], 300, Some(240)),
-        ([120_000, 180_000], 241, Some(240)),
-        ([120_000, 180_000], 240, None),
-        ([0, 0], 241, Some(240)),
-    ] {
-        let answer = found(rt.alloc(), &book, duals, target)?;
-        assert!(rt; answer.map(|plan| plan.cost) == cost, "{target}");
-    }
-    Ok(())
-}
-
-// A search that may take no turn finds nothing.
-#[test]
-fn without_turns_nothing_is_found(rt: HostRuntime) -> Result<(), Fail> {
-    let alloc = rt.alloc();
-    let book = two_at_once(alloc)?;
+// The same by the book's own costs.
+fn finds_in_book(alloc: Global, book: &Book, row: &Row) -> Result<bool, Memory> {
     own_costs_are_for_book();
-    every_book_is_sound(&book);
-    let table = CostTable::of(alloc, &book)?;
-    let pool = Pool::new(alloc)?;
-    let duals = duals_of(alloc, &[0, 0])?;
-    let answer = find_plan(alloc, &book, &table, &pool, &duals, 1_000, 0)?;
-    assert!(rt; answer.is_none());
+    let table = CostTable::of(alloc, book)?;
+    finds_in_pool(alloc, book, &table, row)
+}
+
+fn is_right(alloc: Global, row: &Row) -> Result<bool, Fail> {
+    let book = two_at_once(alloc)?;
+    Ok(finds_in_book(alloc, &book, row)?)
+}
+
+// Each flight for each aircraft.
+const EACH: &[(u32, u32)] = &[(0, 0), (0, 1), (1, 0), (1, 1)];
+
+const ROWS: &[Row] = &[
+    // The cheap aircraft takes the long flight, for 240; the other way round is 300, which does not undercut 300. Below 240
+    // there is nothing.
+    (EACH, &[120_000, 180_000], 300, 100, Some(240)),
+    (EACH, &[120_000, 180_000], 241, 100, Some(240)),
+    (EACH, &[120_000, 180_000], 240, 100, None),
+    (EACH, &[0, 0], 241, 100, Some(240)),
+    // A search that may take no turn finds nothing.
+    (&[], &[0, 0], 1_000, 0, None),
+];
+
+fn rows() -> &'static [Row] {
+    ROWS
+}
+
+#[test]
+fn plans_that_undercut_a_cost_are_found(rt: HostRuntime) -> Result<(), Fail> {
+    for (number, row) in rows().iter().enumerate() {
+        assert!(rt; is_right(rt.alloc(), row)?, "row {number}");
+    }
     Ok(())
 }

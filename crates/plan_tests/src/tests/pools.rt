@@ -76,55 +76,87 @@ fn pooled(
     Ok(pool)
 }
 
-// The pool of these routes, settled from these duals by the book's own costs: the sum and the duals. Nothing where the
-// pool lacks an aircraft, or the duals are not in the box.
-fn settled(
+// Whether a pool is settled from these duals to this sum and these duals; not where it lacks an aircraft, or the duals are
+// not in the box.
+fn settles_so(
     alloc: Global,
     book: &Book,
-    routes: &[(u32, &[u32])],
-    duals: &[i64],
-) -> Result<Option<(i128, Duals)>, Fail> {
-    own_costs_are_for_book();
+    table: &CostTable,
+    pool: &Pool,
+    row: &Row,
+) -> Result<bool, Memory>
+    requires table { IsTableFor book.now table.now }
+    requires pool { IsPoolFor table.now book.now pool.now }
+{
     every_book_is_sound(book);
-    let table = CostTable::of(alloc, book)?;
-    let pool = pooled(alloc, book, &table, routes)?;
-    let mut duals = duals_of(alloc, duals)?;
-    if !has_routes(book, &pool) || !are_duals(book, &table, &duals) {
-        return Ok(None);
+    let &(_, from, sum, to) = row;
+    let mut duals = duals_of(alloc, from)?;
+    if !has_routes(book, pool) || !are_duals(book, table, &duals) {
+        return Ok(false);
     }
-    let sum = settle(alloc, &pool, book, &table, &mut duals)?;
-    Ok(Some((sum, duals)))
+    let settled = settle(alloc, pool, book, table, &mut duals)?;
+    Ok(settled == sum && duals.values.as_slice() == to)
 }
+
+// The same of the pool of the routes.
+fn pool_settles_so(alloc: Global, book: &Book, table: &CostTable, row: &Row) -> Result<bool, Memory>
+    requires { IsTableFor book.now table.now }
+{
+    let pool = pooled(alloc, book, table, row.0)?;
+    settles_so(alloc, book, table, &pool, row)
+}
+
+// The same by the book's own costs.
+fn book_settles_so(alloc: Global, book: &Book, row: &Row) -> Result<bool, Memory> {
+    own_costs_are_for_book();
+    let table = CostTable::of(alloc, book)?;
+    pool_settles_so(alloc, book, &table, row)
+}
+
+fn is_right(alloc: Global, row: &Row) -> Result<bool, Fail> {
+    let book = two_at_once(alloc)?;
+    Ok(book_settles_so(alloc, &book, row)?)
+}
+
+// Routes of aircraft, duals, and the sum and the duals to which they are settled.
+type Row = (
+    &'static [(u32, &'static [u32])],
+    &'static [i64],
+    i128,
+    &'static [i64],
+);
+
+// The box's end.
+const END: i64 = 4_000_001_000;
+
+const EMPTY: &[(u32, &[u32])] = &[(0, &[]), (1, &[])];
+
+const ALL: &[(u32, &[u32])] = &[
+    (0, &[]),
+    (1, &[]),
+    (0, &[0]),
+    (1, &[0]),
+    (0, &[1]),
+    (1, &[1]),
+];
 
 // With empty routes alone each dual runs to the box's end. With single flights too, duals that are settled stay, and
 // zero duals come to the least sum that no plan undercuts. An activity that one aircraft has alone is worth the box's end.
+const ROWS: &[Row] = &[
+    (EMPTY, &[0, 0], 8_000_002_000, &[END, END]),
+    (EMPTY, &[-END, END], 8_000_002_000, &[END, END]),
+    (ALL, &[120_000, 180_000], 240_000, &[120_000, 180_000]),
+    (ALL, &[0, 0], 180_000, &[60_000, 120_000]),
+];
+
+fn rows() -> &'static [Row] {
+    ROWS
+}
+
 #[test]
 fn pools_by_hand(rt: HostRuntime) -> Result<(), Fail> {
-    let book = two_at_once(rt.alloc())?;
-    let (none, one, two) = ([].as_slice(), [0u32].as_slice(), [1u32].as_slice());
-    let end = 4_000_001_000;
-    let empty = [(0, none), (1, none)];
-    let all = [(0, none), (1, none), (0, one), (1, one), (0, two), (1, two)];
-    for &(routes, duals, sum, moved) in &[
-        (empty.as_slice(), [0, 0], 8_000_002_000, [end, end]),
-        (empty.as_slice(), [-end, end], 8_000_002_000, [end, end]),
-        (
-            all.as_slice(),
-            [120_000, 180_000],
-            240_000,
-            [120_000, 180_000],
-        ),
-        (all.as_slice(), [0, 0], 180_000, [60_000, 120_000]),
-    ] {
-        let Some(answer) = settled(rt.alloc(), &book, routes, &duals)? else {
-            assert!(rt; false, "{duals:?}: no duals");
-            continue;
-        };
-        assert!(rt; answer.0 == sum, "{duals:?}");
-        assert!(rt;
-            answer.1.values.as_slice() == moved.as_slice(),
-            "{duals:?}: {answer:?}"
-        );
+    for (number, row) in rows().iter().enumerate() {
+        assert!(rt; is_right(rt.alloc(), row)?, "row {number}");
     }
     Ok(())
 }

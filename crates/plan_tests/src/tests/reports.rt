@@ -97,36 +97,6 @@ fn plan(alloc: Global, book: &Book, first: &[u32], second: &[u32]) -> Result<Pla
     Ok(Plan(listed))
 }
 
-// How the writing of a report ends where the put of this number fails, and what the sink took.
-fn reported(
-    alloc: Global,
-    book: &Book,
-    outcome: &Outcome,
-    failing: u64,
-) -> Result<(Result<(), ReportFail>, Vec<u8>), Fail>
-    requires { HasPlanFor book.now outcome.now }
-{
-    let mut sink = MemSink::new(alloc, vec![in alloc; failing]?)?;
-    let ended = write_report(alloc, book, outcome, &mut sink);
-    let taken = sink.bytes().to_vec(alloc)?;
-    Ok((ended, taken))
-}
-
-// The same of an audit.
-fn audited(
-    alloc: Global,
-    book: &Book,
-    audit: &Audit,
-    failing: u64,
-) -> Result<(Result<(), ReportFail>, Vec<u8>), Fail>
-    requires { AreOfBook book.now audit.now }
-{
-    let mut sink = MemSink::new(alloc, vec![in alloc; failing]?)?;
-    let ended = write_audit(alloc, book, audit, &mut sink);
-    let taken = sink.bytes().to_vec(alloc)?;
-    Ok((ended, taken))
-}
-
 fn add_name(text: &mut Vec<u8>, name: &Name, end: &[u8]) -> Result<(), Memory> {
     text.extend_from_slice(name.as_bytes())?;
     text.extend_from_slice(end)?;
@@ -194,9 +164,10 @@ fn is_front(taken: &[u8], text: &str, length: usize) -> bool {
 // The put that fails, how the writing ends, and how many bytes were taken.
 type Failing = (u64, Result<(), ReportFail>, usize);
 
-fn ends_so(seen: &(Result<(), ReportFail>, Vec<u8>), whole: &str, row: &Failing) -> bool {
-    let &(_, ended, length) = row;
-    seen.0 == ended && is_front(&seen.1, whole, length)
+// A sink of which the put of this number fails.
+fn sink(alloc: Global, failing: u64) -> Result<MemSink, Memory> {
+    let puts = vec![in alloc; failing]?;
+    MemSink::new(alloc, puts)
 }
 
 // Whether the report of an outcome ends so. What the sink took is the lines before the put that fails.
@@ -206,11 +177,13 @@ fn report_ends_so(
     outcome: &Outcome,
     whole: &str,
     row: &Failing,
-) -> Result<bool, Fail>
+) -> Result<bool, Memory>
     requires { HasPlanFor book.now outcome.now }
 {
-    let seen = reported(alloc, book, outcome, row.0)?;
-    Ok(ends_so(&seen, whole, row))
+    let &(failing, want, length) = row;
+    let mut sink = sink(alloc, failing)?;
+    let ended = write_report(alloc, book, outcome, &mut sink);
+    Ok(ended == want && is_front(sink.bytes(), whole, length))
 }
 
 // Reports the outcome whole, and where each put fails in turn.
@@ -248,15 +221,16 @@ fn a_plan_is_reported(rt: HostRuntime) -> Result<(), Fail> {
 }
 
 // Whether an outcome is reported so.
-fn is_reported(alloc: Global, book: &Book, outcome: &Outcome, text: &str) -> Result<bool, Fail>
+fn is_reported(alloc: Global, book: &Book, outcome: &Outcome, text: &str) -> Result<bool, Memory>
     requires { HasPlanFor book.now outcome.now }
 {
-    let seen = reported(alloc, book, outcome, 0)?;
-    Ok(seen.1.as_slice() == text.as_bytes())
+    let mut sink = sink(alloc, 0)?;
+    let ended = write_report(alloc, book, outcome, &mut sink);
+    Ok(ended.is_ok() && sink.bytes() == text.as_bytes())
 }
 
 // Whether a bound with a plan that leaves an aircraft at home is reported so.
-fn between_is_reported(alloc: Global, book: &Book, text: &str) -> Result<bool, Fail>
+fn between_is_reported(alloc: Global, book: &Book, text: &str) -> Result<bool, Memory>
     requires activities { activities book.now ≡ 3 }
     requires aircraft { aircraft book.now ≡ 2 }
 {
@@ -284,11 +258,12 @@ fn each_outcome_is_reported(rt: HostRuntime) -> Result<(), Fail> {
 }
 
 // Whether what is written of an outcome is read as these names.
-fn is_read_back(alloc: Global, book: &Book, outcome: &Outcome, names: &[u8]) -> Result<bool, Fail>
+fn is_read_back(alloc: Global, book: &Book, outcome: &Outcome, names: &[u8]) -> Result<bool, Memory>
     requires { HasPlanFor book.now outcome.now }
 {
-    let seen = reported(alloc, book, outcome, 0)?;
-    Ok(is_answered(alloc, &seen.1, names))
+    let mut sink = sink(alloc, 0)?;
+    let ended = write_report(alloc, book, outcome, &mut sink);
+    Ok(ended.is_ok() && is_answered(alloc, sink.bytes(), names))
 }
 
 // What was written is read as the plan's names.
@@ -481,11 +456,13 @@ fn audit_ends_so(
     audit: &Audit,
     whole: &str,
     row: &Failing,
-) -> Result<bool, Fail>
+) -> Result<bool, Memory>
     requires { AreOfBook book.now audit.now }
 {
-    let seen = audited(alloc, book, audit, row.0)?;
-    Ok(ends_so(&seen, whole, row))
+    let &(failing, want, length) = row;
+    let mut sink = sink(alloc, failing)?;
+    let ended = write_audit(alloc, book, audit, &mut sink);
+    Ok(ended == want && is_front(sink.bytes(), whole, length))
 }
 
 // Writes the audit whole, and where one put or another fails.
@@ -534,11 +511,12 @@ curfew A2 F2\nnolink A2 F1\ncounter A1 F3 fh\n";
 }
 
 // Whether an audit is written so.
-fn is_written(alloc: Global, book: &Book, audit: &Audit, text: &str) -> Result<bool, Fail>
+fn is_written(alloc: Global, book: &Book, audit: &Audit, text: &str) -> Result<bool, Memory>
     requires { AreOfBook book.now audit.now }
 {
-    let seen = audited(alloc, book, audit, 0)?;
-    Ok(seen.1.as_slice() == text.as_bytes())
+    let mut sink = sink(alloc, 0)?;
+    let ended = write_audit(alloc, book, audit, &mut sink);
+    Ok(ended.is_ok() && sink.bytes() == text.as_bytes())
 }
 
 // An audit of a legal plan, and one without broken rules.
