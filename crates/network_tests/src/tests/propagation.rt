@@ -317,12 +317,14 @@ fn close_again(
     close(alloc, book, net, marks, list)
 }
 
-// What a list has, and then what follows.
+// What follows, and what a list then has that had a fact before.
+const FOLLOWING: &[Fact] = &[Fact::Bar(0, 1), Fact::Must(0, 0)];
+
 const GROWN: &[Fact] = &[Fact::Tie(5, 6), Fact::Bar(0, 1), Fact::Must(0, 0)];
 
 // Whether marks then have what follows, and the list has it behind what it had.
 fn is_grown(list: &[Fact], facts: &[Fact], answer: Closed) -> bool {
-    list == GROWN && facts == &GROWN[1..] && answer == Closed::Hole(1)
+    list == GROWN && facts == FOLLOWING && answer == Closed::Hole(1)
 }
 
 fn grows_over(alloc: Global, book: &Book, net: &Net, again: bool) -> Result<bool, Memory>

@@ -58,8 +58,10 @@ fn place_tail(tail: &mut Tail, dice: &mut Dice) -> Result<(), Memory> {
 // One to three aircraft.
 fn few_tails(alloc: Global, dice: &mut Dice) -> Result<Vec<Tail>, Memory> {
     let (mut fleet, many) = (tails(alloc, &[0, 0, 0], 2)?, 1 + dice.below(3) as usize);
-    for tail in fleet.iter_mut() {
-        place_tail(tail, dice)?;
+    for k in 0..3 {
+        if let Some(tail) = fleet.get_mut(k) {
+            place_tail(tail, dice)?;
+        }
     }
     fleet.truncate(many);
     Ok(fleet)
