@@ -4,5 +4,5 @@ pub mod Promised
 pub mod Reported
 pub mod Holding
 pub mod Lifting
-pub mod Tried
+pub mod TrialRuns
 pub mod TrialWords

@@ -1,5 +1,5 @@
 use Rattle.std.proofs.Common.{rules}
-use Rattle.tailplan.proofs.Tried.{trial_promise}
+use Rattle.tailplan.proofs.TrialRuns.{trial_promise}
 use Rattle.tailplan.proofs.trial.run_trial.Goals as goal
 
 pub returns-clause-promised : goal.returns-clause-promised

@@ -1,7 +1,7 @@
 use Rattle.std.proofs.Common.{Some, false, refl, sym, ap}
 use Rattle.tail_outside.specs.Shown.{SinkShown}
 use Rattle.tail_outside.specs.inside.Seen.{MemSinkSeen}
-use Rattle.tailplan.proofs.Tried.{tried_of}
+use Rattle.tailplan.proofs.TrialRuns.{tried_of}
 use Rattle.tailplan.proofs.trial.search_trial.Goals as goal
 
 -- what a sink in memory shows
