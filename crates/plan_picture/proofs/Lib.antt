@@ -1,6 +1,9 @@
 mod Appends
+mod Banded
+mod Clocks
 mod Emptiness
 mod Followed
 mod LastEnd
+mod Shades
 mod Signed
 mod Uncovered

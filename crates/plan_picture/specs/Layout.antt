@@ -1,5 +1,5 @@
 -- Where things stand in a picture: from left to right one unit is one minute, and from top to bottom each row has its height.
-use Rattle.std.specs.Prelude.{ℕ, ℤ, pos, ◌+◌, ◌-◌, ◌*◌, ◌/◌, ◌-ℤ◌, List, [], ◌∷◌, ◌++◌, codes, decimal, unsigned_abs}
+use Rattle.std.specs.Prelude.{ℕ, ℤ, pos, ◌+◌, ◌-◌, ◌*◌, ◌/◌, ◌+ℤ◌, ◌-ℤ◌, List, [], ◌∷◌, ◌++◌, codes, decimal, unsigned_abs}
 use Rattle.std.specs.Int.{int_max, int_rem_euclid}
 use Rattle.tail_book.specs.Seen.{ActivitySeen, BookSeen}
 use Rattle.tail_book.specs.Lookup.{start_of}
@@ -22,6 +22,10 @@ minutes_to from to = unsigned_abs (int_max (to -ℤ from) (pos 0))
 -- how many days a picture shows: all that activities touch
 abbrev pub days_shown : BookSeen → ℕ
 days_shown book = minutes_to (first_moment book) (last_end (first_moment book) book.activities) / DAY_WIDTH + 1
+
+-- the first moment behind them
+abbrev pub end_shown : BookSeen → ℤ
+end_shown book = first_moment book +ℤ pos (days_shown book * DAY_WIDTH)
 
 -- where a moment stands, in units from the left: a minute is a unit, and what is before the first day stands at its start
 abbrev pub x_of : ℤ → ℤ → ℕ

@@ -5,6 +5,7 @@ pub mod Ports
 pub mod Bars
 pub mod Stops
 pub mod Shares
+pub mod Stretches
 pub mod Curfews
 pub mod Rows
 pub mod Picture

@@ -83,7 +83,7 @@ front_lines width height cost rules =
 abbrev pub svg_lines : View → BookSeen → List (List ℕ) → ℕ → List Broken → List (List ℕ)
 svg_lines view book plan cost rules =
     front_lines (width_of book) (height_of book (uncovered_in rules)) cost rules
-    ++ bands book view.airport (width_of book) (height_of book (uncovered_in rules))
+    ++ bands book view.airport (height_of book (uncovered_in rules))
     ++ day_lines (first_moment book) (days_shown book)
     ++ rows_from book (first_moment book) (width_of book) rules 0 plan
     ++ uncovered_rows book (first_moment book) (width_of book) (uncovered_in rules)

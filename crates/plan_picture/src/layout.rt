@@ -7,7 +7,7 @@ ghost use Rattle.std.specs.Prelude.{◌≡◌, ◌<◌, ◌++◌, OnOk};
 ghost use Rattle.tail_book.specs.Lookup.{start_of};
 ghost use Rattle.tail_book.specs.inside.Sound.{IsMoment};
 ghost use Rattle.plan_picture.specs.inside.Drawable.{IsNear};
-ghost use Rattle.plan_picture.specs.Layout.{days_shown, first_moment, last_end, minutes_to, span, x_of, y_of};
+ghost use Rattle.plan_picture.specs.Layout.{days_shown, end_shown, first_moment, last_end, minutes_to, span, x_of, y_of};
 
 use tail_book::limits::DAY;
 use tail_book::{Book, Memory, end_of, start_of};
@@ -28,7 +28,7 @@ pub const DAY_WIDTH: u64 = 1_440;
 /// The first moment that is shown: that of the day on which the first activity starts.
 pub fn first_moment(book: &Book) -> i64
     ensures value { result ≡ first_moment book.now }
-    ensures range { IsNear result }
+    ensures range { IsMoment result }
 {
     let start = first_start(book);
     start - start.rem_euclid(DAY)
@@ -45,9 +45,9 @@ fn first_start(book: &Book) -> i64
 }
 
 fn last_end(book: &Book, first: i64) -> i64
-    requires { IsNear first }
+    requires { IsMoment first }
     ensures value { result ≡ last_end first book.now.activities }
-    ensures range { IsNear result }
+    ensures range { IsMoment result }
 {
     let mut latest = first;
     for b in 0..book.activities.len() {
@@ -69,10 +69,18 @@ pub fn minutes_to(from: i64, to: i64) -> u64
 /// How many days the picture shows.
 pub fn days_shown(book: &Book) -> u64
     ensures value { result ≡ days_shown book.now }
-    ensures range { result < 700_000 }
+    ensures range { result < 100_000 }
 {
     let first = first_moment(book);
     minutes_to(first, last_end(book, first)) / DAY_WIDTH + 1
+}
+
+/// The first moment behind the days that the picture shows.
+pub fn end_shown(book: &Book) -> i64
+    ensures value { result ≡ end_shown book.now }
+    ensures range { IsNear result }
+{
+    first_moment(book) + (days_shown(book) * DAY_WIDTH) as i64
 }
 
 /// Where a moment stands, in units from the left.

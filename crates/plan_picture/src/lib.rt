@@ -5,11 +5,13 @@ mod bars;
 mod calendar;
 mod curfews;
 mod fixed;
+pub mod laws;
 mod layout;
 mod picture;
 mod rows;
 mod shares;
 mod stops;
+mod stretches;
 mod view;
 
 pub use picture::write_picture;

@@ -95,7 +95,7 @@ fn add_svg(
     let (first, width) = (first_moment(book), width_of(book));
     let height = height_of(book, &uncovered);
     add_front(alloc, width, height, cost, rules, lines)?;
-    add_bands(alloc, book, view.airport, width, height, lines)?;
+    add_bands(alloc, book, view.airport, height, lines)?;
     add_days(alloc, first, days_shown(book), lines)?;
     add_rows(alloc, book, first, width, rules, &plan.0, lines)?;
     add_uncovered(alloc, book, first, width, &uncovered, lines)?;

@@ -22,8 +22,8 @@ returns c =
     let again : c.deref-3.result.now ≡ uncovered_in rules_seen = search rules in
     let front : c.add_front.new.lines.items ≡ c.args.lines.now.items ++ front_lines (width_of book) (height_of book (uncovered_in rules_seen)) c.args.cost rules_seen =
     c.in_ok-add_front.ensures ∙ ap₂ (λ w h. c.args.lines.now.items ++ front_lines w h c.args.cost rules_seen) width height in
-    let curfews : c.add_bands.new.lines.items ≡ c.add_front.new.lines.items ++ bands book c.args.view.airport (width_of book) (height_of book (uncovered_in rules_seen)) =
-    c.in_ok-add_bands.ensures ∙ ap₂ (λ w h. c.add_front.new.lines.items ++ bands book c.args.view.airport w h) width height in
+    let curfews : c.add_bands.new.lines.items ≡ c.add_front.new.lines.items ++ bands book c.args.view.airport (height_of book (uncovered_in rules_seen)) =
+    c.in_ok-add_bands.ensures ∙ ap (λ h. c.add_front.new.lines.items ++ bands book c.args.view.airport h) height in
     let days : c.add_days.new.lines.items ≡ c.add_bands.new.lines.items ++ day_lines (first_moment book) (days_shown book) =
     c.in_ok-add_days.ensures ∙ ap₂ (λ f d. c.add_bands.new.lines.items ++ day_lines f d) first c.days_shown.ensures.value in
     let rows : c.add_rows.new.lines.items ≡ c.add_days.new.lines.items ++ rows_from book (first_moment book) (width_of book) rules_seen 0 c.args.plan.now =

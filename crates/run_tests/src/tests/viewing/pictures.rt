@@ -2,7 +2,7 @@
 
 use super::fixtures::{run_failing, run_there_and_back, run_with};
 use small_texts::{
-    LEGAL, ONE_AT_ARLANDA, RULES, Seen, THERE_AND_BACK, TWO_AT_ARLANDA, Typed, files_of,
+    LEGAL, ONE_AT_ARLANDA, RULES, Seen, THERE_AND_BACK, TWO_AT_ARLANDA, Typed, files_of, files_with,
 };
 use std::alloc::Global;
 use std::test::Fail;
@@ -183,6 +183,86 @@ fn curfews_and_pages_on_request(rt: HostRuntime) -> Result<(), Fail> {
         assert!(rt; seen.has(0, band) == has_band, "{words:?}");
         assert!(rt; seen.has(0, "<!DOCTYPE html>") == has_page, "{words:?}");
         assert!(rt; seen.has(0, "</body></html>\n") == has_page, "{words:?}");
+    }
+    Ok(())
+}
+
+// Flights on the last Saturday of March and on the Sunday, on which clocks are put forward.
+const SATURDAY: &str = "F1,flight,ARN,OSL,2025-03-29T06:00,2025-03-29T07:00,,,,\n";
+
+const SUNDAY: &str = "F1,flight,ARN,OSL,2025-03-30T06:00,2025-03-30T07:00,,,,\n";
+
+const BOTH_DAYS: &str = "F1,flight,ARN,OSL,2025-03-29T06:00,2025-03-29T07:00,,,,\n\
+F2,flight,OSL,ARN,2025-03-30T06:00,2025-03-30T07:00,,,,\n";
+
+// An airport whose clocks are put forward at 01:00 UTC, closed at night.
+const BERGEN: &str =
+    "[[airport]]\nname = \"BGO\"\nzone = \"CET-1CEST,M3.5.0,M10.5.0/3\"\nturn = 20\n\
+[[curfew]]\nairport = \"BGO\"\nfrom = \"23:00\"\nto = \"05:30\"\ntypes = []\nstart = true\nlanding = true\n";
+
+// The same at 00:00 UTC, closed for an hour from 00:30.
+const AT_MIDNIGHT: &str =
+    "[[airport]]\nname = \"BGO\"\nzone = \"GMT0SUM,M3.5.0/0,M10.5.0\"\nturn = 20\n\
+[[curfew]]\nairport = \"BGO\"\nfrom = \"00:30\"\nto = \"01:30\"\ntypes = []\nstart = true\nlanding = true\n";
+
+fn run_in_march(alloc: Global, records: &str, more_rules: &str, plan: &str) -> Result<Seen, Fail> {
+    let aircraft = "A1,P,ARN,2025-03-29T05:00,0,,,\n";
+    let files = files_with(alloc, records, aircraft, more_rules, plan)?;
+    let words = ["tailview", "t", "f", "r", "--plan", "p", "--curfews", "BGO"];
+    run_failing(alloc, &words, files, &[], &[])
+}
+
+// A change of the clocks cuts the bands, each by the offset of its stretch: 1,500 minutes behind the first moment where it
+// comes at 01:00 UTC of the second day. One at the first moment or at the end cuts nothing.
+#[test]
+fn bands_follow_the_clocks(rt: HostRuntime) -> Result<(), Fail> {
+    let (one, two) = ("optimal 60\nA1: F1\n", "optimal 120\nA1: F1 F2\n");
+    for &(records, rules, plan, bands) in &[
+        (
+            BOTH_DAYS,
+            BERGEN,
+            two,
+            "fill='url(#clock)'/>\n<pattern id='curfew0' patternUnits='userSpaceOnUse' x='1660' width='1440' height='250'>\
+<rect class='curfew' width='390' height='250'/></pattern>\
+<rect x='340' y='120' width='1500' height='250' fill='url(#curfew0)'><title>BGO curfew</title></rect>\n\
+<pattern id='curfew0-1840' patternUnits='userSpaceOnUse' x='1600' width='1440' height='250'>\
+<rect class='curfew' width='390' height='250'/></pattern>\
+<rect x='1840' y='120' width='1380' height='250' fill='url(#curfew0-1840)'><title>BGO curfew</title></rect>\n\
+<text class='date' x='344' ",
+        ),
+        (
+            SATURDAY,
+            AT_MIDNIGHT,
+            one,
+            "fill='url(#clock)'/>\n<pattern id='curfew0' patternUnits='userSpaceOnUse' x='370' width='1440' height='250'>\
+<rect class='curfew' width='60' height='250'/></pattern>\
+<rect x='340' y='120' width='1440' height='250' fill='url(#curfew0)'><title>BGO curfew</title></rect>\n\
+<text class='date' x='344' ",
+        ),
+        (
+            SUNDAY,
+            AT_MIDNIGHT,
+            one,
+            "fill='url(#clock)'/>\n<pattern id='curfew0' patternUnits='userSpaceOnUse' x='1750' width='1440' height='250'>\
+<rect class='curfew' width='60' height='250'/></pattern>\
+<rect x='340' y='120' width='1440' height='250' fill='url(#curfew0)'><title>BGO curfew</title></rect>\n\
+<text class='date' x='344' ",
+        ),
+        (
+            BOTH_DAYS,
+            AT_MIDNIGHT,
+            two,
+            "fill='url(#clock)'/>\n<pattern id='curfew0' patternUnits='userSpaceOnUse' x='370' width='1440' height='250'>\
+<rect class='curfew' width='60' height='250'/></pattern>\
+<rect x='340' y='120' width='1440' height='250' fill='url(#curfew0)'><title>BGO curfew</title></rect>\n\
+<pattern id='curfew0-1780' patternUnits='userSpaceOnUse' x='1750' width='1440' height='250'>\
+<rect class='curfew' width='60' height='250'/></pattern>\
+<rect x='1780' y='120' width='1440' height='250' fill='url(#curfew0-1780)'><title>BGO curfew</title></rect>\n\
+<text class='date' x='344' ",
+        ),
+    ] {
+        let seen = run_in_march(rt.alloc(), records, rules, plan)?;
+        assert!(rt; seen.has(0, bands), "{records}{rules}");
     }
     Ok(())
 }
