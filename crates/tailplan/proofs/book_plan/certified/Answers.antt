@@ -22,10 +22,10 @@ returns-in-Ok-found-clause-answer g c =
     (g.F.Files.shows c.begin.new.self) old new (g.F.Files.shows c.into_files-files.result)
     (ap (λ name. name.now) c.new-sink.ensures.name) (ap (λ name. name.now) run.ensures.beside.0) (ap (λ files. g.F.Files.shows files) c.new-sink.ensures.files)
     (ap (λ files. g.F.Files.shows files) c.into_files-files.ensures) c.in-Ok.ensures.empty run.ensures.beside.1 leaves in
-    rw (c.of.ensures.answer, c.of.ensures.files) (refl, truth, tree, held)
+    rw (c.of-in-Ok-found.ensures.answer, c.of-in-Ok-found.ensures.files) (refl, truth, tree, held)
 
 pub returns-in-Ok-found-clause-left : goal.returns-in-Ok-found-clause-left
-returns-in-Ok-found-clause-left g c = λ alive.
+returns-in-Ok-found-clause-left g c = rw c.of-in-Ok-found.ensures.files (λ alive.
     let book = c.args.book in let outcome = c.in-Ok-found.outcome in let run = c.certified_search-found in
     let old = g.F.Files.shows c.new-sink.result.files in let new = g.F.Files.shows run.result.sink.files in
     let leaves = subst (λ (found : Result Outcome Stop). IfOk found (λ o. LeavesText (shown_over old c.new-sink.result.name.now) (shown_over new run.result.sink.name.now) (IsCertificateOf book c.args.limit o)))
@@ -34,4 +34,4 @@ returns-in-Ok-found-clause-left g c = λ alive.
     (g.F.Files.shows c.begin.new.self) old new (g.F.Files.shows c.into_files-files.result)
     (ap (λ name. name.now) c.new-sink.ensures.name) (ap (λ name. name.now) run.ensures.beside.0) (ap (λ files. g.F.Files.shows files) c.new-sink.ensures.files)
     (ap (λ files. g.F.Files.shows files) c.into_files-files.ensures) c.in-Ok.ensures.empty run.ensures.beside.1 leaves in
-    inr (certificate_front book c.args.limit outcome c.args.name.now (g.F.Files.shows c.into_files-files.result) (held alive))
+    inr (certificate_front book c.args.limit outcome c.args.name.now (g.F.Files.shows c.into_files-files.result) (held alive)))
