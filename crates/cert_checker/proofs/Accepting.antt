@@ -34,7 +34,7 @@ use Rattle.cert_lines.specs.Grammar.{IsLine}
 use Rattle.cert_lines.specs.OneSpelling.{SpelledLinesAreRead, SpelledLinesAreShort}
 use Rattle.cert_lines.specs.Spelling.{spelling}
 use Rattle.cert_lines.specs.PlanLines.{fly_lines, plan_lines}
-use Rattle.cert_lines.specs.Text.{text_of}
+use Rattle.cert_lines.specs.Text.{cert_text}
 use Rattle.cert_checker.specs.Certificate.{Accepts, HasClaimedPlan, asked_of, certificate_lines, claimed_cost, header_of, tree_lines}
 use Rattle.cert_checker.specs.Step.{done_section, is_pair_of, judge_claim, take_claim_in, take_line}
 use Rattle.cert_checker.specs.Reasons.{has_claimed_plan, reaches}
@@ -134,12 +134,12 @@ module _ (plans : LegalPlanDecides) where
 no_newline : (c : ℕ) → 32 ≤ c → (c == 10) ≡ false
 no_newline c h = grind (arith, nat_tests)
 
-lines_again : SpelledLinesAreShort → (all : List CertLine) → All IsLine all → parts_of 10 (text_of all) ≡ map spelling all ++ [] ∷ []
+lines_again : SpelledLinesAreShort → (all : List CertLine) → All IsLine all → parts_of 10 (cert_text all) ≡ map spelling all ++ [] ∷ []
 lines_again short [] good = refl
 lines_again short (line ∷ all) good =
     let clear = (short line (good 0 line (omega arith))).1 in
-    rw (append_assoc (spelling line) (10 ∷ []) (text_of all))
-    (slice_split_at (λ b. b == 10) (spelling line) 10 (text_of all) (λ k d lt. no_newline (get_or (spelling line) k d) (clear k d lt)) refl
+    rw (append_assoc (spelling line) (10 ∷ []) (cert_text all))
+    (slice_split_at (λ b. b == 10) (spelling line) 10 (cert_text all) (λ k d lt. no_newline (get_or (spelling line) k d) (clear k d lt)) refl
     ∙ ap (λ (parts : List (List ℕ)). spelling line ∷ parts) (lines_again short all (λ k d lt. good (suc k) d (omega (arith, lt)))))
 
 module _ (alive : AliveDecides) (follow : FollowsDecides) (fact_of : FactOfDecides) (undecided : UndecidedDecides) (facts : FollowingFactsAreOfBook) (pairs_are : UndecidedPairsAreOfBook)

@@ -25,7 +25,7 @@ use Rattle.cert_lines.specs.OneSpelling.{ReadLinesAreSpelled}
 use Rattle.cert_lines.specs.Reading.{line_of}
 use Rattle.cert_lines.specs.Spelling.{spelling}
 use Rattle.cert_lines.specs.PlanLines.{plan_lines}
-use Rattle.cert_lines.specs.Text.{text_of}
+use Rattle.cert_lines.specs.Text.{cert_text}
 use Rattle.cert_checker.specs.Certificate.{Accepts, HasClaimedPlan, asked_of, certificate_lines, claimed_cost}
 use Rattle.cert_checker.specs.Step.{take_line}
 use Rattle.cert_checker.specs.Reasons.{has_claimed_plan}
@@ -135,11 +135,11 @@ module _ (book : BookSeen) (claim : Claim) (read : ReadLinesAreSpelled) where
       }) e
 
 -- the text is its lines, each with its newline
-joined_lines : (more : List CertLine) → join_with_byte 10 (map spelling more ++ [] ∷ []) ≡ text_of more
+joined_lines : (more : List CertLine) → join_with_byte 10 (map spelling more ++ [] ∷ []) ≡ cert_text more
 joined_lines [] = refl
 joined_lines (line ∷ []) = sym (append-nil (spelling line ++ 10 ∷ []))
 joined_lines (line ∷ next ∷ more) =
-    ap (λ rest. spelling line ++ (10 ∷ rest)) (joined_lines (next ∷ more)) ∙ sym (append_assoc (spelling line) (10 ∷ []) (text_of (next ∷ more)))
+    ap (λ rest. spelling line ++ (10 ∷ rest)) (joined_lines (next ∷ more)) ∙ sym (append_assoc (spelling line) (10 ∷ []) (cert_text (next ∷ more)))
 
 claimed_plan : LegalPlanDecides → (book : BookSeen) (fliers : Option (List ℕ)) (cost : Option ℕ) → NamesEach book fliers → has_claimed_plan book fliers cost ≡ true → HasClaimedPlan book fliers cost
 claimed_plan decides book None None names e = tt
@@ -164,12 +164,12 @@ module _ (shown : ShownDecides) (bounds : BoundsDecide) (plans : LegalPlanDecide
       let (tree, made) = grows_last book ends.told ends.least ends.grows (asked_of book claim) ends.fits.reached in
       let whole : ends.more ≡ certificate_lines book tree ends.fliers claim =
       ends.all_are ∙ ap (λ (told : List Event). tree_front book told ++ (plan_lines ends.fliers ++ lines.Claim claim ∷ [])) (sym made.spelled) in
-      let spelled : text ≡ text_of ends.more = sym (join_with_byte-slice_split 10 text) ∙ ap (λ (parts : List (List ℕ)). join_with_byte 10 parts) ends.texts_are ∙ joined_lines ends.more in (
+      let spelled : text ≡ cert_text ends.more = sym (join_with_byte-slice_split 10 text) ∙ ap (λ (parts : List (List ℕ)). join_with_byte 10 parts) ends.texts_are ∙ joined_lines ends.more in (
         tree,
         ends.fliers,
         record {
           lines = subst (λ (all : List CertLine). All IsLine all) whole ends.good;
-          spelled = spelled ∙ ap (λ (all : List CertLine). text_of all) whole;
+          spelled = spelled ∙ ap (λ (all : List CertLine). cert_text all) whole;
           shown = (shown (costs_of book) book [] tree).0 made.shown;
           bounds = (bounds (asked_of book claim) tree).0 made.bounds;
           plan = claimed_plan plans book ends.fliers (claimed_cost claim) ends.names ends.fits.plan;

@@ -13,7 +13,7 @@ use Rattle.cert_lines.specs.declared.cert_line.CertLine.{CertLine}
 use Rattle.cert_lines.specs.declared.cert_line.CertLine.TheVariants as line
 use Rattle.cert_lines.specs.Grammar.{IsLine}
 use Rattle.cert_lines.specs.PlanLines.{plan_lines}
-use Rattle.cert_lines.specs.Text.{text_of}
+use Rattle.cert_lines.specs.Text.{cert_text}
 use Rattle.branch_marks.specs.TreeEvents.{tree_events}
 
 -- the header of the book's certificates
@@ -57,7 +57,7 @@ HasClaimedPlan book (Some fliers) (Some cost) = IsPlanOfFliers book cost fliers
 -- the claim asks, of the claimed plan, and of the claim
 pub record IsCertificate (book : BookSeen) (tree : Tree) (fliers : Option (List ℕ)) (claim : Claim) (text : List ℕ) : Type 0 where
   pub lines : All IsLine (certificate_lines book tree fliers claim)
-  pub spelled : text ≡ text_of (certificate_lines book tree fliers claim)
+  pub spelled : text ≡ cert_text (certificate_lines book tree fliers claim)
   pub shown : IsShown (costs_of book) book [] tree
   pub bounds : BoundsAtLeast (asked_of book claim) tree
   pub plan : HasClaimedPlan book fliers (claimed_cost claim)

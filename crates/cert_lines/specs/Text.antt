@@ -5,5 +5,5 @@ use Rattle.cert_lines.specs.declared.cert_line.CertLine.{CertLine}
 use Rattle.cert_lines.specs.Spelling.{spelling}
 
 -- each line with the newline that ends it
-abbrev pub text_of : List CertLine → List ℕ
-text_of lines = flat_map (λ line. spelling line ++ 10 ∷ []) lines
+abbrev pub cert_text : List CertLine → List ℕ
+cert_text lines = flat_map (λ line. spelling line ++ 10 ∷ []) lines

@@ -12,21 +12,21 @@ use Rattle.branch_marks.specs.Events.{IsNotable}
 use Rattle.branch_marks.specs.declared.event.Event.{Event}
 use Rattle.cert_lines.specs.declared.cert_line.CertLine.{CertLine}
 use Rattle.cert_lines.specs.declared.cert_line.CertLine.TheVariants as line
-use Rattle.cert_lines.specs.Text.{text_of}
+use Rattle.cert_lines.specs.Text.{cert_text}
 use Rattle.cert_writer.specs.CertText.{IsTornAt, TellsAt, event_text, line_text}
 
-pub text_append : (one other : List CertLine) → text_of (one ++ other) ≡ text_of one ++ text_of other
+pub text_append : (one other : List CertLine) → cert_text (one ++ other) ≡ cert_text one ++ cert_text other
 text_append [] other = refl
-text_append (cert ∷ one) other = ap (λ (rest : List ℕ). line_text cert ++ rest) (text_append one other) ∙ sym (append_assoc (line_text cert) (text_of one) (text_of other))
+text_append (cert ∷ one) other = ap (λ (rest : List ℕ). line_text cert ++ rest) (text_append one other) ∙ sym (append_assoc (line_text cert) (cert_text one) (cert_text other))
 
-text_of_one : (cert : CertLine) → text_of (cert ∷ []) ≡ line_text cert
-text_of_one cert = append-nil (line_text cert)
+cert_text_one : (cert : CertLine) → cert_text (cert ∷ []) ≡ line_text cert
+cert_text_one cert = append-nil (line_text cert)
 
 pub text_more : (header : CertLine) (told : List Event) (event : Event) → event_text header (told ++ event ∷ []) ≡ event_text header told ++ line_text (line.Event event)
 text_more header told event =
-    ap (λ (rest : List CertLine). text_of (header ∷ rest)) (map-append line.Event told (event ∷ []))
+    ap (λ (rest : List CertLine). cert_text (header ∷ rest)) (map-append line.Event told (event ∷ []))
     ∙ text_append (header ∷ map line.Event told) (line.Event event ∷ [])
-    ∙ ap (λ (rest : List ℕ). event_text header told ++ rest) (text_of_one (line.Event event))
+    ∙ ap (λ (rest : List ℕ). event_text header told ++ rest) (cert_text_one (line.Event event))
 
 -- a line more waits
 pub tells_more : (header : CertLine) (sink : SinkShown) (waiting : List ℕ) (told : List Event) (event : Event) → TellsAt header sink waiting told → IsNotable event

@@ -8,11 +8,11 @@ use Rattle.branch_marks.specs.LogShown.{LogShown}
 use Rattle.cert_lines.specs.declared.cert_line.CertLine.{CertLine}
 use Rattle.cert_lines.specs.declared.cert_line.CertLine.TheVariants as line
 use Rattle.cert_lines.specs.Spelling.{spelling}
-use Rattle.cert_lines.specs.Text.{text_of}
+use Rattle.cert_lines.specs.Text.{cert_text}
 
 -- the header's line, and a line for each event
 abbrev pub event_text : CertLine → List Event → List ℕ
-event_text header told = text_of (header ∷ map line.Event told)
+event_text header told = cert_text (header ∷ map line.Event told)
 
 -- a line with its newline
 abbrev pub line_text : CertLine → List ℕ

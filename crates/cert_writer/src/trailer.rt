@@ -4,7 +4,7 @@
 ghost use Rattle.std.specs.Prelude.{◌≡◌, ◌<◌, ◌^◌, ◌++◌, ◌∷◌, [], IfOk, OnOk, Some, length};
 ghost use Rattle.tail_book.specs.Fliers.{fliers_of};
 ghost use Rattle.cert_lines.specs.PlanLines.{plan_lines};
-ghost use Rattle.cert_lines.specs.Text.{text_of};
+ghost use Rattle.cert_lines.specs.Text.{cert_text};
 ghost use Rattle.cert_lines.specs.Grammar.{IsLine};
 ghost use Rattle.cert_writer.specs.CertText.{line_text};
 ghost use Rattle.cert_writer.specs.Trailer.{trailer_lines, IsSpelled};
@@ -60,7 +60,7 @@ fn fliers(alloc: Global, routes: &[Route], n: u32) -> Result<Vec<u32>, Memory>
 // Appends a plan: who flies each activity.
 fn add_plan(fliers: &[u32], line: &mut Line) -> Result<(), Memory>
     requires { length fliers.now < 2 ^ 32 }
-    ensures { OnOk result (line.new ≡ line.old ++ text_of (plan_lines (Some fliers.now))) }
+    ensures { OnOk result (line.new ≡ line.old ++ cert_text (plan_lines (Some fliers.now))) }
 {
     add_line(&CertLine::Plan, line)?;
     for a in 0..fliers.len() as u32 {
@@ -78,7 +78,7 @@ pub fn add_trailer(
     line: &mut Line,
 ) -> Result<(), Memory>
     requires { IsSpelled m outcome.now }
-    ensures { OnOk result (line.new ≡ line.old ++ text_of (trailer_lines n outcome.now)) }
+    ensures { OnOk result (line.new ≡ line.old ++ cert_text (trailer_lines n outcome.now)) }
 {
     match outcome {
         Outcome::Optimal(plan, _) => add_plan(&fliers(alloc, &plan.0, n)?, line)?,

@@ -29,7 +29,7 @@ use Rattle.cert_lines.specs.declared.cert_line.CertLine.{CertLine}
 use Rattle.cert_lines.specs.declared.cert_line.CertLine.TheVariants as line
 use Rattle.branch_marks.specs.TreeEvents.{tree_events}
 use Rattle.cert_lines.specs.PlanLines.{plan_lines}
-use Rattle.cert_lines.specs.Text.{text_of}
+use Rattle.cert_lines.specs.Text.{cert_text}
 use Rattle.cert_checker.specs.Certificate.{Accepts, HasClaimedPlan, IsPlanOfFliers, asked_of, certificate_lines, claimed_cost, header_of}
 use Rattle.cert_writer.specs.Trailer.{plan_in}
 use Rattle.certified_search.specs.SearchText.{search_lines, search_text}
@@ -104,7 +104,7 @@ module _ (bounded : SearchTreesAreBounded) (trees : ShownNodesAreTrees) (fly : F
         fliers_in book outcome,
         record {
           lines = subst (λ (every : List CertLine). All IsLine every) all good;
-          spelled = ap (λ (every : List CertLine). text_of every) all;
+          spelled = ap (λ (every : List CertLine). cert_text every) all;
           shown = shown;
           bounds = subst (λ (low : ℕ). BoundsAtLeast low proof) (sym (asked_is_claimed book outcome)) reached;
           plan = has_plan book sound fly again outcome truth;

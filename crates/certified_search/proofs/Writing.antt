@@ -20,7 +20,7 @@ use Rattle.branch_tree.specs.SearchTree.{IsSearchTree, SearchTree, nodes_of}
 use Rattle.branch_tree.specs.declared.limit.Limit.{Limit}
 use Rattle.cert_lines.specs.declared.cert_line.CertLine.{CertLine}
 use Rattle.cert_lines.specs.declared.cert_line.CertLine.TheVariants as line
-use Rattle.cert_lines.specs.Text.{text_of}
+use Rattle.cert_lines.specs.Text.{cert_text}
 use Rattle.cert_checker.specs.Certificate.{header_of}
 use Rattle.cert_writer.specs.CertText.{IsTornAt, TellsAt, event_text, log_over}
 use Rattle.cert_writer.specs.Trailer.{trailer_lines}
@@ -30,9 +30,9 @@ use Rattle.certified_search.specs.inside.Header.{AreNumbersOf}
 use Rattle.certified_search.specs.Written.{IsCertificateOf, IsFrontOfDue}
 
 -- the lines of more events
-more_events : (header : CertLine) (told rest : List Event) → event_text header (told ++ rest) ≡ event_text header told ++ text_of (map line.Event rest)
+more_events : (header : CertLine) (told rest : List Event) → event_text header (told ++ rest) ≡ event_text header told ++ cert_text (map line.Event rest)
 more_events header told rest =
-    ap (λ (lines : List CertLine). text_of (header ∷ lines)) (map-append line.Event told rest) ∙ text_append (header ∷ map line.Event told) (map line.Event rest)
+    ap (λ (lines : List CertLine). cert_text (header ∷ lines)) (map-append line.Event told rest) ∙ text_append (header ∷ map line.Event told) (map line.Event rest)
 
 -- where nothing is told of what was added, nothing was
 added : (old : Option (List ℕ)) (new : Option (List ℕ)) (before piece : List ℕ) → old ≡ Some before → Adds old new piece → new ≡ Some (before ++ piece)
@@ -42,19 +42,19 @@ front_added : (old : Option (List ℕ)) (new : Option (List ℕ)) (before piece 
 front_added old new before piece is adds = subst (λ (o : Option (List ℕ)). AddsFront o new piece) is adds
 
 -- the header was written
-pub begun_tells : (header : CertLine) (old new : SinkShown) → old.told ≡ Some [] → Adds old.told new.told (text_of (header ∷ [])) → TellsAt header new [] []
+pub begun_tells : (header : CertLine) (old new : SinkShown) → old.told ≡ Some [] → Adds old.told new.told (cert_text (header ∷ [])) → TellsAt header new [] []
 begun_tells header old new empty adds = record {
-  taken = text_of (header ∷ []);
-  bytes = added old.told new.told [] (text_of (header ∷ [])) empty adds;
-  text = sym (append-nil (text_of (header ∷ [])));
+  taken = cert_text (header ∷ []);
+  bytes = added old.told new.told [] (cert_text (header ∷ [])) empty adds;
+  text = sym (append-nil (cert_text (header ∷ [])));
   spelled = λ i d less. absurd (omega (arith, less));
 }
 
 -- the same, where the log has the numbers of the header that was written
 pub begun_tells_as : (written header : CertLine) (old new : SinkShown) (waiting : List ℕ) → written ≡ header → waiting ≡ [] → old.told ≡ Some []
-    → Adds old.told new.told (text_of (written ∷ [])) → TellsAt header new waiting []
+    → Adds old.told new.told (cert_text (written ∷ [])) → TellsAt header new waiting []
 begun_tells_as written header old new waiting same none empty adds = subst (λ (left : List ℕ). TellsAt header new left []) (sym none)
-    (begun_tells header old new empty (subst (λ (first : CertLine). Adds old.told new.told (text_of (first ∷ []))) same adds))
+    (begun_tells header old new empty (subst (λ (first : CertLine). Adds old.told new.told (cert_text (first ∷ []))) same adds))
 
 -- the same numbers make the same header
 pub same_header : (n m c n_later m_later c_later : ℕ) → n_later ≡ n → m_later ≡ m → c_later ≡ c → line.Header 1 n m c ≡ line.Header 1 n_later m_later c_later
@@ -73,17 +73,17 @@ module _ (book : BookSeen) (limit : Limit) where
   unfolding Grows no_tree
   is_no_tree = record { left = root book ∷ []; grown = refl; part = tt }
 
-  header_due : text_of (header_of book ∷ map line.Event (begun_events no_tree)) ≡ text_of (header_of book ∷ [])
+  header_due : cert_text (header_of book ∷ map line.Event (begun_events no_tree)) ≡ cert_text (header_of book ∷ [])
   unfolding events_of no_tree
   header_due = refl
 
   pub none_is_front : IsFrontOfDue book limit []
-  none_is_front = inr (record { begun = no_tree; is = is_no_tree; front = (text_of (header_of book ∷ []), header_due) })
+  none_is_front = inr (record { begun = no_tree; is = is_no_tree; front = (cert_text (header_of book ∷ []), header_due) })
 
   -- a front of the header was written
-  pub header_front : (old new : Option (List ℕ)) → old ≡ Some [] → AddsFront old new (text_of (header_of book ∷ [])) → (text : List ℕ) × (new ≡ Some text) × IsFrontOfDue book limit text
+  pub header_front : (old new : Option (List ℕ)) → old ≡ Some [] → AddsFront old new (cert_text (header_of book ∷ [])) → (text : List ℕ) × (new ≡ Some text) × IsFrontOfDue book limit text
   header_front old new empty adds =
-      let (part, rest, split, bytes) = front_added old new [] (text_of (header_of book ∷ [])) empty adds in
+      let (part, rest, split, bytes) = front_added old new [] (cert_text (header_of book ∷ [])) empty adds in
       (part, bytes, inr (record { begun = no_tree; is = is_no_tree; front = (rest, header_due ∙ split) }))
 
   -- the search stopped
@@ -96,9 +96,9 @@ module _ (book : BookSeen) (limit : Limit) where
         begun = begun;
         is = is;
         front = (
-          waiting ++ text_of (map line.Event rest),
+          waiting ++ cert_text (map line.Event rest),
           ap (λ (due : List Event). event_text (header_of book) due) split ∙ more_events (header_of book) front rest
-              ∙ ap (λ (text : List ℕ). text ++ text_of (map line.Event rest)) tells.text ∙ append_assoc tells.taken waiting (text_of (map line.Event rest)),
+              ∙ ap (λ (text : List ℕ). text ++ cert_text (map line.Event rest)) tells.text ∙ append_assoc tells.taken waiting (cert_text (map line.Event rest)),
         );
       }),
     )
@@ -112,10 +112,10 @@ module _ (book : BookSeen) (limit : Limit) where
         begun = begun;
         is = is;
         front = (
-          torn.rest ++ text_of (map line.Event later),
+          torn.rest ++ cert_text (map line.Event later),
           ap (λ (due : List Event). event_text (header_of book) due) (split ∙ sym (append_assoc front (next ∷ []) later))
               ∙ more_events (header_of book) (front ++ next ∷ []) later
-              ∙ ap (λ (text : List ℕ). text ++ text_of (map line.Event later)) torn.text ∙ append_assoc torn.taken torn.rest (text_of (map line.Event later)),
+              ∙ ap (λ (text : List ℕ). text ++ cert_text (map line.Event later)) torn.text ∙ append_assoc torn.taken torn.rest (cert_text (map line.Event later)),
         );
       }),
     )
@@ -133,7 +133,7 @@ module _ (book : BookSeen) (limit : Limit) where
   module _ (sound : IsBook book) (law : SearchTreesAreAccepted) (outcome : Outcome) (tree : SearchTree) (is : IsSearchTree (costs_of book) book limit outcome tree)
       (old new : SinkShown) (waiting : List ℕ) (tells : TellsAt (header_of book) old waiting (events_of (nodes_of tree))) where
     trailer : List ℕ
-    trailer = text_of (trailer_lines (activities book) outcome)
+    trailer = cert_text (trailer_lines (activities book) outcome)
 
     whole : List ℕ
     whole = tells.taken ++ (waiting ++ trailer)
@@ -151,11 +151,11 @@ module _ (book : BookSeen) (limit : Limit) where
       accepted = rw whole_is (law book sound limit outcome tree is tells.spelled);
     }
 
-    pub written : Adds old.told new.told (waiting ++ text_of (trailer_lines (activities book) outcome)) → (text : List ℕ) × (new.told ≡ Some text) × IsCertificateOf book limit outcome text
+    pub written : Adds old.told new.told (waiting ++ cert_text (trailer_lines (activities book) outcome)) → (text : List ℕ) × (new.told ≡ Some text) × IsCertificateOf book limit outcome text
     unfolding whole trailer
     written adds = (whole, added old.told new.told tells.taken (waiting ++ trailer) tells.bytes adds, whole_certificate)
 
-    pub written_front : AddsFront old.told new.told (waiting ++ text_of (trailer_lines (activities book) outcome)) → (text : List ℕ) × (new.told ≡ Some text) × IsFrontOfDue book limit text
+    pub written_front : AddsFront old.told new.told (waiting ++ cert_text (trailer_lines (activities book) outcome)) → (text : List ℕ) × (new.told ≡ Some text) × IsFrontOfDue book limit text
     unfolding whole trailer
     written_front adds =
         let (part, rest, split, bytes) = front_added old.told new.told tells.taken (waiting ++ trailer) tells.bytes adds in (

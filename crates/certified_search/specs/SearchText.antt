@@ -14,7 +14,7 @@ use Rattle.branch_tree.specs.SearchTree.{SearchTree, nodes_of, IsSearchTree}
 use Rattle.branch_tree.specs.declared.limit.Limit.{Limit}
 use Rattle.cert_lines.specs.declared.cert_line.CertLine.{CertLine}
 use Rattle.cert_lines.specs.declared.cert_line.CertLine.TheVariants as line
-use Rattle.cert_lines.specs.Text.{text_of}
+use Rattle.cert_lines.specs.Text.{cert_text}
 use Rattle.cert_checker.specs.Certificate.{Accepts, header_of}
 use Rattle.cert_writer.specs.Trailer.{trailer_lines}
 
@@ -23,7 +23,7 @@ abbrev pub search_lines : BookSeen → List Event → Outcome → List CertLine
 search_lines book events outcome = header_of book ∷ (map line.Event events ++ trailer_lines (activities book) outcome)
 
 abbrev pub search_text : BookSeen → List Event → Outcome → List ℕ
-search_text book events outcome = text_of (search_lines book events outcome)
+search_text book events outcome = cert_text (search_lines book events outcome)
 
 -- where lines spell the events of a search tree, its text is accepted for what its outcome claims
 abbrev pub SearchTreesAreAccepted : Type 0

@@ -10,7 +10,7 @@ use Rattle.node_leaves.specs.NodeEvents.{begun_events, events_of}
 use Rattle.branch_tree.specs.SearchTree.{SearchTree, nodes_of, IsSearchTree}
 use Rattle.branch_tree.specs.declared.limit.Limit.{Limit}
 use Rattle.cert_lines.specs.declared.cert_line.CertLine.TheVariants as line
-use Rattle.cert_lines.specs.Text.{text_of}
+use Rattle.cert_lines.specs.Text.{cert_text}
 use Rattle.cert_checker.specs.Certificate.{Accepts, header_of}
 use Rattle.certified_search.specs.SearchText.{search_text}
 
@@ -36,7 +36,7 @@ pub record IsFrontOfCertificate (book : BookSeen) (limit : Limit) (text : List �
 pub record IsFrontOfBegun (book : BookSeen) (text : List ℕ) : Type 0 where
   pub begun : BegunTree
   pub is : IsBegunTree (costs_of book) book begun
-  pub front : IsFrontOf (text_of (header_of book ∷ map line.Event (begun_events begun))) text
+  pub front : IsFrontOf (cert_text (header_of book ∷ map line.Event (begun_events begun))) text
 
 -- it is a front of what was due
 abbrev pub IsFrontOfDue : BookSeen → Limit → List ℕ → Type 0
