@@ -208,6 +208,7 @@ type Row = (&'static str, u16, [(i64, i64); 2]);
 const CHANGES: &[Row] = &[
     (STOCKHOLM, 1969, [(-398_820, 120), (-96_420, 60)]),
     (STOCKHOLM, 2000, [(15_900_540, 120), (16_213_020, 60)]),
+    (STOCKHOLM, 2025, [(29_054_940, 120), (29_357_340, 60)]),
     (STOCKHOLM, 2100, [(68_497_980, 120), (68_810_460, 60)]),
     (STOCKHOLM, 2200, [(121_095_420, 120), (121_397_820, 60)]),
     (LONDON, 1970, [(125_340, 60), (427_740, 0)]),
@@ -219,6 +220,7 @@ const CHANGES: &[Row] = &[
     (CAIRO, 2100, [(68_545_320, 180), (68_807_340, 120)]),
     (NEW_YORK, 1969, [(-428_700, -240), (-86_040, -300)]),
     (NEW_YORK, 2000, [(15_880_740, -240), (16_223_400, -300)]),
+    (NEW_YORK, 2025, [(29_025_060, -240), (29_367_720, -300)]),
     (NEW_YORK, 2200, [(121_065_540, -240), (121_408_200, -300)]),
     (ST_JOHNS, 2100, [(68_478_090, -150), (68_820_750, -210)]),
     (SANTIAGO, 1969, [(-388_620, -240), (-166_800, -180)]),
@@ -284,6 +286,32 @@ fn minutes_at(book: &Book, t: i64) -> Option<i64> {
     } else {
         Some(local_offset(book, 0, t))
     }
+}
+
+// Moments with the minutes from UTC to local time: on both sides of changes, before the first and behind the last.
+const MINUTES: &[(&str, i64, i64)] = &[
+    (SYDNEY, 0, 660),
+    (STOCKHOLM, -398_821, 60),
+    (STOCKHOLM, -398_820, 120),
+    (STOCKHOLM, 29_054_939, 60),
+    (STOCKHOLM, 29_054_940, 120),
+    (STOCKHOLM, 29_357_339, 120),
+    (STOCKHOLM, 29_357_340, 60),
+    (STOCKHOLM, 121_397_820, 60),
+];
+
+fn are_minutes(alloc: Global, row: &(&'static str, i64, i64)) -> Result<bool, Fail> {
+    let &(zone, moment, want) = row;
+    let book = book_of(alloc, zone, 1)?;
+    Ok(minutes_at(&book, moment) == Some(want))
+}
+
+#[test]
+fn clocks_go_by_the_last_change(rt: HostRuntime) -> Result<(), Fail> {
+    for row in MINUTES {
+        assert!(rt; are_minutes(rt.alloc(), row)?, "{row:?}");
+    }
+    Ok(())
 }
 
 // The same as another reader of the same text has it.
