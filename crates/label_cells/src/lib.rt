@@ -1,0 +1,7 @@
+//! Rows of numbers of one width, in blocks of memory that are claimed as they are needed and never move.
+#![tactic(auto)]
+
+mod cells;
+mod chunk;
+
+pub use cells::Cells;
