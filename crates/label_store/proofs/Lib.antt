@@ -1,4 +1,3 @@
-mod RowsLemmas
 mod Packing
 mod Compaction
 mod Buckets

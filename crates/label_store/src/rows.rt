@@ -1,12 +1,13 @@
 //! Rows of one width, each with the row that it came from and its node.
 //!
-//! All values stand in one flat list, so that a row is a slice at its number times the width, and nothing is asked of
-//! memory but growth. A push asks for all its growths first: where one is refused, nothing has changed.
+//! The values stand in chunks that never move, so that nothing is copied where there are more of them. A push asks for all
+//! its growths first: where one is refused, nothing has changed.
 
 ghost use Rattle.std.specs.Prelude.{◌≡◌, ◌<◌, ◌+◌, ◌*◌, ◌≤◌, ◌++◌, [], ◌∷◌, None, length, IfOk, OnErr, slice_index_or, vec_len, vec_capacity};
 ghost use Rattle.label_store.specs.Buckets.{row_at};
 ghost use Rattle.label_store.specs.inside.RowsParts.{rows_with};
 
+use label_cells::Cells;
 use std::alloc::Global;
 use std::marker::Model;
 use tail_book::Memory;
@@ -14,51 +15,45 @@ use tail_book::Memory;
 /// Rows of at least one value each. Contracts see the record of their lists.
 #[derive(Debug, Drop)]
 pub struct Rows {
-    pub(crate) width: usize,
-    values: Vec<i64>,
+    cells: Cells,
     parents: Vec<Option<u32>>,
     nodes: Vec<u32>,
 }
 
 impl Model for Rows {
-    ghost use Rattle.std.specs.Prelude.{length};
     ghost use Rattle.label_store.specs.Seen.{RowsSeen};
-    ghost use Rattle.label_store.specs.inside.RowsParts.{rows_seen, AreRows};
+    ghost use Rattle.label_store.specs.inside.RowsParts.{rows_seen};
 
     ghost Value = { RowsSeen };
 
     ghost view = { rows_seen };
-
-    ghost invariant = { λ r. AreRows r.width (length r.nodes.items) r.values.items r.parents.items };
 }
 
 impl Rows {
     /// No rows, of this width.
-    pub fn new(alloc: Global, width: usize) -> Rows
+    pub fn new(alloc: Global, width: usize) -> Result<Rows, Memory>
         requires { 1 ≤ width }
-        ensures { result ≡ record { width = width; rows = []; parents = []; nodes = [] } }
+        ensures { IfOk result (λ rows. rows ≡ record { width = width; rows = []; parents = []; nodes = [] }) }
     {
-        let (values, parents, nodes) = (Vec::new(alloc), Vec::new(alloc), Vec::new(alloc));
-        Rows {
-            width,
-            values,
-            parents,
-            nodes,
-        }
+        Ok(Rows {
+            cells: Cells::new(alloc, width)?,
+            parents: Vec::new(alloc),
+            nodes: Vec::new(alloc),
+        })
     }
 
     /// How many values a row has.
     pub fn width(&self) -> usize
         ensures { result ≡ self.now.width }
     {
-        self.width
+        self.cells.width()
     }
 
     /// How many rows there are.
     pub fn len(&self) -> usize
         ensures { result ≡ length self.now.rows }
     {
-        self.nodes.len()
+        self.cells.len()
     }
 
     /// The values of a row.
@@ -67,8 +62,7 @@ impl Rows {
         ensures values { result.now ≡ row_at self.now.rows i }
         ensures width { length result.now ≡ self.now.width }
     {
-        let from = place(i, self.width, self.nodes.len(), &self.values);
-        &self.values[from..from + self.width]
+        self.cells.row(i)
     }
 
     /// The row that a row came from.
@@ -93,10 +87,10 @@ impl Rows {
         ensures added { IfOk result (λ _. self.new ≡ rows_with self.old node parent row.now) }
         ensures memory { OnErr result (self.new ≡ self.old) }
     {
-        self.values.reserve(row.len())?;
+        self.cells.reserve(1)?;
         self.parents.reserve(1)?;
         self.nodes.reserve(1)?;
-        put_all(&mut self.values, row);
+        let _number = self.cells.push(row);
         put(&mut self.parents, parent);
         put(&mut self.nodes, node);
         Ok(())
@@ -106,7 +100,7 @@ impl Rows {
     pub fn clear(&mut self)
         ensures { self.new ≡ record { width = self.old.width; rows = []; parents = []; nodes = [] } }
     {
-        self.values.clear();
+        self.cells.rewind(0);
         self.parents.clear();
         self.nodes.clear();
     }

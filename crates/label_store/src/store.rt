@@ -55,7 +55,7 @@ impl Store {
         }
         let buckets = empty_buckets(alloc, nodes)?;
         let packed = empty_values(alloc, nodes)?;
-        let rows = Rows::new(alloc, width);
+        let rows = Rows::new(alloc, width)?;
         Ok(Store {
             rows,
             buckets,
