@@ -15,7 +15,7 @@ use std::alloc::Global;
 use tail_book::{Book, CostTable, Memory, Plan};
 
 /// The network, the open places, the routes that were found, the best plan so far, and the tools of a step.
-#[derive(Debug, Drop)]
+#[derive(Drop)]
 pub struct SearchState {
     pub net: Net,
     pub places: OpenNodes,

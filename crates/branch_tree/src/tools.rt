@@ -12,7 +12,7 @@ use std::alloc::Global;
 use tail_book::{Book, CostTable, Memory};
 
 /// A pricer for the rounds of a node and for what is told of it, and a diver, whose propagator shuts its marks.
-#[derive(Debug, Drop)]
+#[derive(Drop)]
 pub struct NodeTools {
     pub prices: NodePricer,
     pub diver: Diver,

@@ -19,7 +19,7 @@ use tail_book::{Book, CostTable, Flown, Memory};
 
 /// Made once for a book and a table of its costs, a diver saves each dive what these need. Whoever holds it can propagate and
 /// price with it between two dives.
-#[derive(Debug, Drop)]
+#[derive(Drop)]
 pub struct Diver {
     /// The floors of marks that were shut.
     pub propagator: Propagator,

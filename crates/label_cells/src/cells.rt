@@ -7,7 +7,6 @@ ghost use Rattle.std.specs.Prelude.{◌≡◌, ◌<◌, ◌≤◌, ◌+◌, ◌-
 
 use crate::chunk::Chunk;
 use std::alloc::Global;
-use std::fmt;
 use std::marker::Model;
 use tail_book::Memory;
 
@@ -148,12 +147,6 @@ impl Cells {
         let chunk = &mut self.chunks[last];
         chunk.cut((kept - first) * self.width);
         self.count = kept;
-    }
-}
-
-impl fmt::Debug for Cells {
-    fn fmt<W: fmt::Write>(&self, f: &mut fmt::Formatter<W>) -> fmt::Result {
-        write!(f, "Cells of {} rows", self.count)
     }
 }
 

@@ -19,7 +19,7 @@ use tail_book::Memory;
 use tail_book::laws::each_at_most_decides;
 
 /// The numbers of the rows in a bucket, in the order in which they entered. Contracts see their list.
-#[derive(Debug, Drop)]
+#[derive(Drop)]
 pub struct Bucket(pub Vec<u32>);
 
 impl Model for Bucket {

@@ -11,7 +11,7 @@ use crate::rows::place;
 use std::marker::Model;
 
 /// The values of the rows in a bucket, in the order of their numbers. Contracts see their list.
-#[derive(Debug, Drop)]
+#[derive(Drop)]
 pub struct Packed(pub Vec<i64>);
 
 impl Model for Packed {

@@ -13,7 +13,7 @@ use std::marker::Model;
 use tail_book::Memory;
 
 /// Rows of at least one value each. Contracts see the record of their lists.
-#[derive(Debug, Drop)]
+#[derive(Drop)]
 pub struct Rows {
     cells: Cells,
     parents: Vec<Option<u32>>,

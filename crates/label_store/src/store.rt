@@ -22,7 +22,7 @@ use tail_book::Memory;
 
 /// Labels of so many nodes, each a row of the same number of values: the weight, and then a value for each counter.
 /// Contracts see the record of its lists, and every store keeps what `IsStore` says.
-#[derive(Debug, Drop)]
+#[derive(Drop)]
 pub struct Store {
     pub(crate) rows: Rows,
     pub(crate) buckets: Vec<Bucket>,

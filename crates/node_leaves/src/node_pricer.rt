@@ -34,7 +34,7 @@ pub enum PricedAll {
 }
 
 /// Prices the aircraft of a node, and keeps the labels of the one that was priced for them last.
-#[derive(Debug, Drop)]
+#[derive(Drop)]
 pub struct NodePricer {
     pub pricer: Pricer,
     pub store: Store,

@@ -17,7 +17,7 @@ use tail_book::{Band, Book, Counter, end_of};
 
 /// The lines of an airport: the flights that end there, in order of their ends, the ground time there, the windows of its stays,
 /// how many flights have entered the line of each, and what waits there.
-#[derive(Debug, Drop)]
+#[derive(Drop)]
 pub struct AirportLines {
     pub flights: Vec<u32>,
     pub grounds: Vec<u32>,

@@ -39,7 +39,7 @@ use tail_book::{Book, CostTable, Duals, Memory};
 const FLIGHTS_TO_PAY: usize = 4;
 
 /// What pricing keeps from one aircraft to the next.
-#[derive(Debug, Drop)]
+#[derive(Drop)]
 pub struct Pricer {
     steps: StepTable,
     row: Vec<i64>,

@@ -33,7 +33,7 @@ use tail_book::laws::every_book_is_sound;
 use tail_book::{Book, Counter, Memory, end_of};
 
 /// Labels in lines: the keys of each, with its window as the node, and beside them the label's row and its activity.
-#[derive(Debug, Drop)]
+#[derive(Drop)]
 pub struct Waiting {
     pub keys: Store,
     pub labels: Vec<usize>,

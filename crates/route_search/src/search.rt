@@ -40,7 +40,7 @@ use tail_book::laws::every_book_is_sound;
 use tail_book::{Book, CostTable, Duals, Memory};
 
 /// What searches of one book keep from one to the next: its steps, and room.
-#[derive(Debug, Drop)]
+#[derive(Drop)]
 pub struct RouteSearch {
     pub steps: StepTable,
     /// What each activity costs the aircraft less its dual, and the least weight that can come behind it: both in

@@ -3,6 +3,7 @@
 mod ascents;
 mod asks;
 mod books;
+mod cells;
 mod dives;
 mod finds;
 mod labels;

@@ -8,6 +8,7 @@ use std::test::Fail;
 use tail_book::Memory;
 
 mod chance;
+mod memory;
 
 // A store, with what a test knows of it by itself: how many nodes it has, how wide its rows are, and how many of them it has
 // kept by its answers.

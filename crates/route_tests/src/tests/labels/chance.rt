@@ -149,6 +149,13 @@ fn first_wrong(
     Ok(None)
 }
 
+// The same in a store of its own, of three nodes and rows of three values.
+pub fn first_wrong_of(alloc: Global, seed: u64, offers: u32) -> Result<Option<u32>, Memory> {
+    let mut store = Labels::new(alloc, 3, 3)?;
+    let mut labels = Vec::new(alloc);
+    first_wrong(alloc, &mut store, &mut labels, seed, offers)
+}
+
 // What was seen of all seeds: how many labels were kept, and how many left their bucket.
 #[derive(Debug, Drop)]
 struct Seen {
