@@ -1,2 +1,3 @@
+mod BlockSteps
 mod Cutting
 mod Chunks

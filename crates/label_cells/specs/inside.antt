@@ -1,2 +1,4 @@
 -- What only proofs, and calls further in, cite.
+pub mod Ownership
+pub mod Blocks
 pub mod Chunks

@@ -1,60 +1,91 @@
-//! One block of memory for values: claimed without being filled, it never moves.
+//! One block with room for so many values, of which the first ones are written.
+ghost use Rattle.std.specs.Prelude.{◌≡◌, ◌+◌, ◌<◌, ◌≤◌, ◌++◌, [], ◌∷◌, length, take, IfOk};
 
-ghost use Rattle.std.specs.Prelude.{◌≡◌, ◌<◌, ◌≤◌, ◌+◌, ◌++◌, ◌∷◌, [], IfOk, length, take};
-ghost use Rattle.label_cells.specs.Seen.{ChunkSeen};
-
+use crate::block::{Block, Start};
 use std::alloc::Global;
 use std::marker::Model;
+use std_alloc::room::may_hold;
 use tail_book::Memory;
 
-/// A block with room for so many values, of which the first ones are written. Contracts see its values and its room.
-#[derive(Drop)]
+/// One block with room for so many values, of which the first ones are written. It never moves. Contracts see its
+/// values and its room.
 pub(crate) struct Chunk {
+    start: Start<i64>,
+    len: usize,
     room: usize,
-    values: Vec<i64>,
+    block: Block<i64, Global>,
+    alloc: Global,
 }
 
 impl Model for Chunk {
-    ghost use Rattle.std.specs.Prelude.{◌≡◌, ◌≤◌, vec_capacity};
+    ghost use Rattle.label_cells.specs.inside.Blocks.{IsChunk};
     ghost use Rattle.label_cells.specs.Seen.{ChunkSeen};
 
     ghost Value = { ChunkSeen };
 
-    ghost view = { λ c. record { values = c.values.items; room = c.room } };
+    ghost view = { λ c. record { values = c.block.values; room = c.room } };
 
-    ghost invariant = { λ c. c.room ≤ vec_capacity c.values };
+    ghost invariant = { λ c. IsChunk c.start c.alloc c.room c.len c.block };
+}
+
+impl Drop for Chunk {
+    fn drop(self) {
+        self.give_back();
+    }
 }
 
 impl Chunk {
-    /// A block with room for so many values, none of which is written.
+    /// A chunk in which nothing is written, if there is memory for so many values.
     pub(crate) fn claim(alloc: Global, room: usize) -> Result<Chunk, Memory>
         requires { 1 ≤ room }
         ensures { IfOk result (λ chunk. chunk ≡ record { values = []; room = room }) }
     {
-        let values = Vec::with_capacity(alloc, room)?;
-        Ok(Chunk { room, values })
+        if !may_hold::<i64>(room) {
+            return Err(Memory);
+        }
+        let (start, block) = Block::claim(&alloc, room)?;
+        Ok(Chunk {
+            start,
+            len: 0,
+            room,
+            block,
+            alloc,
+        })
     }
 
-    /// The values that are written, in their order.
-    pub(crate) fn values(&self) -> &[i64]
-        ensures { result.now ≡ self.now.values }
-    {
-        &self.values
+    fn give_back(self) {
+        let Chunk {
+            start,
+            len: _,
+            room,
+            block,
+            alloc,
+        } = self;
+        block.give_back(&alloc, start, room);
     }
 
-    /// Writes values behind the others.
+    /// Writes a row behind the others.
     pub(crate) fn put_all(&mut self, row: &[i64])
         requires { length self.old.values + length row.now ≤ self.old.room }
         ensures { self.new ≡ record { values = self.old.values ++ row.now; room = self.old.room } }
     {
-        let _ = self.values.extend_from_slice(row);
+        self.block.put_all(self.start, self.len, row);
+        self.len += row.len();
     }
 
-    /// Keeps the first values.
+    /// The values that are written.
+    pub(crate) fn values(&self) -> &[i64]
+        ensures { result.now ≡ self.now.values }
+    {
+        self.block.values(self.start, self.len)
+    }
+
+    /// The first `n` values stay.
     pub(crate) fn cut(&mut self, n: usize)
         requires { n ≤ length self.old.values }
         ensures { self.new ≡ record { values = take n self.old.values; room = self.old.room } }
     {
-        self.values.truncate(n);
+        self.block.cut(n);
+        self.len = n;
     }
 }
