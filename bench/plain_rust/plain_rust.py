@@ -17,9 +17,11 @@ SEARCH = "tail_book turn_rules maint_counters connection_net branch_marks floor_
 pricing route_search plan_audit dive_heuristic restricted_master dual_ascent pool_plans plan_finder node_leaves branch_tree".split()
 HERE = os.path.dirname(os.path.abspath(__file__))
 # Crates of the kit that the shim stands for, as modules of plain_std.
-SHIMMED = {"indexmap"}
+SHIMMED = {"indexmap", "std_alloc"}
 KEYWORDS = set("as break const continue crate dyn else enum extern fn for if impl in let loop match mod move mut pub ref return "
                "static struct trait type unsafe use where while await box yield".split())
+# What a type gives back by itself where it is dropped: the plain program ends without.
+OWN_DROP = re.compile(r"impl\s+Drop\s+for\b")
 TOKEN = re.compile(r"""
     (?P<comment>//[^\n]*|/\*.*?\*/)
   | (?P<string>(?:b|c)?r(?P<hash>\#*)".*?"(?P=hash)|(?:b|c)?"(?:[^"\\]|\\.)*")
@@ -84,7 +86,7 @@ def tokens_of(text):
             end = ghost_end(text, at)
             drop_visibility(tokens)
             kind, word = "space", newlines(text[at:end])
-        elif kind == "word" and word in ("requires", "ensures"):
+        elif kind == "word" and (word in ("requires", "ensures") or OWN_DROP.match(text, at)):
             end = clause_end(text, at)
             kind, word = "space", newlines(text[at:end])
         elif kind == "comment" and word.startswith("//!"):

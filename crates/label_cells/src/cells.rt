@@ -113,11 +113,8 @@ impl Cells {
         ensures values { result.now ≡ slice_index_or self.now.rows i [] }
         ensures width { length result.now ≡ self.now.width }
     {
-        part_of(
-            self.chunks[i / CHUNK_ROWS].values(),
-            i % CHUNK_ROWS,
-            self.width,
-        )
+        let chunk = &self.chunks[i / CHUNK_ROWS];
+        part_of(chunk.values(), i % CHUNK_ROWS, self.width)
     }
 
     /// Keeps the first rows. The chunks stay, and the room of the other rows is spare.

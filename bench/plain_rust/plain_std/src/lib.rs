@@ -6,6 +6,7 @@ mod at;
 pub mod indexmap;
 mod iter_more;
 mod probe;
+pub mod std_alloc;
 mod vec_in;
 
 pub use at::At;

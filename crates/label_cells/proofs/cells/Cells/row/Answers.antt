@@ -7,8 +7,8 @@ use Rattle.label_cells.proofs.Chunks.{no_chunk, filled_room, place_inside, place
 use Rattle.label_cells.proofs.cells.Cells.row.Goals as goal
 
 -- there is a chunk for each row
-pub index-requires : goal.index-requires
-index-requires c =
+pub index-chunk-requires : goal.index-chunk-requires
+index-chunk-requires c =
     let rows : length c.args.self.now.rows ≡ c.self.inside.count = sym (ap (λ (s : CellsSeen). length s.rows) c.self.view_is) ∙ length-rows_in _ _ _ in
     let room = filled_room _ _ _ c.self.invariant.filled in
     let len : vec_len c.self.inside.chunks ≡ length c.self.inside.chunks.items = search rules in
@@ -20,7 +20,7 @@ part_of-requires c =
     let rows : length c.args.self.now.rows ≡ c.self.inside.count = sym (ap (λ (s : CellsSeen). length s.rows) c.self.view_is) ∙ length-rows_in _ _ _ in
     let room = filled_room _ _ _ c.self.invariant.filled in
     let within : c.args.i / 1024 < length c.self.inside.chunks.items = omega (arith, c.requires, rows, room) in
-    let chunk = c.index.ensures ∙ get_or_default c.self.inside.chunks.items (c.args.i / 1024) _ no_chunk within in
+    let chunk = c.index-chunk.ensures ∙ get_or_default c.self.inside.chunks.items (c.args.i / 1024) _ no_chunk within in
     let inside = place_inside c.self.inside.width _ c.self.inside.chunks.items (c.args.i / 1024) (c.args.i % 1024) c.self.invariant.filled (omega arith) (omega (arith, c.requires, rows)) in
     subst (λ v. c.args.i % 1024 * c.self.inside.width + c.self.inside.width ≤ length v) (sym (c.values.ensures ∙ ap (λ (s : ChunkSeen). s.values) chunk)) inside
 
@@ -30,7 +30,7 @@ returns-clause-values c =
     let rows : length c.args.self.now.rows ≡ c.self.inside.count = sym (ap (λ (s : CellsSeen). length s.rows) c.self.view_is) ∙ length-rows_in _ _ _ in
     let room = filled_room _ _ _ c.self.invariant.filled in
     let within : c.args.i / 1024 < length c.self.inside.chunks.items = omega (arith, c.requires, rows, room) in
-    let chunk = c.index.ensures ∙ get_or_default c.self.inside.chunks.items (c.args.i / 1024) _ no_chunk within in
+    let chunk = c.index-chunk.ensures ∙ get_or_default c.self.inside.chunks.items (c.args.i / 1024) _ no_chunk within in
     let below : c.args.i < c.self.inside.count = omega (arith, c.requires, rows) in
     c.part_of.ensures.values
     ∙ ap (λ v. take c.self.inside.width (drop (c.args.i % 1024 * c.self.inside.width) v)) (c.values.ensures ∙ ap (λ (s : ChunkSeen). s.values) chunk)
