@@ -3,6 +3,7 @@ pub mod Places
 pub mod RowsPadded
 pub mod FactTables
 pub mod Parts
+pub mod Undone
 pub mod Decisions
 pub mod BelowDecided
 pub mod MarksDecided

@@ -25,7 +25,7 @@ use Rattle.branch_marks.specs.inside.MarkParts.{first_after, is_no_must_in, leav
 use Rattle.branch_marks.specs.inside.MarkTables.{is_must, is_cut, is_tie, tied_after, tied_before, IsFactWithin}
 use Rattle.branch_marks.specs.inside.Named.{with_named, named_from, named_by, lets_number, is_nothing}
 
-all_same : {X : Type 0} (p q : X → Bool) → ((x : X) → p x ≡ q x) → (xs : List X) → list_all p xs ≡ list_all q xs
+pub all_same : {X : Type 0} (p q : X → Bool) → ((x : X) → p x ≡ q x) → (xs : List X) → list_all p xs ≡ list_all q xs
 all_same p q same [] = refl
 all_same p q same (x ∷ xs) = ap₂ (λ s t. s && t) (same x) (all_same p q same xs)
 
@@ -33,7 +33,7 @@ all_same_of : {X : Type 0} (P : X → Type 0) (p q : X → Bool) → ((x : X) �
 all_same_of P p q same [] all = refl
 all_same_of P p q same (x ∷ xs) all = ap₂ (λ s t. s && t) (same x (All-head P x xs all)) (all_same_of P p q same xs (All-tail P x xs all))
 
-all_and : {X : Type 0} (p q : X → Bool) (xs : List X) → list_all (λ x. p x && q x) xs ≡ (list_all p xs && list_all q xs)
+pub all_and : {X : Type 0} (p q : X → Bool) (xs : List X) → list_all (λ x. p x && q x) xs ≡ (list_all p xs && list_all q xs)
 all_and p q [] = refl
 all_and p q (x ∷ xs) = ap (λ t. (p x && q x) && t) (all_and p q xs) ∙ four (p x) (q x) (list_all p xs) (list_all q xs)
   where
@@ -44,7 +44,7 @@ all_true : {X : Type 0} (p : X → Bool) → ((x : X) → p x ≡ true) → (xs 
 all_true p each [] = refl
 all_true p each (x ∷ xs) = ap₂ (λ s t. s && t) (each x) (all_true p each xs)
 
-turned : (c a : ℕ) → nat_eq c a ≡ nat_eq a c
+pub turned : (c a : ℕ) → nat_eq c a ≡ nat_eq a c
 turned c a = grind (arith, nat_tests)
 
 -- what lets an aircraft go
@@ -182,7 +182,7 @@ lets_more (One u) (Some w) v = ⊎_elim
     lost : (u w v : ℕ) → u ≢ w → false ≡ (nat_eq u v && nat_eq w v)
     lost u w v e = grind (arith, nat_tests, e)
 
-lets_from : (names : Fact → Option ℕ) (v : ℕ) (so_far : Named) (marks : List Fact)
+pub lets_from : (names : Fact → Option ℕ) (v : ℕ) (so_far : Named) (marks : List Fact)
     → lets_number (named_from names so_far marks) v ≡ (lets_number so_far v && list_all (λ f. is_none_or (names f) v) marks)
 lets_from names v so_far [] = and_true (lets_number so_far v)
   where
@@ -302,12 +302,12 @@ usable_parts book marks k (After x) b =
     seven c p e r f g = grind arith
 
 -- the number is the one that is named; and it is what a fact names
-abbrev is_one : Named → ℕ → Bool
+abbrev pub is_one : Named → ℕ → Bool
 is_one Nothing v = false
 is_one (One w) v = nat_eq w v
 is_one Several v = false
 
-abbrev is_some : Option ℕ → ℕ → Bool
+abbrev pub is_some : Option ℕ → ℕ → Bool
 is_some None v = false
 is_some (Some w) v = nat_eq w v
 
@@ -335,7 +335,7 @@ one_more (One u) (Some w) v apart = ⊎_elim
     twice u w v e = grind (arith, nat_tests, e)
 
 -- where no two facts name different numbers, the one that is named is what some fact names
-one_from : (names : Fact → Option ℕ) (test : Fact → Bool) (v : ℕ) → ((fact : Fact) → is_some (names fact) v ≡ test fact) → (so_far : Named) (marks : List Fact)
+pub one_from : (names : Fact → Option ℕ) (test : Fact → Bool) (v : ℕ) → ((fact : Fact) → is_some (names fact) v ≡ test fact) → (so_far : Named) (marks : List Fact)
     → named_from names so_far marks ≢ Several → is_one (named_from names so_far marks) v ≡ (is_one so_far v || list_any test marks)
 one_from names test v each so_far [] apart = or_false (is_one so_far v)
   where
@@ -353,7 +353,7 @@ one_from names test v each so_far (fact ∷ rest) apart =
     not_yet : with_named so_far (names fact) ≢ Several
     not_yet e = apart (ap (λ s. named_from names s rest) e ∙ several_stay names rest)
 
-tie_named : (a b : ℕ) (fact : Fact) → is_some (tied_after a fact) b ≡ is_tie a b fact
+pub tie_named : (a b : ℕ) (fact : Fact) → is_some (tied_after a fact) b ≡ is_tie a b fact
 tie_named a b (Bar j c) = refl
 tie_named a b (Must j c) = refl
 tie_named a b (Cut c d) = refl

@@ -7,12 +7,13 @@ use Rattle.branch_marks.specs.inside.BitRows.{BitRowsSeen}
 use Rattle.branch_marks.specs.declared.marks.Marks.TheInside.{Inside}
 
 -- how many aircraft and activities the book has, the facts in the order in which they came, and the tables beside them:
--- who is alive at each activity; the Bars and the Musts of each aircraft; the Cuts of each activity; what Ties name behind
+-- who may fly each activity by the rules alone, and who is alive there; the Bars and the Musts of each aircraft; the Cuts of each activity; what Ties name behind
 -- each activity and before it; whom Musts name
 pub record MarksSeen : Type 0 where
   pub aircraft : ℕ
   pub activities : ℕ
   pub facts : List Fact
+  pub allowed : BitRowsSeen
   pub alive : BitRowsSeen
   pub bars : BitRowsSeen
   pub musts : BitRowsSeen
@@ -26,7 +27,8 @@ abbrev pub marks_seen : Inside → MarksSeen
 marks_seen t = record {
   aircraft = t.aircraft;
   activities = t.activities;
-  facts = t.facts.items;
+  facts = t.facts;
+  allowed = t.allowed;
   alive = t.alive;
   bars = t.bars;
   musts = t.musts;

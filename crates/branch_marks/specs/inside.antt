@@ -9,6 +9,7 @@ pub mod FamilyTests
 pub mod BranchTests
 pub mod TreeTests
 pub mod BitRows
+pub mod Once
 pub mod Named
 pub mod MarkTables
 pub mod MarkParts

@@ -12,8 +12,10 @@ mod fact_rows;
 pub mod laws;
 mod marks;
 mod named;
+mod naming;
 mod row;
 mod ties;
+mod trail;
 mod tree_log;
 
 pub use bound::{bound_below, bound_from, passes};

@@ -2,28 +2,32 @@
 //!
 //! Beside the list of facts stand tables, so that no question goes over the facts: who is alive at each activity, as a
 //! bit row with permission, Bars and Musts in one; the Bars and Musts of each aircraft and the Cuts of each activity as
-//! bits; what Ties name behind and before each activity; whom Musts name for it. A fact changes a few entries of them.
-//! For 4,000 activities and 200 aircraft the tables take 2.4 MB, most of it for Cuts.
+//! bits; what Ties name behind and before each activity; whom Musts name for it. A fact changes a few entries of them, and
+//! changes them back when it is taken away. For 4,000 activities and 200 aircraft the tables take 2.5 MB, most of it for
+//! Cuts.
 
-ghost use Rattle.std.specs.Prelude.{◌≡◌, ◌<◌, ◌↔◌, ◌++◌, ◌∷◌, [], IfOk, OnErr, IsTrue, All, Contains};
+ghost use Rattle.std.specs.Prelude.{◌≡◌, ◌<◌, ◌≤◌, ◌+◌, ◌↔◌, ◌++◌, ◌∷◌, [], IfOk, OnErr, IsTrue, Contains, length, slice_index_or, take};
 ghost use Rattle.std.specs.List.{list_any};
 ghost use Rattle.branch_marks.specs.Facts.{IsFactOf};
 ghost use Rattle.branch_marks.specs.FactTests.{has_fact};
 ghost use Rattle.branch_marks.specs.inside.MarkTables.{AreMarksOf, IsFactWithin, is_tie};
 ghost use Rattle.branch_marks.specs.MarkCalls.{AddsOnce};
+ghost use Rattle.tail_book.specs.Seen.{BookSeen};
 
 mod questions;
 mod route_fit;
 mod walks;
 
 use crate::Fact;
-use crate::alive_rows::{alive_at_first, note_alive};
+use crate::alive_rows::{allowed_rows, note_alive, undo_alive};
 use crate::bit_rows::BitRows;
 use crate::carriers::note_carrier;
-use crate::fact_rows::{note_bar, note_cut, note_must};
+use crate::fact_rows::{note_bar, note_cut, note_must, undo_bar, undo_cut, undo_must};
 use crate::laws::has_fact_decides;
 use crate::named::{Named, nothing_named};
+use crate::naming::{Naming, undo_named};
 use crate::ties::{note_next, note_previous};
+use crate::trail::Trail;
 use std::alloc::Global;
 use std::marker::Model;
 use tail_book::laws::every_book_is_sound;
@@ -34,7 +38,8 @@ use tail_book::{Book, Memory};
 pub struct Marks {
     aircraft: usize,
     activities: usize,
-    facts: Vec<Fact>,
+    facts: Trail,
+    allowed: BitRows,
     alive: BitRows,
     bars: BitRows,
     musts: BitRows,
@@ -71,11 +76,15 @@ impl Marks {
     {
         every_book_is_sound(book);
         let (n, m) = (book.activities.len(), book.tails.len());
+        let allowed = allowed_rows(alloc, book)?;
+        let alive = allowed.copy()?;
+        let facts = Trail::new(alloc)?;
         Ok(Marks {
             aircraft: m,
             activities: n,
-            facts: Vec::new(alloc),
-            alive: alive_at_first(alloc, book)?,
+            facts,
+            allowed,
+            alive,
             bars: BitRows::new(alloc, m, n)?,
             musts: BitRows::new(alloc, m, n)?,
             cuts: BitRows::new(alloc, n, n)?,
@@ -89,11 +98,12 @@ impl Marks {
     pub fn copy(&self) -> Result<Marks, Memory>
         ensures { IfOk result (λ marks. marks ≡ self.now) }
     {
-        let alloc = *self.facts.allocator();
+        let alloc = *self.next.allocator();
         Ok(Marks {
             aircraft: self.aircraft,
             activities: self.activities,
-            facts: Vec::from_slice(alloc, &self.facts)?,
+            facts: self.facts.copy()?,
+            allowed: self.allowed.copy()?,
             alive: self.alive.copy()?,
             bars: self.bars.copy()?,
             musts: self.musts.copy()?,
@@ -104,12 +114,31 @@ impl Marks {
         })
     }
 
-    /// The facts, in the order in which they came.
-    pub fn facts(&self) -> &[Fact]
-        ensures value { result.now ≡ self.now.facts }
-        ensures range { All (IsFactWithin self.now.aircraft self.now.activities) self.now.facts }
+    /// How many facts there are: a mark, to which the marks can be rewound.
+    pub fn mark(&self) -> usize
+        ensures { result ≡ length self.now.facts }
     {
-        self.facts.as_slice()
+        self.facts.len()
+    }
+
+    /// The fact at a place, in the order in which they came.
+    pub fn fact_at(&self, i: usize) -> Fact
+        requires { i < length self.now.facts }
+        ensures value { result ≡ slice_index_or self.now.facts i result }
+        ensures range { IsFactWithin self.now.aircraft self.now.activities result }
+    {
+        self.facts.at(i)
+    }
+
+    /// A list of the facts, in the order in which they came.
+    pub fn copy_of_facts(&self, alloc: Global) -> Result<Vec<Fact>, Memory>
+        ensures { IfOk result (λ facts. facts.items ≡ self.now.facts) }
+    {
+        let mut facts = Vec::new(alloc);
+        for i in 0..self.mark() {
+            facts.push(self.fact_at(i))?;
+        }
+        Ok(facts)
     }
 
     /// Whether the marks have a fact.
@@ -158,7 +187,7 @@ impl Marks {
         if self.has(fact) {
             return Ok(Added::Known);
         }
-        push(&mut self.facts, fact)?;
+        self.facts.push(fact)?;
         note_alive(book, &mut self.alive, fact);
         note_bar(book, &mut self.bars, fact);
         note_must(book, &mut self.musts, fact);
@@ -168,23 +197,53 @@ impl Marks {
         note_carrier(book, &mut self.carriers, fact);
         Ok(Added::New)
     }
-}
 
-// Adds a fact at the end.
-fn push(facts: &mut Vec<Fact>, fact: Fact) -> Result<(), Memory>
-    ensures ok { IfOk result (λ _. facts.new.items ≡ facts.old.items ++ fact ∷ []) }
-    ensures memory { OnErr result (facts.new.items ≡ facts.old.items) }
-{
-    facts.push(fact)?;
-    Ok(())
+    /// Takes back all facts that came since a mark: they are as they were then. It takes no memory.
+    pub fn rewind(&mut self, mark: usize)
+        requires { mark ≤ length self.old.facts }
+        ensures facts { self.new.facts ≡ take mark self.old.facts }
+        ensures marks { (book : BookSeen) → AreMarksOf book self.old → AreMarksOf book self.new }
+        ensures aircraft { self.new.aircraft ≡ self.old.aircraft }
+        ensures activities { self.new.activities ≡ self.old.activities }
+    {
+        for i in (mark..self.mark()).rev() {
+            self.undo_last(i);
+        }
+    }
+
+    // Takes back the last fact, behind so many others: first from the tables of its kind, and then who is alive by these.
+    fn undo_last(&mut self, left: usize)
+        requires { left + 1 ≡ length self.old.facts }
+        ensures facts { self.new.facts ≡ take left self.old.facts }
+        ensures marks { (book : BookSeen) → AreMarksOf book self.old → AreMarksOf book self.new }
+        ensures aircraft { self.new.aircraft ≡ self.old.aircraft }
+        ensures activities { self.new.activities ≡ self.old.activities }
+    {
+        let fact = self.facts.at(left);
+        self.facts.cut(left);
+        undo_bar(&mut self.bars, fact);
+        undo_must(&mut self.musts, fact);
+        undo_cut(&mut self.cuts, fact);
+        undo_named(&mut self.next, Naming::Next, &self.facts, fact);
+        undo_named(&mut self.previous, Naming::Previous, &self.facts, fact);
+        undo_named(&mut self.carriers, Naming::Carrier, &self.facts, fact);
+        undo_alive(
+            &mut self.alive,
+            &self.allowed,
+            &self.bars,
+            &self.carriers,
+            self.aircraft,
+            fact,
+        );
+    }
 }
 
 // Whether one of the facts ties an activity to another one.
-fn ties(facts: &[Fact], a: u32, b: u32) -> bool
+fn ties(facts: &Trail, a: u32, b: u32) -> bool
     ensures { result ≡ list_any (is_tie a b) facts.now }
 {
-    for fact in facts {
-        if is_tie(*fact, a, b) {
+    for i in 0..facts.len() {
+        if is_tie(facts.at(i), a, b) {
             return true;
         }
     }

@@ -13,4 +13,4 @@ returns-clause-known c =
     let n = c.self.inside.activities in
     let marks = rw (← c.self.view_is) at c.requires in
     rw (← c.self.view_is) (All-weaker (IsFactWithin m n) (IsFactOf c.args.book.now)
-    (λ fact h. of_book c.args.book.now m n fact marks.aircraft_are marks.activities_are h) c.self.inside.facts.items c.self.invariant.facts)
+    (λ fact h. of_book c.args.book.now m n fact marks.aircraft_are marks.activities_are h) c.self.inside.facts c.self.invariant.facts)

@@ -13,4 +13,4 @@ returns-in-After c =
     let place = rw (← c.self.view_is, c.in-After.is) at c.requires.place in
     let activity = rw (← c.self.view_is) at c.requires.activity in
     let before : c.in-After.x < c.self.inside.activities = omega (arith, place) in
-    rw (← c.self.view_is, c.in-After.is) (ap not (c.has.ensures ∙ c.self.invariant.cuts.pairs c.in-After.x c.args.b before activity) ∙ no_cut c.in-After.x c.args.b c.self.inside.facts.items)
+    rw (← c.self.view_is, c.in-After.is) (ap not (c.has.ensures ∙ c.self.invariant.cuts.pairs c.in-After.x c.args.b before activity) ∙ no_cut c.in-After.x c.args.b c.self.inside.facts)
