@@ -12,6 +12,7 @@ pub mod BitRows
 pub mod Once
 pub mod Named
 pub mod MarkTables
+pub mod TrailRows
 pub mod MarkParts
 pub mod RowParts
 pub mod WholeFamilies

@@ -34,7 +34,7 @@ use tail_book::laws::every_book_is_sound;
 use tail_book::{Book, Memory};
 
 /// Branching facts of a book, and the tables that answer for them.
-#[derive(Debug, Drop)]
+#[derive(Drop)]
 pub struct Marks {
     aircraft: usize,
     activities: usize,
