@@ -19,7 +19,7 @@ use Rattle.branch_marks.specs.declared.fact.Fact.{Fact}
 use Rattle.branch_marks.specs.declared.fact.Fact.TheVariants.{Bar, Must, Cut, Tie}
 use Rattle.branch_marks.specs.MarkTests.{is_alive, is_before, is_usable, lets_go}
 use Rattle.branch_marks.specs.inside.MarkTests.{UsableDecides, MayEndDecides}
-use Rattle.branch_marks.specs.Floors.{stepped_floor, floors}
+use Rattle.branch_marks.specs.Floors.{stepped_floor}
 use Rattle.branch_marks.specs.Following.{IsDeadBy}
 use Rattle.floor_rows.specs.inside.FloorRow.{FloorRowSeen, floor_in, IsSetAt}
 use Rattle.floor_rows.specs.inside.LeastOver.{brought, least_at, BroughtTells}

@@ -1,3 +1,4 @@
+pub mod NotedFacts
 pub mod MoreMarks
 pub mod SameFor
 pub mod DeadBars

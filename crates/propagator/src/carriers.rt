@@ -61,7 +61,7 @@ fn carry(
     musts_leave_others();
     same_floors();
     same_dead();
-    let seen = marks.facts().len();
+    let seen = marks.mark();
     add_next(book, marks, facts, Fact::Must(k, a))?;
     settle_at(book, net, steps, marks, facts, Some(seen), k, rows, work)
 }

@@ -93,7 +93,7 @@ impl Propagator {
             &mut self.rows,
             &mut self.work,
         )?;
-        self.seen = Some(marks.facts().len());
+        self.seen = Some(marks.mark());
         Ok(hole(book, marks))
     }
 }

@@ -5,7 +5,7 @@
 //! for the links over its activity. Or the aircraft comes to the first activity with another floor: then the activity is
 //! flagged while floors are renewed. So a link is asked by two flags and a number, and most are passed over.
 
-ghost use Rattle.std.specs.Prelude.{◌≡◌, ◌<◌, ◌≤◌, ℕ, All, IfSome, true, length, slice_index_or};
+ghost use Rattle.std.specs.Prelude.{◌≡◌, ◌<◌, ◌≤◌, ℕ, All, IfSome, true, drop, length, slice_index_or};
 ghost use Rattle.tail_book.specs.Lookup.{activities};
 ghost use Rattle.branch_marks.specs.Facts.{IsFactOf};
 ghost use Rattle.branch_marks.specs.inside.MarkTables.{AreMarksOf};
@@ -82,17 +82,25 @@ fn note(book: &Book, fact: Fact, leave: &mut [bool], arrive: &mut [bool], pass: 
     }
 }
 
-// Notes the links that facts may have taken from somebody.
-fn note_all(book: &Book, facts: &[Fact], leave: &mut [bool], arrive: &mut [bool], pass: &mut [u32])
-    requires facts { All (IsFactOf book.now) facts.now }
+// Notes the links that the facts behind so many may have taken from somebody.
+fn note_since(
+    book: &Book,
+    marks: &Marks,
+    seen: usize,
+    leave: &mut [bool],
+    arrive: &mut [bool],
+    pass: &mut [u32],
+)
+    requires facts { All (IsFactOf book.now) marks.now.facts }
+    requires seen { seen ≤ length marks.now.facts }
     requires leave { length leave.old ≡ activities book.now }
     requires arrive { length arrive.old ≡ activities book.now }
     requires pass { length pass.old ≡ activities book.now }
-    ensures noted { All (IsNoted leave.new arrive.new pass.new) facts.now }
+    ensures noted { All (IsNoted leave.new arrive.new pass.new) (drop seen marks.now.facts) }
     ensures leave { KeepsFlags leave.old leave.new }
 {
-    for i in 0..facts.len() {
-        note(book, facts[i], leave, arrive, pass);
+    for i in seen..marks.mark() {
+        note(book, marks.fact_at(i), leave, arrive, pass);
     }
 }
 
@@ -111,10 +119,10 @@ pub fn suspect_links(book: &Book, marks: &Marks, seen: Option<usize>, work: &mut
         Some(n) => {
             clear(&mut work.arrive);
             clear_passes(&mut work.pass);
-            let facts = &marks.facts()[n..];
-            note_all(
+            note_since(
                 book,
-                facts,
+                marks,
+                n,
                 &mut work.leave,
                 &mut work.arrive,
                 &mut work.pass,

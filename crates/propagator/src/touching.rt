@@ -213,7 +213,7 @@ fn touch(
 fn touch_each(
     book: &Book,
     net: &Net,
-    facts: &[Fact],
+    marks: &Marks,
     from: usize,
     k: u32,
     row: &mut FloorRow,
@@ -221,19 +221,19 @@ fn touch_each(
     ask: &mut [bool],
 )
     requires net { net.now ≡ net_of book.now }
-    requires facts { All (IsFactOf book.now) facts.now }
-    requires from { from ≤ length facts.now }
+    requires facts { All (IsFactOf book.now) marks.now.facts }
+    requires from { from ≤ length marks.now.facts }
     requires aircraft { k < aircraft book.now }
     requires row { IsRowOf book.now row.old }
     requires due { length due.old ≡ activities book.now }
     requires ask { length ask.old ≡ activities book.now }
-    requires touched { IsTouched book.now (take from facts.now) k row.old due.old ask.old }
+    requires touched { IsTouched book.now (take from marks.now.facts) k row.old due.old ask.old }
     ensures row { IsRowOf book.now row.new }
     ensures loses { LosesFloors row.old row.new }
-    ensures touched { IsTouched book.now facts.now k row.new due.new ask.new }
+    ensures touched { IsTouched book.now marks.now.facts k row.new due.new ask.new }
 {
-    for i in from..facts.len() {
-        touch(book, net, k, facts[i], row, due, ask);
+    for i in from..marks.mark() {
+        touch(book, net, k, marks.fact_at(i), row, due, ask);
     }
 }
 
@@ -287,7 +287,7 @@ pub fn touch_since(
         Some(from) => {
             clear(due);
             clear(ask);
-            touch_each(book, net, marks.facts(), from, k, row, due, ask);
+            touch_each(book, net, marks, from, k, row, due, ask);
         }
     }
 }

@@ -6,4 +6,4 @@ use Rattle.propagator.proofs.touching.touch_each.Given as goal
 
 -- the row is right for the facts below i, but for what is flagged
 abbrev pub invariant-loop-i : goal.invariant-loop-i
-invariant-loop-i l = IsRowOf l.book l.row × IsTouched l.book (take l.i l.facts) l.k l.row l.due l.ask × LosesFloors l.initial.row l.row
+invariant-loop-i l = IsRowOf l.book l.row × IsTouched l.book (take l.i l.marks.facts) l.k l.row l.due l.ask × LosesFloors l.initial.row l.row
