@@ -1,4 +1,5 @@
-//! Two aircraft, and what each kind of fact leaves open to them; and marks by chance, beside a walk over their facts.
+//! Two aircraft, and what each kind of fact leaves open to them; marks by chance, beside a walk over their facts; and marks
+//! that are rewound.
 
 ghost use Rattle.std.specs.Prelude.{IsTrue};
 ghost use Rattle.tail_book.specs.Place.{IsPlaceOf};
@@ -11,6 +12,7 @@ use std::test::Fail;
 use tail_book::*;
 
 mod chance;
+mod rewinding;
 
 // Five flights to and fro, two hours apart, and two aircraft that may fly them all and stand where the first starts.
 fn book(alloc: Global) -> Result<Book, Fail> {
@@ -379,7 +381,10 @@ fn add_twice(book: &Book, marks: &mut Marks, fact: Fact) -> Result<Option<(Added
 }
 
 fn last_fact(marks: &Marks) -> Option<Fact> {
-    marks.facts().last().copied()
+    match marks.mark() {
+        0 => None,
+        n => Some(marks.fact_at(n - 1)),
+    }
 }
 
 // What adding a fact twice to marks with some answers, and which fact then stands last.
@@ -456,7 +461,7 @@ const THERE: &[Row] = &[
 // Whether a copy of marks has a fact alone.
 fn is_copied(marks: &Marks, fact: Fact) -> Result<bool, Memory> {
     let copy = marks.copy()?;
-    Ok(copy.facts() == [fact].as_slice())
+    Ok(copy.mark() == 1 && last_fact(&copy) == Some(fact))
 }
 
 // Whether a fact that is added twice to marks without facts is new, then known, and a copy that is made then has it alone.

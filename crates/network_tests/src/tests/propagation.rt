@@ -333,7 +333,8 @@ fn grows_over(alloc: Global, book: &Book, net: &Net, again: bool) -> Result<bool
     let mut marks = Marks::new(alloc, book)?;
     let mut list = vec![in alloc; Fact::Tie(5, 6)]?;
     let answer = close_again(alloc, book, net, &mut marks, again, &mut list)?;
-    Ok(is_grown(&list, marks.facts(), answer))
+    let facts = marks.copy_of_facts(alloc)?;
+    Ok(is_grown(&list, &facts, answer))
 }
 
 fn grows_in(alloc: Global, book: &Book, again: bool) -> Result<bool, Memory> {

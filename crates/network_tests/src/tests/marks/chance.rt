@@ -21,7 +21,7 @@ fn fact(dice: &mut Dice) -> Fact {
     }
 }
 
-fn facts(dice: &mut Dice, alloc: Global) -> Result<Vec<Fact>, Memory> {
+pub fn facts(dice: &mut Dice, alloc: Global) -> Result<Vec<Fact>, Memory> {
     let mut facts = Vec::new(alloc);
     for _ in 0..dice.below(7) {
         facts.push(fact(dice))?;
@@ -37,7 +37,12 @@ fn let_fly_at(facts: &[Fact], k: u32, from: Place) -> bool {
 }
 
 // Whether the tables say of a link what the walk says, and whether it is usable; nothing where it is none of the book.
-fn link_as_walked(book: &Book, marks: &Marks, link_of: (u32, Place, u32)) -> Option<(bool, bool)>
+fn link_as_walked(
+    book: &Book,
+    marks: &Marks,
+    facts: &[Fact],
+    link_of: (u32, Place, u32),
+) -> Option<(bool, bool)>
     requires { AreMarksOf book.now marks.now }
 {
     let (k, from, b) = link_of;
@@ -47,7 +52,6 @@ fn link_as_walked(book: &Book, marks: &Marks, link_of: (u32, Place, u32)) -> Opt
     if !is_place_of(book, from) {
         return None;
     }
-    let facts = marks.facts();
     let want = link(book, k, from, b)
         && let_go(facts, k, from, b)
         && let_fly_at(facts, k, from)
@@ -56,13 +60,13 @@ fn link_as_walked(book: &Book, marks: &Marks, link_of: (u32, Place, u32)) -> Opt
 }
 
 // The same of an activity and of a route's end there.
-fn end_as_walked(book: &Book, marks: &Marks, k: u32, a: u32) -> Option<(bool, bool)>
+fn end_as_walked(book: &Book, marks: &Marks, facts: &[Fact], k: u32, a: u32) -> Option<(bool, bool)>
     requires { AreMarksOf book.now marks.now }
 {
     if k as usize >= book.tails.len() || a as usize >= book.activities.len() {
         return None;
     }
-    let (facts, place) = (marks.facts(), Place::After(a));
+    let place = Place::After(a);
     let alive = allowed(book, k, a) && let_fly(facts, k, a);
     let ends = let_end(facts, k, place);
     Some((
@@ -72,29 +76,29 @@ fn end_as_walked(book: &Book, marks: &Marks, k: u32, a: u32) -> Option<(bool, bo
 }
 
 // The same of a route's end at the carry-in.
-fn carry_as_walked(book: &Book, marks: &Marks, k: u32) -> Option<bool>
+fn carry_as_walked(book: &Book, marks: &Marks, facts: &[Fact], k: u32) -> Option<bool>
     requires { AreMarksOf book.now marks.now }
 {
     if k as usize >= book.tails.len() {
         return None;
     }
-    Some(marks.may_end(book, k, Place::Carry) == let_end(marks.facts(), k, Place::Carry))
+    Some(marks.may_end(book, k, Place::Carry) == let_end(facts, k, Place::Carry))
 }
 
-// Marks, for an aircraft: whether all answers are as walked, and how many links are usable.
-fn compare_with(book: &Book, marks: &Marks, k: u32) -> (bool, u32)
+// Marks with these facts, for an aircraft: whether all answers are as walked, and how many links are usable.
+fn compare_with(book: &Book, marks: &Marks, facts: &[Fact], k: u32) -> (bool, u32)
     requires { AreMarksOf book.now marks.now }
 {
-    let (mut same, mut usable) = (carry_as_walked(book, marks, k) == Some(true), 0u32);
+    let (mut same, mut usable) = (carry_as_walked(book, marks, facts, k) == Some(true), 0u32);
     for b in 0..book.activities.len() as u32 {
-        same &= end_as_walked(book, marks, k, b) == Some((true, true));
+        same &= end_as_walked(book, marks, facts, k, b) == Some((true, true));
         for x in 0..book.activities.len() as u32 {
             let from = if x == b {
                 Place::Carry
             } else {
                 Place::After(x)
             };
-            let answer = link_as_walked(book, marks, (k, from, b));
+            let answer = link_as_walked(book, marks, facts, (k, from, b));
             same &= answer == Some((true, true)) || answer == Some((true, false));
             usable = usable.saturating_add((answer == Some((true, true))) as u32);
         }
@@ -105,7 +109,7 @@ fn compare_with(book: &Book, marks: &Marks, k: u32) -> (bool, u32)
 // The same of marks with these facts.
 fn compare(alloc: Global, book: &Book, facts: &[Fact], k: u32) -> Result<(bool, u32), Memory> {
     let marks = marks(alloc, book, facts)?;
-    Ok(compare_with(book, &marks, k))
+    Ok(compare_with(book, &marks, facts, k))
 }
 
 // The same of the next facts, for both aircraft.

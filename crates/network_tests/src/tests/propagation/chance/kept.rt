@@ -59,7 +59,7 @@ fn follow_by_rules(
     requires net { net.now ≡ net_of book.now }
     requires marks { AreMarksOf book.now marks.old }
 {
-    let before = Vec::from_slice(alloc, marks.facts())?;
+    let before = marks.copy_of_facts(alloc)?;
     let same = follow_anew(alloc, book, net, marks, list, answer)?;
     Ok(same && is_closed(alloc, book, &before, list)?)
 }
