@@ -20,8 +20,8 @@ use Rattle.cert_checker.specs.declared.state.Judging.{Judging}
 use Rattle.cert_checker.specs.declared.state.Part.TheVariants.{InTree as PartInTree}
 use Rattle.cert_checker.specs.declared.verdict.Reason.TheVariants.{KnownFact, NotAlive, NotFollowing, OutOfPlace}
 use Rattle.cert_checker.specs.inside.Kept.{IsAtNode, TellsNode, leaf_in, section_in, state_of}
-use Rattle.cert_checker.specs.declared.branches.Branches.{Branches}
-use Rattle.cert_checker.specs.inside.OpenBranches.{behind_of, owed_of}
+use Rattle.open_branches.specs.declared.branches.Branches.{Branches}
+use Rattle.open_branches.specs.Branches.{behind_of, owed_of}
 
 -- a test that holds lets the next one come, and one that does not gives its reason
 pub passed : {A E : Type 0} (test : Bool) (why : E) (next : Result A E) → test ≡ true → must test why next ≡ next

@@ -19,8 +19,8 @@ use Rattle.cert_checker.specs.declared.state.Part.TheVariants.{Start, InTree, In
 use Rattle.cert_checker.specs.declared.verdict.Reason.TheVariants.{OutOfPlace}
 use Rattle.cert_checker.specs.inside.Kept.{section_in, state_of}
 use Rattle.cert_checker.proofs.AtNodes.{passed, stopped}
-use Rattle.cert_checker.specs.declared.branches.Owed.{Owed}
-use Rattle.cert_checker.specs.inside.OpenBranches.{behind_of, owed_behind, owed_of}
+use Rattle.open_branches.specs.declared.branches.Owed.{Owed}
+use Rattle.open_branches.specs.Branches.{behind_of, owed_behind, owed_of}
 
 module _ (book : BookSeen) (judging : Judging) where
   abbrev state : State

@@ -20,9 +20,9 @@ use Rattle.cert_checker.specs.declared.state.OpenLeaf.{OpenLeaf as KeptLeaf}
 use Rattle.cert_checker.specs.declared.state.Part.{Part}
 use Rattle.cert_checker.specs.declared.state.Part.TheVariants.{Start, InTree, InBound, InPlan, Claimed}
 use Rattle.cert_checker.specs.inside.Kept.{IsJudging, IsLeafIn, IsLeafOf, IsPartIn}
-use Rattle.cert_checker.specs.declared.branches.Branches.{Branches}
+use Rattle.open_branches.specs.declared.branches.Branches.{Branches}
 use Rattle.cert_checker.specs.inside.Buckets.{IsFamilyOf, IsLabelOf, at_in, no_label}
-use Rattle.cert_checker.specs.inside.OpenBranches.{AreBranchesOf}
+use Rattle.open_branches.specs.Branches.{AreBranchesOf}
 
 -- whether a node is owed says nothing of its marks
 pub owes_alone : (book : BookSeen) (branches : Branches) (owes : Bool) → AreBranchesOf book branches → AreBranchesOf book (record branches { owes = owes })

@@ -2,7 +2,6 @@ pub mod Accepted
 pub mod Accepting
 pub mod AtEnds
 pub mod AtNodes
-pub mod BranchLists
 pub mod Bucketed
 pub mod Claiming
 pub mod Closing

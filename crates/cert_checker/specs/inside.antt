@@ -3,6 +3,5 @@ pub mod Buckets
 pub mod Kept
 pub mod Leaf
 pub mod Means
-pub mod OpenBranches
 pub mod ToldLines
 pub mod Ways

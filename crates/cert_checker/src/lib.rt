@@ -2,7 +2,6 @@
 #![tactic(auto)]
 
 mod bound;
-mod branches;
 mod buckets;
 mod claim;
 mod cover;

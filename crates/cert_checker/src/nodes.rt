@@ -12,7 +12,6 @@ use crate::numbers::{is_activity, is_aircraft};
 use crate::state::{Judging, OpenLeaf, Part};
 use crate::verdict::Reason;
 use branch_marks::{Fact, Pair};
-use std::alloc::Global;
 use tail_book::{Book, Memory};
 
 // Whether the numbers in a pair are of the book.
@@ -36,7 +35,6 @@ impl Judging {
     /// Takes a step, or says why not.
     pub fn take_fact(
         &mut self,
-        alloc: Global,
         book: &Book,
         means: &Means,
         fact: Fact,
@@ -46,7 +44,7 @@ impl Judging {
         ensures judging { IfOk result (λ _. IsJudging book.now self.new) }
         ensures step { IfOk result (Gives (take_fact book.now (state_of self.old) fact) self.new) }
     {
-        let found = self.go_to_node(alloc, book)?;
+        let found = self.go_to_node(book)?;
         if !found {
             return Ok(Some(Reason::OutOfPlace));
         }
@@ -72,17 +70,12 @@ impl Judging {
     }
 
     /// Takes a split, or says why not.
-    pub fn take_split(
-        &mut self,
-        alloc: Global,
-        book: &Book,
-        pair: Pair,
-    ) -> Result<Option<Reason>, Memory>
+    pub fn take_split(&mut self, book: &Book, pair: Pair) -> Result<Option<Reason>, Memory>
         requires { IsJudging book.now self.old }
         ensures judging { IfOk result (λ _. IsJudging book.now self.new) }
         ensures step { IfOk result (Gives (take_split book.now (state_of self.old) pair) self.new) }
     {
-        let found = self.go_to_node(alloc, book)?;
+        let found = self.go_to_node(book)?;
         if !found {
             return Ok(Some(Reason::OutOfPlace));
         }
@@ -97,17 +90,12 @@ impl Judging {
     }
 
     /// Takes a hole, or says why not.
-    pub fn take_hole(
-        &mut self,
-        alloc: Global,
-        book: &Book,
-        a: u32,
-    ) -> Result<Option<Reason>, Memory>
+    pub fn take_hole(&mut self, book: &Book, a: u32) -> Result<Option<Reason>, Memory>
         requires { IsJudging book.now self.old }
         ensures judging { IfOk result (λ _. IsJudging book.now self.new) }
         ensures step { IfOk result (Gives (take_hole book.now (state_of self.old) a) self.new) }
     {
-        let found = self.go_to_node(alloc, book)?;
+        let found = self.go_to_node(book)?;
         if !found {
             return Ok(Some(Reason::OutOfPlace));
         }
@@ -122,18 +110,13 @@ impl Judging {
     }
 
     /// Takes the first line of a stuck leaf, or says why not.
-    pub fn take_stuck(
-        &mut self,
-        alloc: Global,
-        book: &Book,
-        k: u32,
-    ) -> Result<Option<Reason>, Memory>
+    pub fn take_stuck(&mut self, book: &Book, k: u32) -> Result<Option<Reason>, Memory>
         requires judging { IsJudging book.now self.old }
         requires lines { self.old.lines < 2 ^ 63 }
         ensures judging { IfOk result (λ _. IsJudging book.now self.new) }
         ensures step { IfOk result (Gives (take_stuck book.now (state_of self.old) k) self.new) }
     {
-        let found = self.go_to_node(alloc, book)?;
+        let found = self.go_to_node(book)?;
         if !found {
             return Ok(Some(Reason::OutOfPlace));
         }
@@ -153,12 +136,12 @@ impl Judging {
     }
 
     /// Takes the first line of a bound leaf, or says why not.
-    pub fn take_bound(&mut self, alloc: Global, book: &Book) -> Result<Option<Reason>, Memory>
+    pub fn take_bound(&mut self, book: &Book) -> Result<Option<Reason>, Memory>
         requires { IsJudging book.now self.old }
         ensures judging { IfOk result (λ _. IsJudging book.now self.new) }
         ensures step { IfOk result (Gives (take_bound book.now (state_of self.old)) self.new) }
     {
-        let found = self.go_to_node(alloc, book)?;
+        let found = self.go_to_node(book)?;
         if !found {
             return Ok(Some(Reason::OutOfPlace));
         }

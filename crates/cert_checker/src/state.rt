@@ -10,9 +10,9 @@ ghost use Rattle.cert_checker.specs.declared.verdict.Reason.TheVariants.{OutOfPl
 ghost use Rattle.cert_checker.specs.inside.Kept.{IsJudging, TellsNode, section_in, state_of};
 
 use crate::bound::{bound_of, lower};
-use crate::branches::Branches;
 use crate::label::Label;
 use floor_rows::FloorRow;
+use open_branches::Branches;
 use std::alloc::Global;
 use tail_book::laws::every_book_is_sound;
 use tail_book::{Book, Claim, Memory};
@@ -152,7 +152,7 @@ impl Judging {
     }
 
     /// Goes on to the next node that is owed, and answers whether one may stand here.
-    pub fn go_to_node(&mut self, alloc: Global, book: &Book) -> Result<bool, Memory>
+    pub fn go_to_node(&mut self, book: &Book) -> Result<bool, Memory>
         requires { IsJudging book.now self.old }
         ensures judging { IfOk result (λ _. IsJudging book.now self.new) }
         ensures node { IfOk result (TellsNode book.now (state_of self.old) self.new) }
@@ -161,7 +161,7 @@ impl Judging {
         if !done {
             return Ok(false);
         }
-        let found = self.branches.next(alloc, book)?;
+        let found = self.branches.next(book)?;
         Ok(found)
     }
 }

@@ -44,7 +44,6 @@ impl Judging {
     // Takes an event, or says why not.
     fn take_event(
         &mut self,
-        alloc: Global,
         book: &Book,
         means: &Means,
         event: Event,
@@ -57,11 +56,11 @@ impl Judging {
         ensures step { IfOk result (Gives (take_event book.now (state_of self.old) event) self.new) }
     {
         match event {
-            Event::Fact(fact) => self.take_fact(alloc, book, means, fact),
-            Event::Split(pair) => self.take_split(alloc, book, pair),
-            Event::Hole(a) => self.take_hole(alloc, book, a),
-            Event::Stuck(k) => self.take_stuck(alloc, book, k),
-            Event::Bound => self.take_bound(alloc, book),
+            Event::Fact(fact) => self.take_fact(book, means, fact),
+            Event::Split(pair) => self.take_split(book, pair),
+            Event::Hole(a) => self.take_hole(book, a),
+            Event::Stuck(k) => self.take_stuck(book, k),
+            Event::Bound => self.take_bound(book),
             Event::Dual(a, dual) => Ok(self.take_dual(book, means, a, dual)),
             Event::Cover(k, value) => Ok(self.take_cover(book, k, value)),
             Event::Label {
@@ -94,7 +93,7 @@ impl Judging {
                 m,
                 c,
             } => Ok(self.take_header(book, n, m, c)),
-            CertLine::Event(event) => self.take_event(alloc, book, means, event),
+            CertLine::Event(event) => self.take_event(book, means, event),
             CertLine::Plan => Ok(self.take_plan(book)),
             CertLine::Fly(a, k) => self.take_fly(book, a, k),
             CertLine::Claim(claim) => self.take_claim(alloc, book, means, claim),

@@ -24,7 +24,7 @@ use Rattle.cert_checker.specs.declared.verdict.Verdict.{Verdict}
 use Rattle.cert_checker.specs.declared.verdict.Reason.TheVariants.{OutOfPlace}
 use Rattle.cert_checker.specs.inside.Buckets.{IsFamilyOf}
 use Rattle.cert_checker.specs.inside.Means.{AreMeansOf}
-use Rattle.cert_checker.specs.inside.OpenBranches.{AreBranchesOf, owed_of}
+use Rattle.open_branches.specs.Branches.{AreBranchesOf, owed_of}
 
 -- the bound leaf that is here
 abbrev pub bound_leaf : Judging → BoundLeaf

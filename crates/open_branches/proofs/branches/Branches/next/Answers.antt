@@ -3,9 +3,9 @@ use Rattle.std.specs.Prelude.{◌++◌, reverse}
 use Rattle.branch_marks.specs.declared.fact.Fact.{Fact}
 use Rattle.std.proofs.Common.{rules, Bool}
 use Rattle.std.specs.Prelude.{if◌then◌else◌}
-use Rattle.cert_checker.specs.inside.OpenBranches.{AreBehind, AreOnce, behind_of, owed_behind}
-use Rattle.cert_checker.proofs.BranchLists.{next_is, once_front, once_more}
-use Rattle.cert_checker.proofs.branches.Branches.next.Goals as goal
+use Rattle.open_branches.specs.Branches.{AreBehind, behind_of, owed_behind}
+use Rattle.open_branches.proofs.BranchLists.{next_is}
+use Rattle.open_branches.proofs.branches.Branches.next.Goals as goal
 
 -- the marks of the next branch are made of a front of those that were here
 pub returns-clause-branches : goal.returns-clause-branches
@@ -19,7 +19,6 @@ returns-clause-branches c =
     let is : c.add_new.new.marks.facts ≡ take owed.count facts ++ owed.fact ∷ [] = search rules in
     record {
       marks = c.in_ok-add_new.ensures.marks;
-      once = subst (λ (z : List Fact). AreOnce z) (sym is) (once_more [] (take owed.count facts) owed.fact (once_front owed.count [] facts c.requires.once) next.new);
       behind = subst (λ (z : List Fact). AreBehind book z (reverse c.pop.new.self.items)) (sym is) next.behind;
     }
 

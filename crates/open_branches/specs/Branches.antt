@@ -9,8 +9,8 @@ use Rattle.branch_marks.specs.declared.fact.Pair.{Pair}
 use Rattle.branch_marks.specs.Undecided.{is_undecided}
 use Rattle.branch_marks.specs.FactTests.{has_fact}
 use Rattle.branch_marks.specs.inside.MarkTables.{AreMarksOf}
-use Rattle.cert_checker.specs.declared.branches.Branches.{Branches}
-use Rattle.cert_checker.specs.declared.branches.Owed.{Owed}
+use Rattle.open_branches.specs.declared.branches.Branches.{Branches}
+use Rattle.open_branches.specs.declared.branches.Owed.{Owed}
 
 -- the marks of the branches behind a node with these facts, the next one first
 abbrev pub owed_behind : List Fact → List Owed → List (List Fact)
@@ -30,19 +30,9 @@ AreBehind book facts [] = ⊤
 AreBehind book facts (owed ∷ more) =
     (owed.count ≤ length facts) × IsFactOf book owed.fact × (has_fact (take owed.count facts) owed.fact ≡ false) × AreBehind book (take owed.count facts) more
 
--- none of the facts is among those before it, where some come before them all
-abbrev pub AreOnceBehind : List Fact → List Fact → Type 0
-AreOnceBehind before [] = ⊤
-AreOnceBehind before (fact ∷ facts) = (has_fact before fact ≡ false) × AreOnceBehind (before ++ fact ∷ []) facts
-
--- no fact comes twice
-abbrev pub AreOnce : List Fact → Type 0
-AreOnce facts = AreOnceBehind [] facts
-
 -- what open branches keep
 pub record AreBranchesOf (book : BookSeen) (branches : Branches) : Type 0 where
   pub marks : AreMarksOf book branches.marks
-  pub once : AreOnce branches.marks.facts
   pub behind : AreBehind book branches.marks.facts (reverse branches.behind.items)
 
 -- both facts are of the book, and neither is among the marks

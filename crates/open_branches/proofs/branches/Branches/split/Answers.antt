@@ -3,10 +3,10 @@ use Rattle.std.specs.Prelude.{◌++◌, reverse}
 use Rattle.branch_marks.specs.declared.fact.Fact.{Fact}
 use Rattle.std.proofs.Common.{length, rules, refl}
 use Rattle.branch_marks.specs.Branches.{first_branch, second_branch}
-use Rattle.cert_checker.specs.declared.branches.Owed.{Owed}
-use Rattle.cert_checker.specs.inside.OpenBranches.{AreBehind, AreOnce}
-use Rattle.cert_checker.proofs.BranchLists.{once_more, split_behind}
-use Rattle.cert_checker.proofs.branches.Branches.split.Goals as goal
+use Rattle.open_branches.specs.declared.branches.Owed.{Owed}
+use Rattle.open_branches.specs.Branches.{AreBehind}
+use Rattle.open_branches.proofs.BranchLists.{split_behind}
+use Rattle.open_branches.proofs.branches.Branches.split.Goals as goal
 
 -- the second branch begins with the marks before the first one
 pub returns-clause-branches : goal.returns-clause-branches
@@ -21,7 +21,6 @@ returns-clause-branches c =
     let put : c.push.new.self.items ≡ items ++ owed ∷ [] = search rules in
     record {
       marks = c.in_ok-add_new.ensures.marks;
-      once = subst (λ (z : List Fact). AreOnce z) (sym is) (once_more [] facts first c.requires.branches.once new.first_new);
       behind = subst (λ (z : List Fact). AreBehind book z (reverse c.push.new.self.items)) (sym is)
           (subst (λ (z : List Owed). AreBehind book (facts ++ first ∷ []) (reverse z)) (sym put)
           (split_behind book facts items first owed refl new.second_of_book new.second_new c.requires.branches.behind));

@@ -1,16 +1,17 @@
-//! The branches of a proof tree that are open: the marks of the node before the next line, and what is owed behind it.
+//! The marks of the node that comes next, and what is owed behind it.
 //!
-//! The marks of a second branch are a front of those of the first one, and one fact more. So the marks are kept once, and of
-//! each branch that is owed the length of that front and its fact. When a subtree is whole, the marks of the next one are made
-//! again from the facts; nothing of a leaf is kept.
+//! The marks of a second branch are a front of those of the first one, and one fact more. So there is one list of marks, and of
+//! each branch that is owed the length of that front and its fact are kept. A first branch only adds its fact; where a subtree is
+//! whole, the marks are rewound to the front of the branch that is owed next. However deep a tree lies, a branch costs a number
+//! and a fact.
 
-ghost use Rattle.std.specs.Prelude.{◌≡◌, ◌<◌, ◌≤◌, ◌++◌, ◌∷◌, [], false, true, IfOk, All, length, take};
+ghost use Rattle.std.specs.Prelude.{◌≡◌, ◌++◌, ◌∷◌, [], false, true, IfOk};
 ghost use Rattle.branch_marks.specs.Branches.{first_branch, second_branch};
 ghost use Rattle.branch_marks.specs.Facts.{IsFactOf};
 ghost use Rattle.branch_marks.specs.Undecided.{is_undecided};
 ghost use Rattle.branch_marks.specs.FactTests.{has_fact};
 ghost use Rattle.branch_marks.specs.inside.MarkTables.{AreMarksOf};
-ghost use Rattle.cert_checker.specs.inside.OpenBranches.{AreBranchesOf, AreOnce, BranchesAreNew, behind_of, owed_of};
+ghost use Rattle.open_branches.specs.Branches.{AreBranchesOf, BranchesAreNew, behind_of, owed_of};
 
 use branch_marks::laws::{
     alive_decides, has_fact_decides, undecided_decides, undecided_pairs_are_of_book,
@@ -20,7 +21,7 @@ use std::alloc::Global;
 use tail_book::{Book, Memory};
 
 /// A branch that is owed: how many facts of the marks it begins with, and the fact that comes behind them.
-#[derive(Clone, Copy)]
+#[derive(Clone, Copy, Debug)]
 pub struct Owed {
     pub count: usize,
     pub fact: Fact,
@@ -47,27 +48,13 @@ fn add_new(book: &Book, marks: &mut Marks, fact: Fact) -> Result<(), Memory>
     Ok(())
 }
 
-// Marks of the first so many facts.
-fn front(alloc: Global, book: &Book, facts: &[Fact], count: usize) -> Result<Marks, Memory>
-    requires facts { All (IsFactOf book.now) facts.now }
-    requires once { AreOnce facts.now }
-    requires count { count ≤ length facts.now }
-    ensures facts { IfOk result (λ marks. marks.facts ≡ take count facts.now) }
-    ensures marks { IfOk result (AreMarksOf book.now) }
-{
-    let mut marks = Marks::new(alloc, book)?;
-    for i in 0..count {
-        add_new(book, &mut marks, facts[i])?;
-    }
-    Ok(marks)
-}
-
 impl Branches {
     /// No marks, and nothing owed.
     pub fn new(alloc: Global, book: &Book) -> Result<Branches, Memory>
         ensures branches { IfOk result (AreBranchesOf book.now) }
         ensures marks { IfOk result (λ branches. branches.marks.facts ≡ []) }
-        ensures owed { IfOk result (λ branches. owed_of branches ≡ []) }
+        ensures behind { IfOk result (λ branches. behind_of branches ≡ []) }
+        ensures owes { IfOk result (λ branches. branches.owes ≡ false) }
     {
         let marks = Marks::new(alloc, book)?;
         Ok(Branches {
@@ -78,7 +65,7 @@ impl Branches {
     }
 
     /// Goes on to the next subtree that is owed, which may be the one that is here, and answers whether there is one.
-    pub fn next(&mut self, alloc: Global, book: &Book) -> Result<bool, Memory>
+    pub fn next(&mut self, book: &Book) -> Result<bool, Memory>
         requires { AreBranchesOf book.now self.old }
         ensures branches { IfOk result (λ _. AreBranchesOf book.now self.new) }
         ensures owed { IfOk result (λ _. owed_of self.new ≡ owed_of self.old) }
@@ -88,13 +75,11 @@ impl Branches {
         if self.owes {
             return Ok(true);
         }
-        self.marks.facts_are_of_book(book);
         let Some(owed) = self.behind.pop() else {
             return Ok(false);
         };
-        let mut marks = front(alloc, book, self.marks.facts(), owed.count)?;
-        add_new(book, &mut marks, owed.fact)?;
-        self.marks = marks;
+        self.marks.rewind(owed.count);
+        add_new(book, &mut self.marks, owed.fact)?;
         self.owes = true;
         Ok(true)
     }
@@ -124,7 +109,7 @@ impl Branches {
     {
         branches_are_new();
         let (first, second) = branches_of(pair);
-        let count = self.marks.facts().len();
+        let count = self.marks.mark();
         add_new(book, &mut self.marks, first)?;
         self.behind.push(Owed {
             count,

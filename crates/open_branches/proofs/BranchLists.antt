@@ -3,9 +3,9 @@
 -- branch more on top, whose front is all facts so far; the branch that comes next cuts the facts to its front and adds
 -- its own.
 -- The facts of a branch are new, since its pair was undecided.
-use Rattle.std.proofs.Common.{◌≡◌, ◌∙◌, ℕ, zero, suc, ◌<◌, ◌≤◌, true, false, List, [], ◌∷◌, ◌++◌, length, take, reverse, get_or, refl, sym, ap, subst, arith, append_assoc}
+use Rattle.std.proofs.Common.{◌≡◌, ◌∙◌, ℕ, ◌≤◌, true, false, List, [], ◌∷◌, ◌++◌, ◌+◌, length, length-append, take, reverse, refl, sym, ap, subst, arith}
 use Rattle.std.proofs.lemmas.Bool.{false_from_ne_true}
-use Rattle.std.proofs.lemmas.List.{append-nil, reverse-append, take-append-le}
+use Rattle.std.proofs.lemmas.List.{reverse-append, take-append-le}
 use Rattle.std.proofs.Math.Seq.{take-append_seam}
 use Rattle.std.proofs.lemmas.List.Elements.{All-contains}
 use Rattle.tail_book.specs.Seen.{BookSeen}
@@ -20,47 +20,28 @@ use Rattle.branch_marks.specs.Undecided.{is_undecided}
 use Rattle.branch_marks.specs.inside.BranchTests.{UndecidedDecides}
 use Rattle.branch_marks.specs.FactTests.{has_fact}
 use Rattle.branch_marks.specs.inside.FactTests.{HasFactDecides}
-use Rattle.cert_checker.specs.declared.branches.Owed.{Owed}
-use Rattle.cert_checker.specs.inside.OpenBranches.{AreBehind, AreNewFacts, AreOnceBehind, owed_behind}
+use Rattle.open_branches.specs.declared.branches.Owed.{Owed}
+use Rattle.open_branches.specs.Branches.{AreBehind, AreNewFacts, owed_behind}
 
--- one fact more behind the others
-pub once_more : (before facts : List Fact) (fact : Fact) → AreOnceBehind before facts → has_fact (before ++ facts) fact ≡ false → AreOnceBehind before (facts ++ fact ∷ [])
-once_more before [] fact once new = (subst (λ (z : List Fact). has_fact z fact ≡ false) (append-nil before) new, tt)
-once_more before (one ∷ facts) fact once new =
-    (once.0, once_more (before ++ one ∷ []) facts fact once.1 (subst (λ (z : List Fact). has_fact z fact ≡ false) (sym (append_assoc before (one ∷ []) facts)) new))
-
--- a front of facts that come once
-pub once_front : (n : ℕ) (before facts : List Fact) → AreOnceBehind before facts → AreOnceBehind before (take n facts)
-once_front zero before facts once = tt
-once_front (suc n) before [] once = tt
-once_front (suc n) before (one ∷ facts) once = (once.0, once_front n (before ++ one ∷ []) facts once.1)
-
--- and each of them is not among those before it
-pub once_at : (before facts : List Fact) (i : ℕ) (d : Fact) → AreOnceBehind before facts → i < length facts → has_fact (before ++ take i facts) (get_or facts i d) ≡ false
-once_at before [] i d once lt = absurd (omega (arith, lt))
-once_at before (one ∷ facts) zero d once lt = subst (λ (z : List Fact). has_fact z one ≡ false) (sym (append-nil before)) once.0
-once_at before (one ∷ facts) (suc i) d once lt =
-    subst (λ (z : List Fact). has_fact z (get_or facts i d) ≡ false) (append_assoc before (one ∷ []) (take i facts))
-    (once_at (before ++ one ∷ []) facts i d once.1 (omega (arith, lt)))
+-- a list is no shorter with more behind it
+longer : (facts more : List Fact) (n : ℕ) → n ≤ length facts → n ≤ length (facts ++ more)
+longer facts more n le = let long : length (facts ++ more) ≡ length facts + length more = length-append facts more in omega (arith, long, le)
 
 module _ (book : BookSeen) where
-  -- a fact more at the end leaves all that is owed as it is
-  pub behind_more : (facts : List Fact) (fact : Fact) (owed : List Owed) → AreBehind book facts owed → AreBehind book (facts ++ fact ∷ []) owed
-  behind_more facts fact [] behind = tt
-  behind_more facts fact (one ∷ owed) behind =
-      let same = take-append-le one.count facts (fact ∷ []) behind.0 in
-      let long : one.count ≤ length (facts ++ fact ∷ []) = longer facts (fact ∷ []) one.count behind.0 in
-      (long, behind.1, subst (λ (z : List Fact). has_fact z one.fact ≡ false) (sym same) behind.2, subst (λ (z : List Fact). AreBehind book z owed) (sym same) behind.3)
-    where
-      longer : (xs ys : List Fact) (n : ℕ) → n ≤ length xs → n ≤ length (xs ++ ys)
-      longer [] ys n le = omega (arith, le)
-      longer (x ∷ xs) ys zero le = omega arith
-      longer (x ∷ xs) ys (suc n) le = let h = longer xs ys n (omega (arith, le)) in omega (arith, h)
+  -- more facts at the end leave all that is owed as it is
+  pub behind_more : (facts more : List Fact) (owed : List Owed) → AreBehind book facts owed → AreBehind book (facts ++ more) owed
+  behind_more facts more [] behind = tt
+  behind_more facts more (one ∷ owed) behind =
+      let same = take-append-le one.count facts more behind.0 in (
+        longer facts more one.count behind.0,
+        behind.1,
+        subst (λ (z : List Fact). has_fact z one.fact ≡ false) (sym same) behind.2,
+        subst (λ (z : List Fact). AreBehind book z owed) (sym same) behind.3,
+      )
 
-  pub owed_more : (facts : List Fact) (fact : Fact) (owed : List Owed) → AreBehind book facts owed → owed_behind (facts ++ fact ∷ []) owed ≡ owed_behind facts owed
-  owed_more facts fact [] behind = refl
-  owed_more facts fact (one ∷ owed) behind =
-      ap (λ (z : List Fact). (z ++ one.fact ∷ []) ∷ owed_behind z owed) (take-append-le one.count facts (fact ∷ []) behind.0)
+  pub owed_more : (facts more : List Fact) (owed : List Owed) → AreBehind book facts owed → owed_behind (facts ++ more) owed ≡ owed_behind facts owed
+  owed_more facts more [] behind = refl
+  owed_more facts more (one ∷ owed) behind = ap (λ (z : List Fact). (z ++ one.fact ∷ []) ∷ owed_behind z owed) (take-append-le one.count facts more behind.0)
 
 -- the first branch begins with all facts before it
 pub front_is : (facts : List Fact) (fact : Fact) → take (length facts) (facts ++ fact ∷ []) ≡ facts
@@ -109,9 +90,9 @@ module _ (book : BookSeen) (facts : List Fact) where
         within = all.0;
         of_book = all.1;
         new = all.2;
-        behind = behind_more book (take owed.count facts) owed.fact (reverse rest) all.3;
+        behind = behind_more book (take owed.count facts) (owed.fact ∷ []) (reverse rest) all.3;
         owed_is = ap (λ (z : List Owed). owed_behind facts z) turned
-            ∙ ap (λ (z : List (List Fact)). (take owed.count facts ++ owed.fact ∷ []) ∷ z) (sym (owed_more book (take owed.count facts) owed.fact (reverse rest) all.3));
+            ∙ ap (λ (z : List (List Fact)). (take owed.count facts ++ owed.fact ∷ []) ∷ z) (sym (owed_more book (take owed.count facts) (owed.fact ∷ []) (reverse rest) all.3));
       }
 
   -- a split puts one branch behind the other
@@ -119,14 +100,10 @@ module _ (book : BookSeen) (facts : List Fact) where
       → AreBehind book facts (reverse items) → AreBehind book (facts ++ first ∷ []) (reverse (items ++ owed ∷ []))
   split_behind items first owed count of_book new behind =
       let front : take owed.count (facts ++ first ∷ []) ≡ facts = ap (λ (n : ℕ). take n (facts ++ first ∷ [])) count ∙ front_is facts first in
-      let long = longer facts (first ∷ []) in
+      let long = longer facts (first ∷ []) (length facts) (omega arith) in
       subst (λ (z : List Owed). AreBehind book (facts ++ first ∷ []) z) (sym (reversed items owed)) (
         omega (arith, count, long),
         of_book,
         subst (λ (z : List Fact). has_fact z owed.fact ≡ false) (sym front) new,
         subst (λ (z : List Fact). AreBehind book z (reverse items)) (sym front) behind,
       )
-    where
-      longer : (xs ys : List Fact) → length xs ≤ length (xs ++ ys)
-      longer [] ys = omega arith
-      longer (x ∷ xs) ys = let h = longer xs ys in omega (arith, h)
