@@ -260,9 +260,8 @@ pub fn note_cuts(book: &Book, marks: &Marks, cut: &mut [bool])
     ensures length { length cut.new ≡ length cut.old }
 {
     cut.fill(false);
-    let facts = marks.facts();
-    for i in 0..facts.len() {
-        note_cut(facts[i], cut);
+    for i in 0..marks.mark() {
+        note_cut(marks.fact_at(i), cut);
     }
 }
 

@@ -67,10 +67,20 @@ fn before(route: &Route, a: u32) -> Option<u32> {
     None
 }
 
+// Whether marks have a fact.
+fn has_fact(marks: &Marks, fact: Fact) -> bool {
+    for i in 0..marks.mark() {
+        if marks.fact_at(i) == fact {
+            return true;
+        }
+    }
+    false
+}
+
 // The pair at an activity that an aircraft flies on its route: the connection to it, unless that is tied.
 fn pair_on(marks: &Marks, route: &Route, k: u32, a: u32) -> Pair {
     match before(route, a) {
-        Some(x) if !marks.facts().contains(&Fact::Tie(x, a)) => Pair::Link(x, a),
+        Some(x) if !has_fact(marks, Fact::Tie(x, a)) => Pair::Link(x, a),
         _ => Pair::Fly(k, a),
     }
 }
@@ -100,7 +110,7 @@ fn is_due(book: &Book, marks: &Marks, routes: &[Route], pair: Pair) -> bool
 
 // The facts of marks, and those of steps.
 fn facts_after(alloc: Global, before: &Marks, steps: &[DiveStep]) -> Result<Vec<Fact>, Memory> {
-    let mut facts = Vec::from_slice(alloc, before.facts())?;
+    let mut facts = before.copy_of_facts(alloc)?;
     for step in steps {
         let (DiveStep::Chosen(fact) | DiveStep::Forced(fact)) = *step;
         facts.push(fact)?;
