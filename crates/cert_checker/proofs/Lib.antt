@@ -3,6 +3,7 @@ pub mod Accepting
 pub mod AtEnds
 pub mod AtNodes
 pub mod Bucketed
+pub mod ByPieces
 pub mod Claiming
 pub mod Closing
 pub mod Duals

@@ -1,4 +1,5 @@
 pub mod Certificate
+pub mod Judged
 pub mod Reasons
 pub mod State
 pub mod Step

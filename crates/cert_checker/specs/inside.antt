@@ -3,5 +3,6 @@ pub mod Buckets
 pub mod Kept
 pub mod Leaf
 pub mod Means
+pub mod Pieces
 pub mod ToldLines
 pub mod Ways

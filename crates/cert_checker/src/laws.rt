@@ -1,6 +1,7 @@
 //! Laws over the definitions alone, with no text judged: the contract of each function is the law.
 
 ghost use Rattle.cert_checker.specs.Certificate.{AcceptedClaimsAreTrue};
+ghost use Rattle.cert_checker.specs.Judged.{FailuresAreNo, FailuresStay, VerdictsAreOfEnds};
 ghost use Rattle.cert_checker.specs.Verdict.{AcceptedIsYes, YesIsAccepted, YesIsTrue};
 ghost use Rattle.cert_checker.specs.inside.ToldLines.{FailuresDependOnLines};
 
@@ -58,4 +59,22 @@ pub fn yes_is_true()
 /// A failure depends on the text up to the line that it is told with, and on nothing behind that line.
 pub fn failures_depend_on_lines()
     ensures { FailuresDependOnLines }
+{}
+
+/// The verdict on a text is what judging it leaves, where no more comes.
+pub fn verdicts_are_of_ends()
+    ensures { VerdictsAreOfEnds }
+{}
+
+/// A failure that a front of a text met is that of the whole text, whatever stands behind.
+pub fn failures_stay()
+    ensures { FailuresStay }
+{
+    read_lines_are_spelled();
+    spelled_lines_are_short();
+}
+
+/// A failure is a no.
+pub fn failures_are_no()
+    ensures { FailuresAreNo }
 {}

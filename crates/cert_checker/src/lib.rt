@@ -3,6 +3,7 @@
 
 mod bound;
 mod buckets;
+mod checker;
 mod claim;
 mod cover;
 mod ends;
@@ -19,5 +20,5 @@ mod text;
 mod verdict;
 mod ways;
 
-pub use text::judge;
+pub use checker::{Checker, Taken, judge};
 pub use verdict::{Reason, Verdict, reason_name};

@@ -1,4 +1,4 @@
-//! A text, judged line by line: each line is read and taken, and the first failure is the verdict.
+//! The lines of a text, one after the other: each is read and taken, and the first failure is the verdict.
 //!
 //! A leaf is tested at the first line behind its labels, since only then all of them have come. Behind the last newline
 //! nothing may stand.
@@ -7,7 +7,7 @@ ghost use Rattle.std.specs.Prelude.{◌≡◌, ◌<◌, ◌≤◌, ◌+◌, ◌^
 ghost use Rattle.branch_marks.specs.Events.{IsNotable};
 ghost use Rattle.cert_lines.specs.Grammar.{IsLine};
 ghost use Rattle.cert_checker.specs.Step.{take_event, take_line};
-ghost use Rattle.cert_checker.specs.Verdict.{end_with, failed, first_state, is_label, take_read, take_text, verdict};
+ghost use Rattle.cert_checker.specs.Verdict.{end_with, failed, is_label, take_read, take_text};
 ghost use Rattle.cert_checker.specs.inside.Kept.{Answers, Gives, IsJudging, state_of};
 ghost use Rattle.cert_checker.specs.inside.Means.{AreMeansOf};
 
@@ -18,10 +18,9 @@ use branch_marks::Event;
 use cert_lines::{CertLine, LENGTH_LIMIT, read_line};
 use std::alloc::Global;
 use tail_book::{Book, Memory};
-use tail_text::Parts;
 
-// A failure of a line.
-fn failed(line: u64, reason: Reason) -> Verdict
+/// A failure of a line.
+pub fn failed(line: u64, reason: Reason) -> Verdict
     ensures { result ≡ failed line reason }
 {
     Verdict::No {
@@ -166,46 +165,4 @@ impl Judging {
             _ => failed(self.lines + 1, Reason::Unfinished),
         }
     }
-
-    // The verdict on a text of which no line was taken yet.
-    fn judge_lines(
-        &mut self,
-        alloc: Global,
-        book: &Book,
-        means: &Means,
-        text: &[u8],
-    ) -> Result<Verdict, Memory>
-        requires judging { IsJudging book.now self.old }
-        requires first { state_of self.old ≡ first_state }
-        requires means { AreMeansOf book.now means.now }
-        ensures verdict { IfOk result (λ answer. answer ≡ verdict book.now text.now) }
-    {
-        let mut lines = Parts::new(text, b'\n');
-        while let Some(next) = lines.take() {
-            if lines.is_done() {
-                return Ok(self.end(next));
-            }
-            if let Some(verdict) = self.take(alloc, book, means, next)? {
-                return Ok(verdict);
-            }
-        }
-        Ok(self.end(&[]))
-    }
-}
-
-/// The verdict on a text: whether it is accepted as a certificate of the book, and for which claim, or its first failure.
-pub fn judge(alloc: Global, book: &Book, text: &[u8]) -> Result<Verdict, Memory>
-    ensures verdict { IfOk result (λ answer. answer ≡ verdict book.now text.now) }
-{
-    let means = Means::of(alloc, book)?;
-    judge_by(alloc, book, &means, text)
-}
-
-// The verdict on a text by what is read of the book.
-fn judge_by(alloc: Global, book: &Book, means: &Means, text: &[u8]) -> Result<Verdict, Memory>
-    requires means { AreMeansOf book.now means.now }
-    ensures verdict { IfOk result (λ answer. answer ≡ verdict book.now text.now) }
-{
-    let mut judging = Judging::new(alloc, book)?;
-    judging.judge_lines(alloc, book, means, text)
 }
