@@ -4,7 +4,7 @@
 use Rattle.std.proofs.Common.{◌≡◌, ℕ, List, [], ◌∷◌, Option, Some, None, codes, refl}
 use Rattle.clap.proofs.OnLiterals.{clap_on_literals}
 use Rattle.run_frame.specs.inside.PlanWords.{ReadsPlans}
-use Rattle.tailcheck.specs.Texts.{CheckNamesSeen, PlanName, CertificateName}
+use Rattle.tailcheck.specs.Texts.{CheckNamesSeen, CertificateName}
 use Rattle.tailcheck.proofs.WordLaws.{named}
 use Rattle.tailcheck.specs.Words.{check_of}
 

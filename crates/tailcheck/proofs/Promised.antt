@@ -1,12 +1,14 @@
 -- From an answer that is true and printed to what a run promises. What is judged is one case or one refusal, never
 -- both; what is found has the statuses 0, 1 and 8 and all else others. So a status says which it was: an audit whether
 -- the plan breaks a rule, a verdict whether the certificate is accepted, by the two laws that a yes comes exactly then.
-use Rattle.std.proofs.Common.{◌≡◌, ◌≢◌, ◌≤◌, ◌∙◌, ℕ, inl, inr, arith, List, Option, Ok, None, Some, IfSome, subst, sym}
+use Rattle.std.proofs.Common.{◌≡◌, ◌≢◌, ◌≤◌, ◌∙◌, ℕ, inl, inr, arith, List, Option, Ok, Err, None, Some, IfSome, ap, drop, subst, sym, take}
+use Rattle.std.proofs.lemmas.List.{take-append-drop}
 use Rattle.tail_book.specs.Seen.{BookSeen, RawPlanSeen}
 use Rattle.tail_outside.specs.Outside.{PieceHasFailed, Takes}
 use Rattle.tail_outside.specs.Shown.{FilesShown, SinkShown}
 use Rattle.tail_text.specs.declared.refusal.Refusal.{Refusal}
 use Rattle.tail_book.specs.declared.claim.Claim.{Claim}
+use Rattle.cert_checker.specs.Judged.{FailuresAreNo, FailuresStay, VerdictsAreOfEnds, judged as judged_text, verdict_of}
 use Rattle.cert_checker.specs.Verdict.{AcceptedIsYes, YesIsAccepted, verdict}
 use Rattle.cert_checker.specs.declared.verdict.Verdict.{Verdict}
 use Rattle.cert_checker.specs.declared.verdict.Verdict.TheVariants.{Yes, No}
@@ -22,13 +24,14 @@ use Rattle.run_frame.proofs.Held.{OfHeld-map}
 use Rattle.run_frame.specs.inside.Answer.{IsPrintable, IsPrinted, audit_status, status_of}
 use Rattle.run_frame.specs.Answer.{IsUnlessStopped}
 use Rattle.run_frame.specs.declared.answer.Answer.TheVariants.{ReadFailed}
-use Rattle.tailcheck.specs.Answers.{Answer, AreJudged, AreRefused, IsJudgedSo, IsTrueAnswer, OfTexts, answer_text, found_lines}
+use Rattle.tailcheck.specs.Answers.{Answer, AreJudged, AreRefused, IsDecided, IsJudgedSo, IsShort, IsTrueAnswer, OfTexts, answer_text, found_lines}
 use Rattle.tailcheck.specs.Cases.{Case, PlanCase, CertificateCase, case_of}
 use Rattle.tailcheck.specs.Promises.{IsVerdict, JudgesTexts, Promise, RefusesTexts}
 use Rattle.tailcheck.specs.Texts.{texts_held, TextsSeen}
 use Rattle.tailcheck.specs.Usage.{usage_line}
 use Rattle.tailcheck.specs.VerdictText.{no_line, too_long_line, yes_line}
 use Rattle.tailcheck.specs.Words.{check_of}
+use Rattle.tailcheck.specs.declared.certified.TheConstants.{CERTIFICATE_LIMIT}
 use Rattle.tailcheck.specs.declared.answer.Judgement.{Judgement}
 use Rattle.tailcheck.specs.declared.answer.Judgement.TheVariants.{Plan, Certificate, TooLong}
 use Rattle.tailcheck.specs.inside.Findings.{IsFit, found_status}
@@ -74,7 +77,17 @@ audit_decides : (book : BookSeen) (plan : RawPlanSeen) (found : Audit) (status :
 audit_decides book plan (Legal cost) status own is = inl (is, own.0)
 audit_decides book plan (Broken rules) status own is = inr (is, own.0)
 
-module _ (accepted : YesIsAccepted) (answered : AcceptedIsYes) where
+module _ (accepted : YesIsAccepted) (answered : AcceptedIsYes) (stay : FailuresStay) (ends : VerdictsAreOfEnds) (no : FailuresAreNo) where
+  -- a certificate that is accepted meets no failure, so it is read whole
+  short_yes : (book : BookSeen) (bytes : List ℕ) (claim : Claim) → IsDecided book bytes → verdict book bytes ≡ Yes claim → IsShort bytes
+  short_yes book bytes claim (inl short) e = short
+  short_yes book bytes claim (inr early) e =
+      let (failure, fails) = early in
+      let whole : judged_text book bytes ≡ Err failure =
+      ap (judged_text book) (sym (take-append-drop CERTIFICATE_LIMIT bytes)) ∙ stay book (take CERTIFICATE_LIMIT bytes) (drop CERTIFICATE_LIMIT bytes) failure fails in
+      let (line, reason, is) = no book (take CERTIFICATE_LIMIT bytes) failure fails in
+      absurd (no_yes line reason claim (verdict book bytes) (ends book bytes ∙ ap verdict_of whole ∙ is) e)
+
   -- what was found says what the status says
   decides : (texts : TextsSeen) (found : Judgement) (status : ℕ) → AreJudged texts found → status ≡ found_status found → (case : Case) × (case_of texts ≡ Ok case) × IsVerdict case status
   decides texts (Plan judged) status own is = (PlanCase judged.book own.0, own.1, audit_decides judged.book own.0 judged.found status own.2 is)
@@ -83,7 +96,7 @@ module _ (accepted : YesIsAccepted) (answered : AcceptedIsYes) where
     own.2,
     inl (
       is,
-      if_some (IsJudgedSo own.0 (Yes claim)) _ own.1 (λ bytes h. (h.0, (claim, accepted own.0 bytes claim h.1))) own.4,
+      if_some (IsJudgedSo own.0 (Yes claim)) _ own.1 (λ bytes h. (short_yes own.0 bytes claim h.0 h.1, (claim, accepted own.0 bytes claim h.1))) own.4,
     ),
   )
   decides texts (Certificate (No line reason)) status own is = (

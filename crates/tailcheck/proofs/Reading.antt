@@ -1,6 +1,5 @@
 -- From an answer to what was read to one to the words: what was read are the fronts of the files, which say the same as the whole.
-use Rattle.std.proofs.Common.{◌≡◌, ◌∙◌, ℕ, ◌+◌, ◌<◌, ◌≤◌, ◌⊎◌, inl, inr, arith, List, length, take, Option, Result, Ok, Err, None, Some, IfSome, ap, ap₂, refl, subst, sym, length-take-le}
-use Rattle.std.proofs.lemmas.List.{take_all}
+use Rattle.std.proofs.Common.{◌≡◌, ◌∙◌, ℕ, List, Option, Result, Ok, None, Some, IfSome, ap, ap₂, refl, subst, sym}
 use Rattle.std.specs.Prelude.{option_and_then, option_map}
 use Rattle.tail_book.specs.Seen.{BookSeen, RawPlanSeen}
 use Rattle.tail_outside.specs.Shown.{FilesShown}
@@ -14,15 +13,12 @@ use Rattle.run_frame.specs.inside.TableFiles.{front, fronts}
 use Rattle.run_frame.specs.TableFiles.{tables_held}
 use Rattle.run_frame.specs.Tables.{TablesSeen}
 use Rattle.run_frame.specs.declared.answer.Answer.TheVariants.{Usage, Refused, Found, ReadFailed, Memory}
-use Rattle.cert_checker.specs.Verdict.{verdict}
-use Rattle.cert_checker.specs.declared.verdict.Verdict.{Verdict}
-use Rattle.tailcheck.specs.Answers.{Answer, AreJudged, AreRefused, IsJudgedSo, IsTooLong, IsTrueAnswer}
+use Rattle.tailcheck.specs.Answers.{Answer, AreJudged, AreRefused, IsTrueAnswer}
 use Rattle.tailcheck.specs.Cases.{PlanCase, CertificateCase, case_of}
 use Rattle.tailcheck.specs.Texts.{SubjectName, PlanName, CertificateName, SubjectSeen, PlanBytes, CertificateBytes, CheckNamesSeen, TextsSeen, subject_held}
 use Rattle.tailcheck.specs.Words.{check_of}
 use Rattle.tailcheck.specs.declared.answer.Judgement.{Judgement}
 use Rattle.tailcheck.specs.declared.answer.Judgement.TheVariants.{Plan, Certificate, TooLong}
-use Rattle.tailcheck.specs.declared.certified.TheConstants.{CERTIFICATE_LIMIT}
 use Rattle.tailcheck.specs.inside.Findings.{IsAnswerOver, IsVerdictOn}
 use Rattle.tailcheck.specs.inside.Texts.{subject_front, text_fronts}
 
@@ -108,55 +104,13 @@ certificate_case : (tables : TablesSeen) (text : Option (List ℕ)) (book : Book
     → case_of (record { tables = tables; subject = CertificateBytes text }) ≡ Ok (CertificateCase book text)
 certificate_case tables text book is_book = rw is_book refl
 
--- a front that is longer than what is judged is that of a file that is
-front_long : (limit : ℕ) (bytes : List ℕ) → limit < length (take (limit + 1) bytes) → limit < length bytes
-front_long limit bytes long = elim (split (length bytes) (limit + 1)) [
-  | inl short ↦ subst (λ (b : List ℕ). limit < length b) (take_all (limit + 1) bytes short) long
-  | inr more ↦ omega (arith, more)
-]
-  where
-    split : (n most : ℕ) → (n ≤ most) ⊎ (most < n)
-    split n most = grind arith
-
--- and one that is not is the whole file
-front_short : (limit : ℕ) (bytes : List ℕ) → length (take (limit + 1) bytes) ≤ limit → take (limit + 1) bytes ≡ bytes
-front_short limit bytes short = elim (split (length bytes) (limit + 1)) [
-  | inl fits ↦ take_all (limit + 1) bytes fits
-  | inr more ↦
-      let cut : length (take (limit + 1) bytes) ≡ limit + 1 = length-take-le (limit + 1) bytes (omega (arith, more)) in
-      absurd (omega (arith, cut, short))
-]
-  where
-    split : (n most : ℕ) → (n ≤ most) ⊎ (most < n)
-    split n most = grind arith
-
--- what was read of the certificate is longer than what is judged
-pub too_long_over : (files : FilesShown) (tables : TablesSeen) (name read : List ℕ) (book : BookSeen) → book_of tables.timetable tables.fleet tables.rules ≡ Ok book
-    → IfSome (files.holds name) (λ bytes. read ≡ take (CERTIFICATE_LIMIT + 1) bytes) → CERTIFICATE_LIMIT < length read
-    → IsAnswerOver files tables (CertificateName name) (Found TooLong)
-too_long_over files tables name read book is_book is long = (book, files.holds name, certificate_case tables (files.holds name) book is_book, held (files.holds name) is)
-  where
-    held : (text : Option (List ℕ)) → IfSome text (λ bytes. read ≡ take (CERTIFICATE_LIMIT + 1) bytes) → IfSome text IsTooLong
-    held None h = tt
-    held (Some bytes) h = front_long CERTIFICATE_LIMIT bytes (subst (λ (b : List ℕ). CERTIFICATE_LIMIT < length b) h long)
-
--- a verdict on what was read of the certificate is one over the files
-pub verdict_over : (files : FilesShown) (tables : TablesSeen) (name read : List ℕ) (book : BookSeen) (answer : Answer) → book_of tables.timetable tables.fleet tables.rules ≡ Ok book
-    → IfSome (files.holds name) (λ bytes. read ≡ take (CERTIFICATE_LIMIT + 1) bytes) → length read ≤ CERTIFICATE_LIMIT → IsVerdictOn book read answer
-    → IsAnswerOver files tables (CertificateName name) answer
-verdict_over files tables name read book answer is_book is short h = by answer h
-  where
-    held : (found : Verdict) (text : Option (List ℕ)) → verdict book read ≡ found → IfSome text (λ bytes. read ≡ take (CERTIFICATE_LIMIT + 1) bytes) → IfSome text (IsJudgedSo book found)
-    held found None says own = tt
-    held found (Some bytes) says own =
-        let whole : read ≡ bytes = own ∙ front_short CERTIFICATE_LIMIT bytes (subst (λ (b : List ℕ). length b ≤ CERTIFICATE_LIMIT) own short) in
-        subst (λ (b : List ℕ). IsJudgedSo book found b) whole (short, says)
-
-    by : (a : Answer) → IsVerdictOn book read a → IsAnswerOver files tables (CertificateName name) a
-    by Usage k = absurd k
-    by (Refused refusal) k = absurd k
-    by (Found (Plan judged)) k = absurd k
-    by (Found (Certificate found)) k = (book, files.holds name, certificate_case tables (files.holds name) book is_book, k.0, held found (files.holds name) k.1 is)
-    by (Found TooLong) k = absurd k
-    by ReadFailed k = absurd k
-    by Memory k = tt
+-- a verdict on a certificate is one over the files
+pub verdict_over : (files : FilesShown) (tables : TablesSeen) (name : List ℕ) (book : BookSeen) (answer : Answer) → book_of tables.timetable tables.fleet tables.rules ≡ Ok book
+    → IsVerdictOn book (files.holds name) answer → IsAnswerOver files tables (CertificateName name) answer
+verdict_over files tables name book Usage is_book h = absurd h
+verdict_over files tables name book (Refused refusal) is_book h = absurd h
+verdict_over files tables name book (Found (Plan judged)) is_book h = absurd h
+verdict_over files tables name book (Found (Certificate found)) is_book h = (book, files.holds name, certificate_case tables (files.holds name) book is_book, h.0, h.1)
+verdict_over files tables name book (Found TooLong) is_book h = (book, files.holds name, certificate_case tables (files.holds name) book is_book, h)
+verdict_over files tables name book ReadFailed is_book h = tt
+verdict_over files tables name book Memory is_book h = tt

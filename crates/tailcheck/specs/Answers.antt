@@ -1,9 +1,10 @@
 -- When an answer is true, and what is printed for it. For src/audited.rt, src/run.rt and others.
-use Rattle.std.specs.Prelude.{ℕ, ◌≡◌, ◌<◌, ◌≤◌, ⊤, List, [], ◌∷◌, length, Option, Ok, Err, IfSome}
+use Rattle.std.specs.Prelude.{ℕ, ◌≡◌, ◌≢◌, ◌<◌, ◌≤◌, ◌⊎◌, ⊤, List, [], ◌∷◌, length, take, Option, Ok, Err, IfSome}
 use Rattle.tail_book.specs.Seen.{BookSeen, RawPlanSeen}
 use Rattle.tail_book.specs.Truth.{IsTrueClaim}
 use Rattle.tail_outside.specs.Shown.{FilesShown}
 use Rattle.tail_text.specs.declared.refusal.Refusal.{Refusal}
+use Rattle.cert_checker.specs.Judged.{judged}
 use Rattle.cert_checker.specs.Verdict.{verdict}
 use Rattle.cert_checker.specs.declared.verdict.Verdict.{Verdict}
 use Rattle.cert_checker.specs.declared.verdict.Verdict.TheVariants.{Yes, No}
@@ -43,13 +44,21 @@ abbrev pub IsTrueVerdict : BookSeen → Verdict → Type 0
 IsTrueVerdict book (Yes claim) = IsTrueClaim book claim
 IsTrueVerdict book (No line reason) = ⊤
 
--- the certificate is short enough to be judged, and this is the verdict on it
-abbrev pub IsJudgedSo : BookSeen → Verdict → List ℕ → Type 0
-IsJudgedSo book found bytes = (length bytes ≤ CERTIFICATE_LIMIT) × (verdict book bytes ≡ found)
+-- the certificate has no more bytes than are judged
+abbrev pub IsShort : List ℕ → Type 0
+IsShort bytes = length bytes ≤ CERTIFICATE_LIMIT
 
--- the certificate has more bytes than are judged
-abbrev pub IsTooLong : List ℕ → Type 0
-IsTooLong bytes = CERTIFICATE_LIMIT < length bytes
+-- it has no more, or so many of them meet a failure
+abbrev pub IsDecided : BookSeen → List ℕ → Type 0
+IsDecided book bytes = IsShort bytes ⊎ ((failure : Verdict) × (judged book (take CERTIFICATE_LIMIT bytes) ≡ Err failure))
+
+-- so much of the certificate decides, and this is the verdict on it
+abbrev pub IsJudgedSo : BookSeen → Verdict → List ℕ → Type 0
+IsJudgedSo book found bytes = IsDecided book bytes × (verdict book bytes ≡ found)
+
+-- the certificate has more bytes than are judged, and so many of them meet no failure
+abbrev pub IsTooLong : BookSeen → List ℕ → Type 0
+IsTooLong book bytes = (CERTIFICATE_LIMIT < length bytes) × ((failure : Verdict) → judged book (take CERTIFICATE_LIMIT bytes) ≢ Err failure)
 
 -- the tables are a book, and this is what an audit of the plan's file finds, or the verdict on the certificate, or the
 -- certificate is too long
@@ -59,7 +68,7 @@ AreJudged texts (Certificate found) =
     (book : BookSeen) × (text : Option (List ℕ)) × (case_of texts ≡ Ok (CertificateCase book text))
     × IsTrueVerdict book found × IfSome text (IsJudgedSo book found)
 AreJudged texts TooLong =
-    (book : BookSeen) × (text : Option (List ℕ)) × (case_of texts ≡ Ok (CertificateCase book text)) × IfSome text IsTooLong
+    (book : BookSeen) × (text : Option (List ℕ)) × (case_of texts ≡ Ok (CertificateCase book text)) × IfSome text (IsTooLong book)
 
 -- the answer is true of these words and files
 abbrev pub IsTrueAnswer : List (List ℕ) → FilesShown → Answer → Type 0

@@ -1,5 +1,5 @@
 -- What a run promises by its status, and when each status comes. For src/run.rt.
-use Rattle.std.specs.Prelude.{ℕ, ◌≡◌, ◌≢◌, ◌==◌, ◌≤◌, ◌⊎◌, List, [], length, Option, IfSome, Ok, cond}
+use Rattle.std.specs.Prelude.{ℕ, ◌≡◌, ◌≢◌, ◌==◌, ◌⊎◌, List, [], Option, IfSome, Ok, cond}
 use Rattle.tail_book.specs.Seen.{BookSeen, RawPlanSeen}
 use Rattle.tail_book.specs.Truth.{IsPlanOf, IsTrueClaim}
 use Rattle.tail_book.specs.declared.claim.Claim.{Claim}
@@ -13,13 +13,12 @@ use Rattle.plan_audit.specs.Kept.{kept}
 use Rattle.plan_report.specs.AuditText.{broken_lines, legal_line}
 use Rattle.plan_report.specs.Lines.{text_of}
 use Rattle.run_frame.specs.Promise.{ElsePromise, Judges, Refuses}
-use Rattle.tailcheck.specs.Answers.{AreRefused, IsTooLong, IsTrueAnswer, OfTexts, answer_text}
+use Rattle.tailcheck.specs.Answers.{AreRefused, IsDecided, IsShort, IsTooLong, IsTrueAnswer, OfTexts, answer_text}
 use Rattle.tailcheck.specs.Cases.{Case, PlanCase, CertificateCase, case_of}
 use Rattle.tailcheck.specs.Texts.{texts_held, TextsSeen}
 use Rattle.tailcheck.specs.Usage.{usage_line}
 use Rattle.tailcheck.specs.VerdictText.{no_line, too_long_line, yes_line}
 use Rattle.tailcheck.specs.Words.{check_of}
-use Rattle.tailcheck.specs.declared.certified.TheConstants.{CERTIFICATE_LIMIT}
 
 -- the tables are a book, the plan breaks none of its rules, and the cost was printed of the kept plan, which is legal
 pub record PrintsLegal (before after : SinkShown) (texts : TextsSeen) : Type 0 where
@@ -59,12 +58,12 @@ pub record PrintsNo (before after : SinkShown) (texts : TextsSeen) : Type 0 wher
   pub failed : IfSome text (λ bytes. verdict book bytes ≡ No line reason)
   pub printed : Takes before after (no_line line reason)
 
--- the tables are a book, the certificate has more bytes than are judged, and that was printed
+-- the tables are a book, the certificate has more bytes than are judged and fails in none of those, and that was printed
 pub record PrintsTooLong (before after : SinkShown) (texts : TextsSeen) : Type 0 where
   pub book : BookSeen
   pub text : Option (List ℕ)
   pub is : case_of texts ≡ Ok (CertificateCase book text)
-  pub long : IfSome text IsTooLong
+  pub long : IfSome text (IsTooLong book)
   pub printed : Takes before after too_long_line
 
 -- what a run over these words and files promises by its status, where the output was first so and then so: 0 that the plan
@@ -81,17 +80,13 @@ Promise words files before after status =
 abbrev pub IsAccepted : BookSeen → List ℕ → Type 0
 IsAccepted book bytes = (claim : Claim) × Accepts book bytes claim
 
--- the certificate is short enough to be judged
-abbrev pub IsShort : List ℕ → Type 0
-IsShort bytes = length bytes ≤ CERTIFICATE_LIMIT
-
 -- the status says whether the plan breaks a rule: 0 where it breaks none, and 1 where it breaks some; or whether the certificate is
 -- accepted: 0 where it is, 1 where it is not, and 8 where it is too long to be judged
 abbrev pub IsVerdict : Case → ℕ → Type 0
 IsVerdict (PlanCase book plan) status = ((status ≡ 0) × (broken book plan ≡ [])) ⊎ ((status ≡ 1) × (broken book plan ≢ []))
 IsVerdict (CertificateCase book text) status =
     ((status ≡ 0) × IfSome text (λ bytes. IsShort bytes × IsAccepted book bytes))
-    ⊎ (((status ≡ 1) × IfSome text (λ bytes. IsShort bytes × (IsAccepted book bytes → ⊥))) ⊎ ((status ≡ 8) × IfSome text IsTooLong))
+    ⊎ (((status ≡ 1) × IfSome text (λ bytes. IsDecided book bytes × (IsAccepted book bytes → ⊥))) ⊎ ((status ≡ 8) × IfSome text (IsTooLong book)))
 
 -- files that are refused end with status 3, unless a read or a write failed or memory was wanting
 abbrev pub RefusesTexts : List (List ℕ) → FilesShown → ℕ → Type 0

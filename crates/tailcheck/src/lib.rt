@@ -5,6 +5,7 @@
 mod answer;
 mod audited;
 mod certified;
+mod feeding;
 mod run;
 mod usage;
 mod verdict_text;

@@ -19,7 +19,9 @@ use crate::audited::audited;
 use crate::certified::certified;
 use crate::usage::usage_line;
 use crate::words::{Subject, check_of};
-use cert_checker::laws::{accepted_is_yes, yes_is_accepted};
+use cert_checker::laws::{
+    accepted_is_yes, failures_are_no, failures_stay, verdicts_are_of_ends, yes_is_accepted,
+};
 use run_frame::{Answer, Ran, Tables, print, read_tables};
 use std::alloc::Global;
 use tail_outside::{Files, ReadFail, Sink};
@@ -53,6 +55,9 @@ pub fn check_run<F: Files, S: Sink>(
 {
     yes_is_accepted();
     accepted_is_yes();
+    failures_stay();
+    verdicts_are_of_ends();
+    failures_are_no();
     let mut files = files;
     let answer = answer_of(alloc, words, &mut files);
     let status = print(alloc, usage_line(), &answer, out);

@@ -1,16 +1,15 @@
 -- With which status a run ends that printed what it found, what can be printed, and when an answer is true of the files that were
 -- read. For src/certified.rt, src/answer.rt and others.
-use Rattle.std.specs.Prelude.{ℕ, ◌≡◌, ⊤, List, IfSome}
+use Rattle.std.specs.Prelude.{ℕ, ⊤, List, Option, IfSome}
 use Rattle.tail_book.specs.Seen.{BookSeen}
 use Rattle.tail_outside.specs.Shown.{FilesShown}
-use Rattle.cert_checker.specs.Verdict.{verdict}
 use Rattle.cert_checker.specs.declared.verdict.Verdict.{Verdict}
 use Rattle.cert_checker.specs.declared.verdict.Verdict.TheVariants.{Yes, No}
 use Rattle.plan_report.specs.inside.AuditText.{AreOfBook}
 use Rattle.run_frame.specs.Tables.{TablesSeen}
 use Rattle.run_frame.specs.inside.Answer.{audit_status}
 use Rattle.run_frame.specs.declared.answer.Answer.TheVariants.{Usage, Refused, Found, ReadFailed, Memory}
-use Rattle.tailcheck.specs.Answers.{Answer, AreJudged, AreRefused, IsTrueVerdict}
+use Rattle.tailcheck.specs.Answers.{Answer, AreJudged, AreRefused, IsJudgedSo, IsTooLong, IsTrueVerdict}
 use Rattle.tailcheck.specs.Texts.{SubjectName, subject_held}
 use Rattle.tailcheck.specs.declared.answer.Judgement.{Judgement}
 use Rattle.tailcheck.specs.declared.answer.Judgement.TheVariants.{Plan, Certificate, TooLong}
@@ -43,12 +42,12 @@ IsAnswerOver files tables name (Found found) =
 IsAnswerOver files tables name ReadFailed = ⊤
 IsAnswerOver files tables name Memory = ⊤
 
--- a verdict on these bytes, true of the book
-abbrev pub IsVerdictOn : BookSeen → List ℕ → Answer → Type 0
-IsVerdictOn book bytes Usage = ⊥
-IsVerdictOn book bytes (Refused refusal) = ⊥
-IsVerdictOn book bytes (Found (Plan judged)) = ⊥
-IsVerdictOn book bytes (Found (Certificate found)) = IsTrueVerdict book found × (verdict book bytes ≡ found)
-IsVerdictOn book bytes (Found TooLong) = ⊥
-IsVerdictOn book bytes ReadFailed = ⊥
-IsVerdictOn book bytes Memory = ⊤
+-- a verdict on a certificate, where its bytes are told, and true of the book, or that it is too long
+abbrev pub IsVerdictOn : BookSeen → Option (List ℕ) → Answer → Type 0
+IsVerdictOn book held Usage = ⊥
+IsVerdictOn book held (Refused refusal) = ⊥
+IsVerdictOn book held (Found (Plan judged)) = ⊥
+IsVerdictOn book held (Found (Certificate found)) = IsTrueVerdict book found × IfSome held (IsJudgedSo book found)
+IsVerdictOn book held (Found TooLong) = IfSome held (IsTooLong book)
+IsVerdictOn book held ReadFailed = ⊤
+IsVerdictOn book held Memory = ⊤

@@ -10,34 +10,34 @@ pub returns-clause-promised : goal.returns-clause-promised
 returns-clause-promised g c =
     let printed : IsPrinted (answer_text c.answer_of-answer.result) (status_of found_status c.answer_of-answer.result) (g.S.Sink.shows c.args.out.now) (g.S.Sink.shows c.print-status.new.out) c.print-status.result.0 =
     rw c.usage_line.ensures at c.print-status.ensures.printed in
-    promise c.yes_is_accepted.ensures c.accepted_is_yes.ensures (spelled c.args.words.now) (g.F.Files.shows c.args.files) (g.S.Sink.shows c.args.out.now) (g.S.Sink.shows c.print-status.new.out) c.print-status.result.0 c.answer_of-answer.result c.answer_of-answer.ensures.answer printed c.answer_of-answer.ensures.printable
+    promise c.yes_is_accepted.ensures c.accepted_is_yes.ensures c.failures_stay.ensures c.verdicts_are_of_ends.ensures c.failures_are_no.ensures (spelled c.args.words.now) (g.F.Files.shows c.args.files) (g.S.Sink.shows c.args.out.now) (g.S.Sink.shows c.print-status.new.out) c.print-status.result.0 c.answer_of-answer.result c.answer_of-answer.ensures.answer printed c.answer_of-answer.ensures.printable
 
 pub returns-clause-read_failed : goal.returns-clause-read_failed
 returns-clause-read_failed g c =
     let printed : IsPrinted (answer_text c.answer_of-answer.result) (status_of found_status c.answer_of-answer.result) (g.S.Sink.shows c.args.out.now) (g.S.Sink.shows c.print-status.new.out) c.print-status.result.0 =
     rw c.usage_line.ensures at c.print-status.ensures.printed in
-    read_failed c.yes_is_accepted.ensures c.accepted_is_yes.ensures (spelled c.args.words.now) (g.F.Files.shows c.args.files) (g.S.Sink.shows c.args.out.now) (g.S.Sink.shows c.print-status.new.out) c.print-status.result.0 c.answer_of-answer.result c.answer_of-answer.ensures.answer printed (ReadHasFailed (g.F.Files.shows c.args.files) (g.F.Files.shows c.answer_of-answer.new.files)) c.answer_of-answer.ensures.cause
+    read_failed c.yes_is_accepted.ensures c.accepted_is_yes.ensures c.failures_stay.ensures c.verdicts_are_of_ends.ensures c.failures_are_no.ensures (spelled c.args.words.now) (g.F.Files.shows c.args.files) (g.S.Sink.shows c.args.out.now) (g.S.Sink.shows c.print-status.new.out) c.print-status.result.0 c.answer_of-answer.result c.answer_of-answer.ensures.answer printed (ReadHasFailed (g.F.Files.shows c.args.files) (g.F.Files.shows c.answer_of-answer.new.files)) c.answer_of-answer.ensures.cause
 
 pub returns-clause-write_failed : goal.returns-clause-write_failed
 returns-clause-write_failed g c =
     let printed : IsPrinted (answer_text c.answer_of-answer.result) (status_of found_status c.answer_of-answer.result) (g.S.Sink.shows c.args.out.now) (g.S.Sink.shows c.print-status.new.out) c.print-status.result.0 =
     rw c.usage_line.ensures at c.print-status.ensures.printed in
-    piece_failed c.yes_is_accepted.ensures c.accepted_is_yes.ensures (spelled c.args.words.now) (g.F.Files.shows c.args.files) (g.S.Sink.shows c.args.out.now) (g.S.Sink.shows c.print-status.new.out) c.print-status.result.0 c.answer_of-answer.result c.answer_of-answer.ensures.answer printed
+    piece_failed c.yes_is_accepted.ensures c.accepted_is_yes.ensures c.failures_stay.ensures c.verdicts_are_of_ends.ensures c.failures_are_no.ensures (spelled c.args.words.now) (g.F.Files.shows c.args.files) (g.S.Sink.shows c.args.out.now) (g.S.Sink.shows c.print-status.new.out) c.print-status.result.0 c.answer_of-answer.result c.answer_of-answer.ensures.answer printed
 
 pub returns-clause-words_refused : goal.returns-clause-words_refused
 returns-clause-words_refused g c =
     let printed : IsPrinted (answer_text c.answer_of-answer.result) (status_of found_status c.answer_of-answer.result) (g.S.Sink.shows c.args.out.now) (g.S.Sink.shows c.print-status.new.out) c.print-status.result.0 =
     rw c.usage_line.ensures at c.print-status.ensures.printed in
-    words_refused c.yes_is_accepted.ensures c.accepted_is_yes.ensures (spelled c.args.words.now) (g.F.Files.shows c.args.files) (g.S.Sink.shows c.args.out.now) (g.S.Sink.shows c.print-status.new.out) c.print-status.result.0 c.answer_of-answer.result c.answer_of-answer.ensures.answer printed
+    words_refused c.yes_is_accepted.ensures c.accepted_is_yes.ensures c.failures_stay.ensures c.verdicts_are_of_ends.ensures c.failures_are_no.ensures (spelled c.args.words.now) (g.F.Files.shows c.args.files) (g.S.Sink.shows c.args.out.now) (g.S.Sink.shows c.print-status.new.out) c.print-status.result.0 c.answer_of-answer.result c.answer_of-answer.ensures.answer printed
 
 pub returns-clause-texts_refused : goal.returns-clause-texts_refused
 returns-clause-texts_refused g c =
     let printed : IsPrinted (answer_text c.answer_of-answer.result) (status_of found_status c.answer_of-answer.result) (g.S.Sink.shows c.args.out.now) (g.S.Sink.shows c.print-status.new.out) c.print-status.result.0 =
     rw c.usage_line.ensures at c.print-status.ensures.printed in
-    texts_refused c.yes_is_accepted.ensures c.accepted_is_yes.ensures (spelled c.args.words.now) (g.F.Files.shows c.args.files) (g.S.Sink.shows c.args.out.now) (g.S.Sink.shows c.print-status.new.out) c.print-status.result.0 c.answer_of-answer.result c.answer_of-answer.ensures.answer printed
+    texts_refused c.yes_is_accepted.ensures c.accepted_is_yes.ensures c.failures_stay.ensures c.verdicts_are_of_ends.ensures c.failures_are_no.ensures (spelled c.args.words.now) (g.F.Files.shows c.args.files) (g.S.Sink.shows c.args.out.now) (g.S.Sink.shows c.print-status.new.out) c.print-status.result.0 c.answer_of-answer.result c.answer_of-answer.ensures.answer printed
 
 pub returns-clause-judged : goal.returns-clause-judged
 returns-clause-judged g c =
     let printed : IsPrinted (answer_text c.answer_of-answer.result) (status_of found_status c.answer_of-answer.result) (g.S.Sink.shows c.args.out.now) (g.S.Sink.shows c.print-status.new.out) c.print-status.result.0 =
     rw c.usage_line.ensures at c.print-status.ensures.printed in
-    judged c.yes_is_accepted.ensures c.accepted_is_yes.ensures (spelled c.args.words.now) (g.F.Files.shows c.args.files) (g.S.Sink.shows c.args.out.now) (g.S.Sink.shows c.print-status.new.out) c.print-status.result.0 c.answer_of-answer.result c.answer_of-answer.ensures.answer printed c.answer_of-answer.ensures.printable
+    judged c.yes_is_accepted.ensures c.accepted_is_yes.ensures c.failures_stay.ensures c.verdicts_are_of_ends.ensures c.failures_are_no.ensures (spelled c.args.words.now) (g.F.Files.shows c.args.files) (g.S.Sink.shows c.args.out.now) (g.S.Sink.shows c.print-status.new.out) c.print-status.result.0 c.answer_of-answer.result c.answer_of-answer.ensures.answer printed c.answer_of-answer.ensures.printable
