@@ -2,7 +2,8 @@
 # one source it. Each is named after its program, which is that of the crate NAME_program, and sets `first_run`, the words
 # on which the program is run once it is built, in the crate's folder, `read_options`, the options that name a file to read,
 # and `value_options`, those that are followed by any other value. Where `quiet` is set to the name of a variable, and
-# standard error is a terminal, one line of it says how many seconds the program has been at work, unless that variable is 1.
+# standard error is a terminal, one line of it says how many seconds the program has been at work, unless that variable is 1,
+# and, where `followed_option` is one that names a file, what part of that file's bytes it has read.
 # Only the program writes to standard output. Status 70: the program could not be built.
 # shellcheck shell=bash
 
@@ -13,6 +14,7 @@ first_run=()
 read_options=()
 value_options=()
 quiet=
+followed_option=
 # shellcheck source=bin/build.sh
 . "$top/bin/build.sh" || exit 70
 
@@ -73,11 +75,47 @@ shows_seconds() {
     [ -n "$quiet" ] && [ -t 2 ] && [ "${!quiet:-}" != 1 ]
 }
 
+# The file that the words name by the option that is followed, or nothing.
+followed_file() {
+    [ -n "$followed_option" ] || return
+    while [ "$#" -gt 0 ]; do
+        case $1 in
+            "$followed_option="*)
+                printf '%s' "${1#*=}"
+                return
+                ;;
+            "$followed_option")
+                printf '%s' "${2:-}"
+                return
+                ;;
+        esac
+        shift
+    done
+}
+
+# What part of a file's bytes the program has read, as words behind the seconds. Nothing where that can't be seen.
+part_read() {
+    local file=$1 child children=() link at size
+    [ -f "$file" ] && size=$(stat -L -c %s -- "$file" 2>/dev/null) && [ "${size:-0}" -gt 0 ] || return
+    # The list ends without a newline.
+    read -ra children 2>/dev/null <"/proc/$$/task/$$/children" || [ "${#children[@]}" -gt 0 ] || return
+    for child in "${children[@]}"; do
+        [ "/proc/$child/exe" -ef "$program" ] || continue
+        for link in "/proc/$child/fd/"*; do
+            [ "$link" -ef "$file" ] || continue
+            at=$(sed -n 's/^pos:[[:space:]]*//p' "/proc/$child/fdinfo/${link##*/}" 2>/dev/null)
+            [ -z "$at" ] || printf ', %s %% of %s' "$((at * 100 / size))" "${file##*/}"
+            return
+        done
+    done
+}
+
 # Writes each second over one line of standard error how long the program has been at work, as long as this script lives.
 count_seconds() {
-    local began=$SECONDS
+    local began=$SECONDS file
+    file=$(followed_file "$@")
     while sleep 1 && kill -0 $$ 2>/dev/null; do
-        printf '\r%s: %s seconds' "$name" "$((SECONDS - began))" >&2
+        printf '\r%s: %s seconds%s' "$name" "$((SECONDS - began))" "$(part_read "$file")" >&2
     done
 }
 
@@ -100,7 +138,7 @@ hand_on() {
 # Runs the program, and counts the seconds until it prints or ends.
 run_counting() {
     local counting
-    count_seconds &
+    count_seconds "$@" &
     counting=$!
     if [ -t 1 ]; then
         (exec -a "$name" "$program" "$@") | hand_on
