@@ -11,6 +11,7 @@ pub mod Holes
 pub mod Stopping
 pub mod OpenPlaces
 pub mod Room
+pub mod FewPlaces
 pub mod LeastLeft
 pub mod OneMore
 pub mod Starts

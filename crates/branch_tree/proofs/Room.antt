@@ -26,7 +26,7 @@ tripled-two n m (suc k) one two =
     let a = tripled-le n k (omega (arith, one)) in let b = tripled-le m k (omega (arith, two)) in let p = tripled-pos k in omega (arith, a, b, p)
 
 module _ (no_more : FactsLeaveNoMore) (fewer : BranchesLeaveFewer) (table : CostTableSeen) (book : BookSeen) where
-  steps_leave : (marks steps : List Fact) → undecided book (marks ++ steps) ≤ undecided book marks
+  pub steps_leave : (marks steps : List Fact) → undecided book (marks ++ steps) ≤ undecided book marks
   steps_leave marks [] = subst (λ (m : List Fact). undecided book m ≤ undecided book marks) (sym (append-nil marks)) (omega arith)
   steps_leave marks (step ∷ steps) =
       let one = no_more book marks step in

@@ -1,6 +1,6 @@
 -- The laws of search trees: what such a tree ends with is true, and its nodes are a proof tree of what the outcome
 -- claims. Both hold of every tree that was grown from the root, whichever of its places was taken first.
-use Rattle.std.specs.Prelude.{◌≡◌, ℕ, List, [], ◌∷◌, length, All}
+use Rattle.std.specs.Prelude.{◌≡◌, ◌≤◌, ◌+◌, ℕ, List, [], ◌∷◌, length, All}
 use Rattle.tail_book.specs.Seen.{BookSeen}
 use Rattle.tail_book.specs.TableSeen.{CostTableSeen}
 use Rattle.tail_book.specs.CostTable.{IsCostTable, IsTableFor}
@@ -9,8 +9,9 @@ use Rattle.tail_book.specs.Truth.{IsTrueOutcomeIn}
 use Rattle.tail_book.specs.declared.outcome.Outcome.{Outcome}
 use Rattle.tail_book.specs.declared.outcome.Outcome.TheVariants.{Optimal, Infeasible, Between, Above}
 use Rattle.branch_marks.specs.ProofTree.{Tree, IsShown, BoundsAtLeast}
+use Rattle.branch_marks.specs.inside.BranchTests.{undecided}
 use Rattle.branch_tree.specs.declared.limit.Limit.{Limit}
-use Rattle.node_leaves.specs.Place.{root}
+use Rattle.node_leaves.specs.Place.{Open, root}
 use Rattle.node_leaves.specs.Node.{Node, IsShownNode, Bounds}
 use Rattle.node_leaves.specs.Growth.{Grows}
 use Rattle.branch_tree.specs.GrownTree.{IsGrownTree}
@@ -66,3 +67,8 @@ DivesAreUsed = (table : CostTableSeen) (book : BookSeen) (limit : Limit) (outcom
 abbrev pub ShownNodesAreTrees : Type 0
 ShownNodesAreTrees = (table : CostTableSeen) (book : BookSeen) (low : ℕ) (nodes : List Node) → Grows (Bounds table book low) (root book ∷ []) nodes []
     → (tree : Tree) × IsShown table book [] tree × BoundsAtLeast low tree × (tree_events tree ≡ events_of nodes)
+
+-- of the places to which shown nodes lead from the root, at most one more is open than there are pairs that no facts leave undecided
+abbrev pub OpenPlacesAreFew : Type 0
+OpenPlacesAreFew = (table : CostTableSeen) (book : BookSeen) (nodes : List Node) (left : List Open)
+    → Grows (IsShownNode table book) (root book ∷ []) nodes left → length left ≤ undecided book [] + 1

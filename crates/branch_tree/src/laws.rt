@@ -1,8 +1,10 @@
 //! Laws of search trees: the contract of each function is the law.
 
-ghost use Rattle.branch_tree.specs.Laws.{GrownTreesAreBounded, GrownTreesAreTrue, SearchTreesAreGrown, SearchTreesAreTrue, SearchTreesAreShown, SearchTreesAreBounded, DivesAreUsed, ShownNodesAreTrees};
+ghost use Rattle.branch_tree.specs.Laws.{GrownTreesAreBounded, GrownTreesAreTrue, SearchTreesAreGrown, SearchTreesAreTrue, SearchTreesAreShown, SearchTreesAreBounded, DivesAreUsed, ShownNodesAreTrees, OpenPlacesAreFew};
 
-use branch_marks::laws::{following_facts_are_new, shown_roots_bound};
+use branch_marks::laws::{
+    branches_leave_fewer, facts_leave_no_more, following_facts_are_new, shown_roots_bound,
+};
 use tail_book::laws::legal_plans_cost_at_most_in;
 
 /// Shown nodes that leave no place open are a proof tree, with the same bounds and events.
@@ -57,3 +59,11 @@ pub fn search_trees_are_true()
 pub fn dives_are_used()
     ensures { DivesAreUsed }
 {}
+
+/// Of the places that a search keeps open, there is at most one more than there are undecided pairs without facts.
+pub fn open_places_are_few()
+    ensures { OpenPlacesAreFew }
+{
+    facts_leave_no_more();
+    branches_leave_fewer();
+}
