@@ -9,7 +9,8 @@ pub mod PairChoices
 pub mod LineFacts
 pub mod Holes
 pub mod Stopping
-pub mod OpenPlaces
+pub mod PlaceDuals
+pub mod KeptPlaces
 pub mod Room
 pub mod FewPlaces
 pub mod LeastLeft

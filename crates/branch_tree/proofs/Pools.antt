@@ -3,7 +3,7 @@
 use Rattle.std.proofs.Common.{◌≡◌, ◌+◌, ◌<◌, ℕ, ℤ, ◌≤ℤ◌, Bool, true, false, inl, inr, arith, List, length, refl, sym, ap, subst, Option, Some, None}
 use Rattle.std.proofs.lemmas.Int.{ints}
 use Rattle.std.proofs.lemmas.Bool.{cases_order}
-use Rattle.std.proofs.lemmas.List.Elements.{All-contains, All-filter, filter_passes}
+use Rattle.std.proofs.lemmas.List.Elements.{All-contains, All-filter, All-nil, filter_passes}
 use Rattle.std.specs.Prelude.{All, Contains}
 use Rattle.tail_book.specs.Seen.{BookSeen}
 use Rattle.tail_book.specs.Lookup.{aircraft}
@@ -19,6 +19,7 @@ use Rattle.branch_marks.specs.inside.MarkTests.{FitsDecides}
 use Rattle.restricted_master.specs.Keeping.{fits_entry, KeepsFitting}
 use Rattle.restricted_master.specs.Pool.{HasRoutes}
 use Rattle.restricted_master.specs.Seen.{PoolSeen}
+use Rattle.restricted_master.specs.Pool.{empty_pool}
 use Rattle.branch_tree.specs.Step.{IsLegalPool}
 use Rattle.branch_tree.specs.declared.node_bound.LeastRoutes.{LeastRoutes}
 use Rattle.branch_tree.specs.declared.node_bound.Weighed.{Weighed}
@@ -26,6 +27,13 @@ use Rattle.branch_tree.specs.declared.node_bound.Weighed.TheVariants as weighed
 use Rattle.branch_tree.specs.inside.NodeBound.{LeavesRoom, IsWeighedNode}
 use Rattle.branch_tree.specs.inside.NewRoutes.{entry_of, AddsRoute, HasAll, HasGrown, AreFittingRoutes}
 use Rattle.node_leaves.specs.inside.FittingPool.{IsFittingPool}
+
+-- a pool that has no route yet
+pub no_routes : (table : CostTableSeen) (book : BookSeen) (pool : PoolSeen) → pool ≡ empty_pool → IsLegalPool table book pool
+no_routes table book pool is = subst (λ (p : PoolSeen). IsLegalPool table book p) (sym is) (record {
+  of_book = record { aircraft = All-nil _; rising = All-nil _; costs = refl };
+  legal = All-nil _;
+})
 
 -- what is kept is what was legal and fits
 pub kept_fitting : FitsDecides → (table : CostTableSeen) (book : BookSeen) (marks : List Fact) (old new : PoolSeen)

@@ -2,4 +2,5 @@
 pub mod StepParts
 pub mod NewRoutes
 pub mod NodeBound
+pub mod OpenPlaces
 pub mod SearchParts

@@ -4,22 +4,20 @@
 //! It ends without a limit as well, since a branch leaves less open than its parent did, and a visit puts two in its
 //! place at most.
 
-ghost use Rattle.std.specs.Prelude.{◌≡◌, ◌≤◌, ◌+◌, [], ◌∷◌, ℕ, true, false, IfOk, OnErr, IsErrOf};
+ghost use Rattle.std.specs.Prelude.{◌≡◌, ◌≤◌, ◌+◌, [], ◌∷◌, ℕ, true, false, IfOk, OnOk, OnErr, IsErrOf};
 ghost use Rattle.tail_book.specs.CostTable.{IsTableFor};
 ghost use Rattle.branch_marks.specs.TreeLog.{IsLater, WriteHasFailed};
 ghost use Rattle.node_leaves.specs.Place.{root};
 ghost use Rattle.node_leaves.specs.Stops.{StopsIn};
 ghost use Rattle.node_leaves.specs.Target.{no_target};
+ghost use Rattle.branch_tree.specs.inside.OpenPlaces.{places_of};
 ghost use Rattle.branch_tree.specs.inside.SearchParts.{Allows, ArePlaces, Counts, HasStopped, IsGrownOut, IsStateFor};
 
 use crate::search_state::SearchState;
 use crate::visit::visit;
 use crate::{Limit, Stop};
 use branch_marks::TreeLog;
-use branch_marks::laws::{
-    branches_leave_fewer, facts_leave_no_more, following_facts_are_new,
-    following_facts_are_of_book, undecided_pairs_are_of_book,
-};
+use branch_marks::laws::{branches_leave_fewer, facts_leave_no_more};
 use node_leaves::laws::zeros_are_duals;
 use std::alloc::Global;
 use tail_book::{Book, CostTable};
@@ -57,30 +55,30 @@ pub fn grow<L: TreeLog>(
 ) -> Result<u64, Stop>
     requires table { IsTableFor book.now table.now }
     requires state { IsStateFor table.now book.now state.old }
-    requires root { state.old.places ≡ root book.now ∷ [] }
+    requires root { places_of state.old.places ≡ root book.now ∷ [] }
     requires first { state.old.best.target ≤ no_target table.now }
-    ensures grown { IfOk result (λ counter. IsGrownOut table.now book.now limit state.new.places state.new.best.target counter
+    ensures grown { IfOk result (λ counter. IsGrownOut table.now book.now limit (places_of state.new.places) state.new.best.target counter
         (L.shows log.old) (L.shows log.new)) }
-    ensures places { IfOk result (λ _. ArePlaces table.now book.now state.new.places) }
+    ensures places { IfOk result (λ _. ArePlaces table.now book.now (places_of state.new.places)) }
     ensures stopped { OnErr result (StopsIn (L.shows log.old) (L.shows log.new) table.now book.now (root book.now ∷ [])) }
-    ensures state { IsStateFor table.now book.now state.new }
+    ensures state { OnOk result (IsStateFor table.now book.now state.new) }
     ensures falls { state.new.best.target ≤ state.old.best.target }
     ensures later { IsLater (L.shows log.old) (L.shows log.new) }
     ensures beside { L.beside log.old log.new }
     ensures cause { IsErrOf result Stop.Log → WriteHasFailed (L.shows log.old) (L.shows log.new) }
 {
     zeros_are_duals();
-    following_facts_are_new();
-    following_facts_are_of_book();
-    undecided_pairs_are_of_book();
     facts_leave_no_more();
     branches_leave_fewer();
     let mut counter = 0u64;
     'nodes: while allows(limit, counter) {
-        let Some(here) = state.places.pop() else {
-            return Ok(counter);
+        let Ok(found) = state.places.next(book) else {
+            return Err(Stop::Memory);
         };
-        if let Err(stop) = visit(alloc, book, table, here, state, log) {
+        if !found {
+            return Ok(counter);
+        }
+        if let Err(stop) = visit(alloc, book, table, state, log) {
             return Err(stop);
         }
         counter = count_one(limit, counter);

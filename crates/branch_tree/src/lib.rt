@@ -8,7 +8,7 @@ mod limit;
 mod new_routes;
 mod node;
 mod node_bound;
-mod open_nodes;
+mod open_places;
 mod optimum;
 mod rounds;
 mod search_state;
@@ -29,7 +29,7 @@ pub use node::{node_step, node_step_with};
 pub use node_leaves::{
     Best, NodePricer, PricedAll, PricedLeaf, Stop, note_all, note_one, note_steps, price_leaf,
 };
-pub use open_nodes::{OpenNode, OpenNodes};
+pub use open_places::OpenPlaces;
 pub use optimum::least_plan;
 pub use step::Step;
 pub use tools::NodeTools;

@@ -228,7 +228,7 @@ pub fn node_step_with<L: TreeLog>(
     ensures diver { IsDiverOf book.now table.now tools.new.diver }
 {
     every_book_is_sound(book);
-    let is_root = marks.facts().is_empty();
+    let is_root = marks.mark() == 0;
     let closed = match shut_and_tell(alloc, book, net, marks, &mut tools.diver.propagator, log) {
         Ok(closed) => closed,
         Err(stop) => return Err(stop),

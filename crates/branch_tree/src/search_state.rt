@@ -6,9 +6,10 @@ ghost use Rattle.tail_book.specs.Plan.{IsLegalPlan};
 ghost use Rattle.tail_book.specs.CostTable.{IsTableFor, plan_cost_in};
 ghost use Rattle.node_leaves.specs.Place.{root};
 ghost use Rattle.node_leaves.specs.Target.{no_target};
+ghost use Rattle.branch_tree.specs.inside.OpenPlaces.{places_of};
 ghost use Rattle.branch_tree.specs.inside.SearchParts.{IsStateFor};
 
-use crate::{Best, NodeTools, OpenNodes};
+use crate::{Best, NodeTools, OpenPlaces};
 use connection_net::Net;
 use restricted_master::Pool;
 use std::alloc::Global;
@@ -18,7 +19,7 @@ use tail_book::{Book, CostTable, Memory, Plan};
 #[derive(Drop)]
 pub struct SearchState {
     pub net: Net,
-    pub places: OpenNodes,
+    pub places: OpenPlaces,
     pub pool: Pool,
     pub best: Best,
     pub tools: NodeTools,
@@ -35,13 +36,13 @@ impl SearchState {
         requires table { IsTableFor book.now table.now }
         requires legal { IfSome start (λ plan. IsLegalPlan book.now plan.now) }
         ensures state { IfOk result (IsStateFor table.now book.now) }
-        ensures root { IfOk result (λ state. state.places ≡ root book.now ∷ []) }
+        ensures root { IfOk result (λ state. places_of state.places ≡ root book.now ∷ []) }
         ensures first { IfOk result (λ state. state.best.target ≤ no_target table.now) }
         ensures within { IfOk result (λ state. IfSome start.entry (λ plan. state.best.target ≤ plan_cost_in table.now book.now plan.now)) }
     {
         Ok(SearchState {
             net: Net::new(alloc, book)?,
-            places: OpenNodes::with_root(alloc, book)?,
+            places: OpenPlaces::with_root(alloc, book)?,
             pool: Pool::new(alloc)?,
             best: Best::from_start(alloc, book, table, start)?,
             tools: NodeTools::new(alloc, book, table)?,

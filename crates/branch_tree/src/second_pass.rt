@@ -1,20 +1,18 @@
 //! The second pass of a search: each place that is still open at the limit is priced once, under the duals of its parent and
 //! without propagation, and told as a leaf. Bounds below the target are left, and the least of them bounds every plan.
 
-ghost use Rattle.std.specs.Prelude.{◌≡◌, ◌++◌, [], ◌∷◌, List, IfOk, OnErr, IsErrOf};
-ghost use Rattle.connection_net.specs.Net.{net_of};
+ghost use Rattle.std.specs.Prelude.{◌≡◌, ◌++◌, [], ◌∷◌, List, IfOk, OnOk, OnErr, IsErrOf};
 ghost use Rattle.branch_marks.specs.TreeLog.{IsLater, WriteHasFailed};
 ghost use Rattle.branch_tree.specs.Closing.{IsLowest};
 ghost use Rattle.node_leaves.specs.Node.{Node};
 ghost use Rattle.node_leaves.specs.Stops.{StopsIn};
-ghost use Rattle.node_leaves.specs.inside.Leaf.{AnswersLeaf, IsNodePricerOf};
+ghost use Rattle.node_leaves.specs.inside.Leaf.{AnswersLeaf};
+ghost use Rattle.branch_tree.specs.inside.OpenPlaces.{place_here, places_behind, places_of};
 ghost use Rattle.branch_tree.specs.inside.SearchParts.{AreClosed, ArePlaces, IsOneClosed, IsPlace, IsStateFor};
 
 use crate::search_state::SearchState;
-use crate::{NodePricer, OpenNode, PricedLeaf, Stop, bound_below, price_leaf};
+use crate::{PricedLeaf, Stop, bound_below, price_leaf};
 use branch_marks::TreeLog;
-use connection_net::Net;
-use node_leaves::marks_again;
 use std::alloc::Global;
 use tail_book::{Book, CostTable};
 
@@ -34,36 +32,42 @@ fn lower(low: Option<u64>, priced: PricedLeaf, target: u64) -> Option<u64>
     }
 }
 
-// Prices an open place. The answer is the least bound that is left with it.
+// Prices the open place that is here, and leaves it. The answer is the least bound that is left with it.
 fn close_one<L: TreeLog>(
     alloc: Global,
     book: &Book,
     table: &CostTable,
-    net: &Net,
-    here: &OpenNode,
     target: u64,
     low: Option<u64>,
-    prices: &mut NodePricer,
+    state: &mut SearchState,
     log: &mut L,
 ) -> Result<Option<u64>, Stop>
-    requires net { net.now ≡ net_of book.now }
-    requires prices { IsNodePricerOf table.now book.now prices.old }
-    requires place { IsPlace table.now book.now here.now }
-    ensures closed { IfOk result (λ least. IsOneClosed table.now book.now target here.now low least (L.shows log.old) (L.shows log.new)) }
-    ensures stopped { OnErr result (StopsIn (L.shows log.old) (L.shows log.new) table.now book.now (here.now ∷ [])) }
-    ensures prices { IsNodePricerOf table.now book.now prices.new }
+    requires state { IsStateFor table.now book.now state.old }
+    requires place { IsPlace table.now book.now (place_here state.old.places) }
+    ensures closed { IfOk result (λ least. IsOneClosed table.now book.now target (place_here state.old.places) low least (L.shows log.old) (L.shows log.new)) }
+    ensures stopped { OnErr result (StopsIn (L.shows log.old) (L.shows log.new) table.now book.now (place_here state.old.places ∷ [])) }
+    ensures left { OnOk result (places_of state.new.places ≡ places_behind state.old.places) }
+    ensures state { IsStateFor table.now book.now state.new }
+    ensures best { state.new.best ≡ state.old.best }
     ensures later { IsLater (L.shows log.old) (L.shows log.new) }
     ensures beside { L.beside log.old log.new }
     ensures cause { IsErrOf result Stop.Log → WriteHasFailed (L.shows log.old) (L.shows log.new) }
 {
-    let marks = match marks_again(alloc, book, &here.facts) {
-        Ok(marks) => marks,
-        Err(_) => return Err(Stop::Memory),
+    let priced = match price_leaf(
+        alloc,
+        book,
+        table,
+        &state.net,
+        &state.places.branches.marks,
+        &state.places.duals,
+        &mut state.tools.prices,
+        log,
+    ) {
+        Ok(priced) => priced,
+        Err(stop) => return Err(stop),
     };
-    match price_leaf(alloc, book, table, net, &marks, &here.duals, prices, log) {
-        Ok(priced) => Ok(lower(low, priced, target)),
-        Err(stop) => Err(stop),
-    }
+    state.places.leave();
+    Ok(lower(low, priced, target))
 }
 
 /// Prices the open places in order. The answer is the least bound that does not reach the target, if one is left.
@@ -76,30 +80,25 @@ pub fn close<L: TreeLog>(
     log: &mut L,
 ) -> Result<Option<u64>, Stop>
     requires state { IsStateFor table.now book.now state.old }
-    requires places { ArePlaces table.now book.now state.old.places }
-    ensures closed { IfOk result (λ low. AreClosed table.now book.now target state.old.places [] low (L.shows log.old) (L.shows log.new)) }
-    ensures stopped { OnErr result (StopsIn (L.shows log.old) (L.shows log.new) table.now book.now state.old.places) }
+    requires places { ArePlaces table.now book.now (places_of state.old.places) }
+    ensures closed { IfOk result (λ low. AreClosed table.now book.now target (places_of state.old.places) [] low (L.shows log.old) (L.shows log.new)) }
+    ensures stopped { OnErr result (StopsIn (L.shows log.old) (L.shows log.new) table.now book.now (places_of state.old.places)) }
     ensures best { state.new.best ≡ state.old.best }
     ensures later { IsLater (L.shows log.old) (L.shows log.new) }
     ensures beside { L.beside log.old log.new }
     ensures cause { IsErrOf result Stop.Log → WriteHasFailed (L.shows log.old) (L.shows log.new) }
 {
     let mut low = None;
-    'nodes: while let Some(here) = state.places.pop() {
-        match close_one(
-            alloc,
-            book,
-            table,
-            &state.net,
-            &here,
-            target,
-            low,
-            &mut state.tools.prices,
-            log,
-        ) {
+    'nodes: loop {
+        let Ok(found) = state.places.next(book) else {
+            return Err(Stop::Memory);
+        };
+        if !found {
+            return Ok(low);
+        }
+        match close_one(alloc, book, table, target, low, state, log) {
             Ok(least) => low = least,
             Err(stop) => return Err(stop),
         }
     }
-    Ok(low)
 }

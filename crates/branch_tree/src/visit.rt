@@ -1,73 +1,77 @@
 //! A visit, one turn of a search: a step on an open place, whose branches come before all other places. So the search is depth
 //! first, and beside the place that is taken at most one is open for each split above it.
 
-ghost use Rattle.std.specs.Prelude.{◌≡◌, ◌≤◌, ◌++◌, [], ◌∷◌, OnOk, OnErr, IsErrOf};
+ghost use Rattle.std.specs.Prelude.{◌≡◌, ◌≤◌, ◌++◌, [], ◌∷◌, ℕ, true, OnOk, OnErr, IsErrOf};
 ghost use Rattle.tail_book.specs.CostTable.{IsTableFor};
 ghost use Rattle.branch_marks.specs.TreeLog.{IsLater, WriteHasFailed};
 ghost use Rattle.node_leaves.specs.Node.{Ending, branches};
-ghost use Rattle.branch_tree.specs.Step.{AnswersNode};
+ghost use Rattle.branch_tree.specs.Step.{AnswersNode, IsTrueStep};
 ghost use Rattle.node_leaves.specs.Stops.{StopsIn};
+ghost use Rattle.branch_tree.specs.inside.OpenPlaces.{AreOpenPlaces, place_here, places_behind, places_of};
 ghost use Rattle.branch_tree.specs.inside.SearchParts.{IsPlace, IsStateFor, IsVisited};
 
 use crate::search_state::SearchState;
-use crate::{OpenNode, OpenNodes, Step, Stop, node_step_with};
-use branch_marks::{Fact, TreeLog};
-use node_leaves::marks_again;
+use crate::{OpenPlaces, Step, Stop, node_step_with};
+use branch_marks::TreeLog;
 use std::alloc::Global;
-use tail_book::{Book, CostTable, Duals, Memory};
+use tail_book::{Book, CostTable, Memory};
 
-// Puts the branches of a step in front of the other places, where it split its node.
-fn open_branches(
+// Goes on from the node of a step: to the first branch where it was split, and else to the places behind it.
+fn go_on(
     alloc: Global,
-    facts: &[Fact],
-    duals: &Duals,
+    book: &Book,
+    table: &CostTable,
+    target: u64,
     step: &Step,
-    places: &mut OpenNodes,
+    places: &mut OpenPlaces,
 ) -> Result<(), Memory>
-    ensures { OnOk result ((ending : Ending) → AnswersNode duals.now.values ending step.now → places.new ≡ branches facts.now ending ++ places.old) }
+    requires open_places { AreOpenPlaces book.now places.old }
+    requires owes { places.old.branches.owes ≡ true }
+    requires truth { IsTrueStep table.now book.now places.old.branches.marks.facts places.old.duals.values target step.now }
+    ensures places { OnOk result ((ending : Ending) → AnswersNode places.old.duals.values ending step.now
+        → places_of places.new ≡ branches places.old.branches.marks.facts ending ++ places_behind places.old) }
+    ensures open_places { OnOk result (AreOpenPlaces book.now places.new) }
 {
     match step {
-        Step::Split { pair, .. } => places.push_branches(alloc, facts, duals, *pair),
-        Step::Hole(_) | Step::Stuck(_) | Step::Bounded(_) => Ok(()),
+        Step::Split { pair, .. } => places.split(alloc, book, *pair),
+        Step::Hole(_) | Step::Stuck(_) | Step::Bounded(_) => {
+            places.leave();
+            Ok(())
+        }
     }
 }
 
-/// Visits an open place that was taken from the others.
+/// Visits the open place that is here.
 // Whatever the propagator found for the marks of another place is wrong here, so it is forgotten.
 pub fn visit<L: TreeLog>(
     alloc: Global,
     book: &Book,
     table: &CostTable,
-    here: OpenNode,
     state: &mut SearchState,
     log: &mut L,
 ) -> Result<(), Stop>
     requires table { IsTableFor book.now table.now }
     requires state { IsStateFor table.now book.now state.old }
-    requires place { IsPlace table.now book.now here }
-    ensures visited { OnOk result (IsVisited table.now book.now here state.old.places state.new.places state.new.best.target
-        (L.shows log.old) (L.shows log.new)) }
-    ensures stopped { OnErr result (StopsIn (L.shows log.old) (L.shows log.new) table.now book.now (here ∷ [])) }
-    ensures state { IsStateFor table.now book.now state.new }
+    requires owes { state.old.places.branches.owes ≡ true }
+    requires place { IsPlace table.now book.now (place_here state.old.places) }
+    ensures visited { OnOk result (IsVisited table.now book.now (place_here state.old.places) (places_behind state.old.places) (places_of state.new.places)
+        state.new.best.target (L.shows log.old) (L.shows log.new)) }
+    ensures stopped { OnErr result (StopsIn (L.shows log.old) (L.shows log.new) table.now book.now (place_here state.old.places ∷ [])) }
+    ensures state { OnOk result (IsStateFor table.now book.now state.new) }
     ensures falls { state.new.best.target ≤ state.old.best.target }
     ensures later { IsLater (L.shows log.old) (L.shows log.new) }
     ensures beside { L.beside log.old log.new }
     ensures cause { IsErrOf result Stop.Log → WriteHasFailed (L.shows log.old) (L.shows log.new) }
 {
-    let mut marks = match marks_again(alloc, book, &here.facts) {
-        Ok(marks) => marks,
-        Err(_) => return Err(Stop::Memory),
-    };
     state.tools.diver.forget();
-    let mut duals = here.duals;
     let step = match node_step_with(
         alloc,
         book,
         table,
         &state.net,
-        &mut marks,
+        &mut state.places.branches.marks,
         &mut state.pool,
-        &mut duals,
+        &mut state.places.duals,
         &mut state.best,
         &mut state.tools,
         log,
@@ -75,7 +79,8 @@ pub fn visit<L: TreeLog>(
         Ok(step) => step,
         Err(stop) => return Err(stop),
     };
-    match open_branches(alloc, marks.facts(), &duals, &step, &mut state.places) {
+    let target = state.best.target;
+    match go_on(alloc, book, table, target, &step, &mut state.places) {
         Ok(()) => Ok(()),
         Err(_) => Err(Stop::Memory),
     }

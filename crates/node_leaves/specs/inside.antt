@@ -3,4 +3,3 @@ pub mod EventLists
 pub mod PricedStore
 pub mod Leaf
 pub mod FittingPool
-pub mod NewFacts

@@ -24,20 +24,21 @@ use Rattle.branch_tree.specs.SearchTree.{HasReached}
 use Rattle.branch_tree.specs.Step.{IsLegalPool}
 use Rattle.node_leaves.specs.Target.{no_target, IsBest, FallsTo}
 use Rattle.node_leaves.specs.inside.Leaf.{IsNodePricerOf}
-use Rattle.node_leaves.specs.inside.NewFacts.{AreNewFacts}
+use Rattle.branch_tree.specs.inside.OpenPlaces.{AreOpenPlaces}
 
--- what is kept is of the book and the table: its network, a pool of legal routes, the best plan so far, a pricer, and a diver
+-- what is kept is of the book and the table: its network, open places, a pool of legal routes, the best
+-- plan so far, a pricer, and a diver
 pub record IsStateFor (table : CostTableSeen) (book : BookSeen) (state : SearchState) : Type 0 where
   pub net : state.net ≡ net_of book
+  pub places : AreOpenPlaces book state.places
   pub pool : IsLegalPool table book state.pool
   pub best : IsBest table book state.best.plan state.best.target
   pub prices : IsNodePricerOf table book state.tools.prices
   pub diver : IsDiverOf book table state.tools.diver
 
--- a place that a search may open: marks can be made of its facts, and its duals are in the box
-pub record IsPlace (table : CostTableSeen) (book : BookSeen) (here : Open) : Type 0 where
-  pub facts : AreNewFacts book [] here.marks
-  pub duals : AreDuals table book here.duals
+-- a place that a search may open: its duals are in the box
+abbrev pub IsPlace : CostTableSeen → BookSeen → Open → Type 0
+IsPlace table book here = AreDuals table book here.duals
 
 -- each of these is such a place
 abbrev pub ArePlaces : CostTableSeen → BookSeen → List Open → Type 0

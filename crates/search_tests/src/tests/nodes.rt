@@ -1,6 +1,11 @@
 //! A book of two flights, whose nodes are worked by hand: what pricing them as leaves comes to, what a log is told, and what it
 //! was told where it fails. Bounds and open places, each beside its ends.
 
+ghost use Rattle.std.specs.Prelude.{◌≡◌, true};
+ghost use Rattle.branch_marks.specs.Branches.{IsUndecided};
+ghost use Rattle.branch_marks.specs.declared.fact.Pair.TheVariants.{Fly};
+ghost use Rattle.branch_tree.specs.inside.OpenPlaces.{AreOpenPlaces};
+
 mod answers;
 mod memory;
 mod splits;
@@ -8,8 +13,8 @@ mod steps;
 
 use super::{Failing, label};
 use answers::{Answer, Asked, Ended, ask, ask_of, two_flights};
-use branch_marks::{Event, Fact, MemTree, Pair};
-use branch_tree::{Best, OpenNode, OpenNodes, Stop, bound_below, passes};
+use branch_marks::{Event, Fact, Marks, MemTree, Pair};
+use branch_tree::{Best, OpenPlaces, Stop, bound_below, passes};
 use std::alloc::Global;
 use std::test::Fail;
 use tail_book::*;
@@ -156,48 +161,97 @@ fn first_target_is_above_all(rt: HostRuntime) -> Result<(), Fail> {
     Ok(())
 }
 
-fn root_places(alloc: Global) -> Result<OpenNodes, Fail> {
-    let book = two_flights(alloc)?;
-    Ok(OpenNodes::with_root(alloc, &book)?)
+// Whether the place that is here has no facts, and zeros for duals.
+fn is_bare(places: &OpenPlaces) -> bool {
+    places.branches.marks.mark() == 0 && places.duals.values.as_slice() == [0i64, 0].as_slice()
 }
 
-// Whether a place has no facts, and zeros for duals.
-fn is_bare(place: &OpenNode) -> bool {
-    place.facts.is_empty() && place.duals.values.as_slice() == [0i64, 0].as_slice()
+// Whether a pair of the place that is here is undecided: the aircraft may fly the activity, and need not.
+fn may_split(book: &Book, places: &OpenPlaces, k: u32, a: u32) -> bool
+    requires { AreOpenPlaces book.now places.now }
+    ensures { result ≡ true → IsUndecided book.now places.now.branches.marks.facts (Fly k a) }
+{
+    let marks = &places.branches.marks;
+    (k as usize) < book.tails.len()
+        && (a as usize) < book.activities.len()
+        && marks.alive(book, k, a)
+        && !marks.has(Fact::Must(k, a))
 }
 
-// Puts the branches of the root's split there. Whether the root is bare.
-fn split(alloc: Global, places: &mut OpenNodes, root: &OpenNode) -> bool {
-    let facts = [Fact::Bar(1, 0)];
-    is_bare(root)
-        && places
-            .push_branches(alloc, &facts, &root.duals, Pair::Fly(0, 1))
-            .is_ok()
-}
-
-// Takes the root, and puts the branches of its split there. Whether it was bare.
-fn split_root(alloc: Global, places: &mut OpenNodes) -> bool {
-    match places.pop() {
-        Some(root) => split(alloc, places, &root),
-        None => false,
+// Splits the place that is here on whether an aircraft flies an activity.
+fn split(alloc: Global, book: &Book, places: &mut OpenPlaces, k: u32, a: u32) -> bool
+    requires { AreOpenPlaces book.now places.old }
+    ensures { result ≡ true → AreOpenPlaces book.now places.new }
+{
+    let may = may_split(book, places, k, a);
+    if !may || !places.branches.owes {
+        return false;
     }
+    places.split(alloc, book, Pair::Fly(k, a)).is_ok()
 }
 
-// Takes the next place. Whether it has these facts.
-fn comes_next(places: &mut OpenNodes, facts: &[Fact]) -> bool {
-    match places.pop() {
-        Some(here) => here.facts.as_slice() == facts,
-        None => false,
+// Goes on to the next place. Whether it has these facts.
+fn comes_next(book: &Book, places: &mut OpenPlaces, facts: &[Fact]) -> bool
+    requires { AreOpenPlaces book.now places.old }
+    ensures { result ≡ true → AreOpenPlaces book.now places.new }
+{
+    let Ok(found) = places.next(book) else {
+        return false;
+    };
+    found && has_facts(&places.branches.marks, facts)
+}
+
+// Whether marks have exactly these facts, in this order.
+fn has_facts(marks: &Marks, facts: &[Fact]) -> bool {
+    if marks.mark() != facts.len() {
+        return false;
     }
+    for i in 0..facts.len() {
+        if marks.fact_at(i) != facts[i] {
+            return false;
+        }
+    }
+    true
 }
 
-// The root, and then the two branches of its split, the first one first.
+// Takes the next place away. Whether it has these facts.
+fn is_left(book: &Book, places: &mut OpenPlaces, facts: &[Fact]) -> bool
+    requires { AreOpenPlaces book.now places.old }
+    ensures { result ≡ true → AreOpenPlaces book.now places.new }
+{
+    let comes = comes_next(book, places, facts);
+    places.leave();
+    comes
+}
+
+// Splits the root, and then its first branch. Whether both have the facts that are due.
+fn split_twice(alloc: Global, book: &Book, places: &mut OpenPlaces) -> bool
+    requires { AreOpenPlaces book.now places.old }
+    ensures { result ≡ true → AreOpenPlaces book.now places.new }
+{
+    if !comes_next(book, places, &[]) || !split(alloc, book, places, 0, 1) {
+        return false;
+    }
+    comes_next(book, places, &[Fact::Must(0, 1)]) && split(alloc, book, places, 1, 0)
+}
+
+// Whether the places that two splits leave come in order, each with its facts alone.
+fn come_in_order(alloc: Global, book: &Book, places: &mut OpenPlaces) -> bool
+    requires { AreOpenPlaces book.now places.old }
+{
+    split_twice(alloc, book, places)
+        && is_left(book, places, &[Fact::Must(0, 1), Fact::Must(1, 0)])
+        && is_left(book, places, &[Fact::Must(0, 1), Fact::Bar(1, 0)])
+        && is_left(book, places, &[Fact::Bar(0, 1)])
+}
+
+// The first branch of a split comes before the second, and what was found below the first is forgotten before the second.
 #[test]
 fn places_come_first_branch_first(rt: HostRuntime) -> Result<(), Fail> {
-    let mut places = root_places(rt.alloc())?;
-    assert!(rt; split_root(rt.alloc(), &mut places));
-    assert!(rt; comes_next(&mut places, &[Fact::Bar(1, 0), Fact::Must(0, 1)]));
-    assert!(rt; comes_next(&mut places, &[Fact::Bar(1, 0), Fact::Bar(0, 1)]));
-    assert!(rt; places.pop().is_none());
+    let alloc = rt.alloc();
+    let book = two_flights(alloc)?;
+    let mut places = OpenPlaces::with_root(alloc, &book)?;
+    assert!(rt; is_bare(&places));
+    assert!(rt; come_in_order(alloc, &book, &mut places));
     Ok(())
 }

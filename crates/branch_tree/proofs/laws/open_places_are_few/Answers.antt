@@ -1,4 +1,4 @@
-use Rattle.std.proofs.Common.{arith}
+use Rattle.std.proofs.Common.{[], arith}
 use Rattle.branch_marks.specs.inside.BranchTests.{undecided}
 use Rattle.branch_tree.proofs.FewPlaces.{few_left}
 use Rattle.branch_tree.proofs.laws.open_places_are_few.Goals as goal

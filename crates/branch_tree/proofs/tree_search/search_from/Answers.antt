@@ -6,6 +6,7 @@ use Rattle.branch_tree.specs.Counted.{IsCounted}
 use Rattle.node_leaves.specs.Node.{IsShownNode}
 use Rattle.node_leaves.specs.NodeEvents.{events_of}
 use Rattle.node_leaves.specs.Place.{root}
+use Rattle.branch_tree.specs.inside.OpenPlaces.{places_of}
 use Rattle.branch_tree.specs.inside.SearchParts.{outcome_for}
 use Rattle.node_leaves.proofs.Cuts.{notes_then}
 use Rattle.branch_tree.proofs.LeastLeft.{ends_under, search_tree}
@@ -23,8 +24,8 @@ pub returns-in-Err-close-clause-stopped : goal.returns-in-Err-close-clause-stopp
 returns-in-Err-close-clause-stopped g c =
     let run = c.in-Ok-grow.ensures.grown.run in let table = c.args.table.now in let book = c.args.book.now in
     let old = g.L.TreeLog.shows c.args.log.now in let between = g.L.TreeLog.shows c.grow.new.log in let new = g.L.TreeLog.shows c.close.new.log in
-    let shown = grows_weaker (IsCounted table book) (IsShownNode table book) (λ here node h. h.shown) (root book ∷ []) run.counted c.grow.new.state.places run.grown in
-    stops_then table book old between new (root book ∷ []) run.counted c.grow.new.state.places c.in-Err-close.ensures.later shown run.told c.in-Err-close.ensures.stopped
+    let shown = grows_weaker (IsCounted table book) (IsShownNode table book) (λ here node h. h.shown) (root book ∷ []) run.counted (places_of c.grow.new.state.places) run.grown in
+    stops_then table book old between new (root book ∷ []) run.counted (places_of c.grow.new.state.places) c.in-Err-close.ensures.later shown run.told c.in-Err-close.ensures.stopped
 
 -- the tree of the two passes
 pub returns-in-Ok-close-clause-tree : goal.returns-in-Ok-close-clause-tree
@@ -36,8 +37,8 @@ returns-in-Ok-close-clause-tree g c =
     let told = notes_then old between new (events_of run.counted) (events_of closed.closing) c.in-Ok-close.ensures.later run.told closed.told in
     record {
       tree = record { counted = run.counted; closing = closed.closing };
-      is = search_tree table book c.args.limit run.counted closed.closing c.grow.new.state.places best.target c.in-Ok-grow.counter run.counts grown.reached closed.closed
-          best.plan c.in-Ok-close.low c.outcome_of.result same run.grown run.falls c.grow.ensures.state.best closed.lowest;
+      is = search_tree table book c.args.limit run.counted closed.closing (places_of c.grow.new.state.places) best.target c.in-Ok-grow.counter run.counts grown.reached closed.closed
+          best.plan c.in-Ok-close.low c.outcome_of.result same run.grown run.falls c.in-Ok-grow.ensures.state.best closed.lowest;
       told = subst (λ (due : List Event). Notes old new due) (sym (events_then run.counted closed.closing)) told;
     }
 
@@ -59,4 +60,4 @@ returns-in-Ok-close-clause-within g c =
     let same = subst (λ (b : Best). c.outcome_of.result ≡ outcome_for b.plan b.target low counter) c.close.ensures.best c.outcome_of.ensures in
     outcome_within table book c.every_book_is_sound.ensures c.every_cost_table_is_sound.ensures c.requires.table c.legal_plans_cost_at_most_in.ensures
     (λ plan. plan.now) best.plan best.target c.in-Ok.state.best.target c.grow.ensures.falls low counter c.outcome_of.result same
-    c.grow.ensures.state.best c.args.start c.requires.legal c.in-Ok.ensures.within
+    c.in-Ok-grow.ensures.state.best c.args.start c.requires.legal c.in-Ok.ensures.within

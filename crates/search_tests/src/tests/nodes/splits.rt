@@ -67,8 +67,8 @@ fn before(route: &Route, a: u32) -> Option<u32> {
     None
 }
 
-// Whether marks have a fact.
-fn has_fact(marks: &Marks, fact: Fact) -> bool {
+// Whether a fact is among the marks.
+fn is_there(marks: &Marks, fact: Fact) -> bool {
     for i in 0..marks.mark() {
         if marks.fact_at(i) == fact {
             return true;
@@ -80,7 +80,7 @@ fn has_fact(marks: &Marks, fact: Fact) -> bool {
 // The pair at an activity that an aircraft flies on its route: the connection to it, unless that is tied.
 fn pair_on(marks: &Marks, route: &Route, k: u32, a: u32) -> Pair {
     match before(route, a) {
-        Some(x) if !has_fact(marks, Fact::Tie(x, a)) => Pair::Link(x, a),
+        Some(x) if !is_there(marks, Fact::Tie(x, a)) => Pair::Link(x, a),
         _ => Pair::Fly(k, a),
     }
 }
