@@ -1,4 +1,4 @@
--- Facts of which none comes twice. For src/marks.rt and src/naming.rt.
+-- Facts of which none comes twice. For MarkTables.antt beside it.
 use Rattle.std.specs.Prelude.{◌≡◌, ⊤, List, [], ◌∷◌, ◌++◌, false}
 use Rattle.branch_marks.specs.declared.fact.Fact.{Fact}
 use Rattle.branch_marks.specs.FactTests.{has_fact}

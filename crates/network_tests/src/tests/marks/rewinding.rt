@@ -173,7 +173,7 @@ fn wander(
 // Counts the facts that were kept.
 fn wanders(alloc: Global, book: &Book, dice: &mut Dice, kept: &mut u32) -> Result<bool, Memory> {
     let mut one = Marks::new(alloc, book)?;
-    for _ in 0..4 {
+    for _turn in 0..4 {
         let facts = wander(alloc, book, &mut one, dice)?;
         let other = marks(alloc, book, &facts)?;
         if one.mark() != facts.len() || !same_all(book, &one, &other) {
