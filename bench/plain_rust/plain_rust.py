@@ -13,7 +13,7 @@ import re
 import shutil
 import sys
 
-SEARCH = "tail_book turn_rules maint_counters connection_net branch_marks floor_rows propagator label_cells label_store \
+SEARCH = "tail_book turn_rules maint_counters label_cells connection_net branch_marks open_branches floor_rows propagator label_store \
 pricing route_search plan_audit dive_heuristic restricted_master dual_ascent pool_plans plan_finder node_leaves branch_tree".split()
 HERE = os.path.dirname(os.path.abspath(__file__))
 # Crates of the kit that the shim stands for, as modules of plain_std.
