@@ -1,4 +1,4 @@
--- Rows of one width that stand one after the other in one list of values. For src/cells.rt and others.
+-- Rows of one width that stand one after the other in one list of values. For inside/Chunks.antt.
 use Rattle.std.specs.Prelude.{ℕ, zero, suc, ℤ, List, [], ◌∷◌, take, drop}
 
 -- so many rows, cut from the front of the values

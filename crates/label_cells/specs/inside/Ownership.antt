@@ -1,4 +1,5 @@
 -- What a block of memory owns and lends, at values of the row R. Below, t is the allocator's token, the right to free a block.
+-- For src/block.rt.
 use Rattle.std.specs.Prelude.{ℕ, ◌*◌, ◌^◌, List, length}
 use Rattle.std.specs.Mem.{type_size}
 use Rattle.std.specs.Allocator.{block_with_items}

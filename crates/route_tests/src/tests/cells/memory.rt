@@ -49,7 +49,15 @@ fn put_all(cells: &mut Cells, rows: &mut Vec<[i64; 2]>, n: u16) -> Result<bool, 
 }
 
 // How many rows are asked for and put, and how many are then kept.
-const TURNS: &[(u16, usize)] = &[(1, 1), (1023, 1024), (3000, 2048), (1, 2049), (1500, 700), (0, 0), (2500, 0)];
+const TURNS: &[(u16, usize)] = &[
+    (1, 1),
+    (1023, 1024),
+    (3000, 2048),
+    (1, 2049),
+    (1500, 700),
+    (0, 0),
+    (2500, 0),
+];
 
 // The number of the first turn that goes wrong.
 fn first_wrong(cells: &mut Cells, rows: &mut Vec<[i64; 2]>) -> Result<Option<usize>, Memory> {
