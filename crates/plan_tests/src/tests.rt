@@ -6,6 +6,7 @@ mod cert_logs;
 mod certificates;
 mod enumeration;
 mod lines;
+mod pieces;
 mod plans_in_pools;
 mod pools;
 mod reports;

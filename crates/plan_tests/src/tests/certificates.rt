@@ -3,15 +3,16 @@
 ghost use Rattle.std.specs.Prelude.{◌≡◌, ◌<◌, length};
 
 use super::books::{ARN, CHEAP, DEAR, Leg, OSL, TailRow, Task, activities, book, plain};
+use super::pieces::is_fed_so;
 use cert_checker::{Verdict, judge};
 use std::alloc::Global;
 use std::test::Fail;
 use tail_book::*;
 
 // Activities, aircraft, and the turn of the first type.
-type Made = (&'static [Leg], &'static [TailRow], i64);
+pub type Made = (&'static [Leg], &'static [TailRow], i64);
 
-fn book_of(alloc: Global, made: &Made) -> Result<Book, Fail> {
+pub fn book_of(alloc: Global, made: &Made) -> Result<Book, Fail> {
     let &(legs, rows, turn) = made;
     let activities = activities(alloc, legs)?;
     book(alloc, activities, rows, plain(alloc, turn)?)
@@ -27,17 +28,17 @@ const FIRST: TailRow = TailRow {
 const SECOND: TailRow = TailRow { ready: 300, ..DEAR };
 
 // A flight and no aircraft.
-const NOBODY: Made = (&[THERE], &[], 30);
+pub const NOBODY: Made = (&[THERE], &[], 30);
 
 // Two flights half an hour apart, and an aircraft that takes a minute more to turn.
-const LATE: Made = (
+pub const LATE: Made = (
     &[THERE, (Task::Flight, (OSL, ARN), (450, 510))],
     &[FIRST],
     31,
 );
 
 // Two flights at once, of an hour and of two, and two aircraft of which the second costs twice as much.
-const RATES: Made = (
+pub const RATES: Made = (
     &[THERE, (Task::Flight, (ARN, OSL), (360, 480))],
     &[FIRST, SECOND],
     30,
@@ -47,7 +48,7 @@ const RATES: Made = (
 type Want = Result<Claim, (u64, u8)>;
 
 // A failure of a line.
-fn fails(line: u64, reason: u8) -> Verdict {
+pub fn fails(line: u64, reason: u8) -> Verdict {
     Verdict::No { line, reason }
 }
 
@@ -59,9 +60,9 @@ fn verdict(want: Want) -> Verdict {
     }
 }
 
-// Whether a text has a verdict.
+// Whether a text has a verdict, whole and in pieces.
 fn is_judged(alloc: Global, book: &Book, text: &[u8], told: Verdict) -> bool {
-    judge(alloc, book, text) == Ok(told)
+    judge(alloc, book, text) == Ok(told) && is_fed_so(alloc, book, text, told)
 }
 
 // A text, and the verdict on it.
@@ -235,7 +236,7 @@ fn nothing_but_zeros(rt: HostRuntime) -> Result<(), Fail> {
 }
 
 // A certificate of the least cost.
-const LEAST: &[&str] = &[
+pub const LEAST: &[&str] = &[
     "tailcert 1 2 2 0",
     "bound",
     "dual 0 120000",
@@ -253,7 +254,7 @@ const LEAST: &[&str] = &[
 ];
 
 // Its lines, with a text in place of those from one number up to another.
-fn with_lines(alloc: Global, from: usize, until: usize, put: &str) -> Result<String, Memory> {
+pub fn with_lines(alloc: Global, from: usize, until: usize, put: &str) -> Result<String, Memory> {
     let mut text = String::new(alloc);
     for (i, line) in LEAST.iter().enumerate() {
         if i == from {
@@ -480,10 +481,10 @@ fn unsafe_place_of(
 }
 
 // A split, and a leaf without covers, in books that have no legal plan.
-const SPLIT: &str =
+pub const SPLIT: &str =
     "tailcert 1 2 1 0\nsplit fly 0 1\nstuck 0\nlabel 0 60000\nhole 1\nclaim infeasible\n";
 
-const BARE_LEAF: &str = "tailcert 1 1 0 0\nbound\ndual 0 1001\nclaim limit 2 -\n";
+pub const BARE_LEAF: &str = "tailcert 1 1 0 0\nbound\ndual 0 1001\nclaim limit 2 -\n";
 
 // A certificate with one byte changed, each in turn to six others, never claims what is not true: one of a least cost, of
 // a split, and of a leaf without covers.
