@@ -224,7 +224,37 @@ fn leaves_and_steps_are_judged(rt: HostRuntime) -> Result<(), Fail> {
     )
 }
 
-// Each file is read in two calls, the certificate's last. Where one fails nothing is printed, and where the put fails neither.
+// The certificate with its first label five thousand times, so that it comes in two pieces that are cut within a line, and this
+// text behind it.
+fn long_certificate(alloc: Global, behind: &'static str) -> Result<Vec<&'static str>, Fail> {
+    let mut cert = Vec::from_slice(alloc, &LEAST[..5])?;
+    for _ in 0..5_000 {
+        cert.push("label 0 -60000\n")?;
+    }
+    cert.extend_from_slice(&LEAST[5..])?;
+    cert.push(behind)?;
+    Ok(cert)
+}
+
+// Asserts that it is judged so.
+fn assert_long_is_judged_so(
+    rt: &impl Abort,
+    alloc: Global,
+    behind: &'static str,
+    printed: &'static str,
+) -> Result<(), Fail> {
+    let cert = long_certificate(alloc, behind)?;
+    assert_is_judged_so(rt, alloc, same_time(&[]), (&cert, printed))
+}
+
+#[test]
+fn certificates_come_in_pieces(rt: HostRuntime) -> Result<(), Fail> {
+    assert_long_is_judged_so(&rt, rt.alloc(), "", "yes optimal 240\n")?;
+    assert_long_is_judged_so(&rt, rt.alloc(), "x\n", "no 5015 BadLine\n")
+}
+
+// Each file is read in two calls, the certificate's last, but nothing is read behind a failure. Where one fails nothing is printed,
+// and where the put fails neither.
 #[test]
 fn faults_end_a_run(rt: HostRuntime) -> Result<(), Fail> {
     let (alloc, least) = (rt.alloc(), LEAST.as_slice());
@@ -232,6 +262,7 @@ fn faults_end_a_run(rt: HostRuntime) -> Result<(), Fail> {
         assert_fault_ends_so(&rt, alloc, least, (call, 0), 5, "")?;
     }
     assert_fault_ends_so(&rt, alloc, least, (9, 2), 0, "yes optimal 240\n")?;
+    assert_fault_ends_so(&rt, alloc, &["x\n"], (8, 0), 1, "no 1 BadLine\n")?;
     assert_fault_ends_so(&rt, alloc, least, (0, 1), 6, "")?;
     assert_fault_ends_so(&rt, alloc, &["x\n"], (0, 1), 6, "")
 }
