@@ -4,6 +4,7 @@
 usage: plain_rust.py CLONE WORKSPACE [--checked] [--repr-c] [--trace=NAME,NAME..]
 
 Strips contracts and ghost code, and gives what is left a shim crate `plain_std` in place of the kit's std. Line numbers stay.
+A file of `own/` stands for the one of its crate and name, as where that has a Drop of its own, which takes the value here.
 An index `a[i]` is not checked, as in the kit's build; with --checked it is. With --repr-c the fields of structs lie in the
 order of the source, as in the kit's build. With --trace each call of a function of these names is told on standard error
 with its time, where the program runs with TRACE=1.
@@ -20,8 +21,6 @@ HERE = os.path.dirname(os.path.abspath(__file__))
 SHIMMED = {"indexmap", "std_alloc"}
 KEYWORDS = set("as break const continue crate dyn else enum extern fn for if impl in let loop match mod move mut pub ref return "
                "static struct trait type unsafe use where while await box yield".split())
-# What a type gives back by itself where it is dropped: the plain program ends without.
-OWN_DROP = re.compile(r"impl\s+Drop\s+for\b")
 TOKEN = re.compile(r"""
     (?P<comment>//[^\n]*|/\*.*?\*/)
   | (?P<string>(?:b|c)?r(?P<hash>\#*)".*?"(?P=hash)|(?:b|c)?"(?:[^"\\]|\\.)*")
@@ -86,7 +85,7 @@ def tokens_of(text):
             end = ghost_end(text, at)
             drop_visibility(tokens)
             kind, word = "space", newlines(text[at:end])
-        elif kind == "word" and (word in ("requires", "ensures") or OWN_DROP.match(text, at)):
+        elif kind == "word" and word in ("requires", "ensures"):
             end = clause_end(text, at)
             kind, word = "space", newlines(text[at:end])
         elif kind == "comment" and word.startswith("//!"):
@@ -341,7 +340,12 @@ def make_crate(clone, workspace, name, calls, options):
                     text = stream.read()
                 path = os.path.join(target, relative[:-3] + ".rs")
                 wanted.add(path)
-                write(path, plain(text, options, relative in ("lib.rt", "main.rt")))
+                own = os.path.join(HERE, "own", name, relative[:-3] + ".rs")
+                if os.path.exists(own):
+                    with open(own, encoding="utf-8") as stream:
+                        write(path, stream.read())
+                else:
+                    write(path, plain(text, options, relative in ("lib.rt", "main.rt")))
     for folder, _, files in os.walk(target):
         for file in files:
             if os.path.join(folder, file) not in wanted:
