@@ -26,7 +26,7 @@ use Rattle.open_branches.specs.Branches.{AreBranchesOf}
 
 -- whether a node is owed says nothing of its marks
 pub owes_alone : (book : BookSeen) (branches : Branches) (owes : Bool) → AreBranchesOf book branches → AreBranchesOf book (record branches { owes = owes })
-owes_alone book branches owes is = record { marks = is.marks; once = is.once; behind = is.behind }
+owes_alone book branches owes is = record { marks = is.marks; behind = is.behind }
 
 pub in_tree_part : (book : BookSeen) (judging : Judging) → judging.part ≡ InTree → IsPartIn book judging judging.part
 in_tree_part book judging e = subst (λ (part : Part). IsPartIn book judging part) (sym e) tt
