@@ -1,9 +1,11 @@
 # Runs a proved program, which build.sh builds where its sources have changed since the last build. The scripts beside this
 # one source it. Each is named after its program, which is that of the crate NAME_program, and sets `first_run`, the words
 # on which the program is run once it is built, in the crate's folder, `read_options`, the options that name a file to read,
-# and `value_options`, those that are followed by any other value. Where `quiet` is set to the name of a variable, and
-# standard error is a terminal, one line of it says how many seconds the program has been at work, unless that variable is 1,
-# and, where `followed_option` is one that names a file, what part of that file's bytes it has read.
+# `written_option`, the one that names a file to write, `value_options`, those that are followed by any other value, and
+# `commands`, the first words that name no file. Where `quiet` is set to the name of a variable, and standard error is a
+# terminal, one line of it says how many seconds the program has been at work, unless that variable is 1, and, where
+# `followed_option` is one that names a file, what part of that file's bytes it has read. Where a run fails, standard error
+# says why, as far as that can be seen, and what to do: see hints.sh.
 # Only the program writes to standard output. Status 70: the program could not be built.
 # shellcheck shell=bash
 
@@ -12,85 +14,23 @@ set -u
 top=$(dirname "$(dirname "$(readlink -f "${BASH_SOURCE[0]}")")")
 first_run=()
 read_options=()
+written_option=
 value_options=()
+commands=()
 quiet=
 followed_option=
 # shellcheck source=bin/build.sh
 . "$top/bin/build.sh" || exit 70
+# shellcheck source=bin/hints.sh
+. "$top/bin/hints.sh" || exit 70
 
 say() {
     printf 'bin/%s: %s\n' "$name" "$*" >&2
 }
 
-# Whether an option is followed by the name of a file that the program reads.
-names_a_file() {
-    [[ " ${read_options[*]} " = *" $1 "* ]]
-}
-
-# Whether an option is followed by a value that names no file to read.
-takes_a_value() {
-    [[ " ${value_options[*]} " = *" $1 "* ]]
-}
-
-# Why each of the files that the words name can't be read, for those that can't. It opens none of them.
-find_unreadable() {
-    local word has_options=yes
-    unreadable=()
-    while [ "$#" -gt 0 ]; do
-        word=$1
-        shift
-        case $has_options$word in
-            yes--)
-                has_options=""
-                continue
-                ;;
-            yes--*=*)
-                names_a_file "${word%%=*}" || continue
-                word=${word#*=}
-                ;;
-            yes-?*)
-                if takes_a_value "$word" && [ "$#" -gt 0 ]; then
-                    shift
-                    continue
-                fi
-                if ! names_a_file "$word" || [ "$#" -eq 0 ]; then
-                    continue
-                fi
-                word=$1
-                shift
-                ;;
-        esac
-        if [ ! -e "$word" ]; then
-            unreadable+=("there is no file $word")
-        elif [ -d "$word" ]; then
-            unreadable+=("$word is a folder")
-        elif [ ! -r "$word" ]; then
-            unreadable+=("the file $word may not be read")
-        fi
-    done
-}
-
 # Whether a line of standard error says how long the program has been at work.
 shows_seconds() {
     [ -n "$quiet" ] && [ -t 2 ] && [ "${!quiet:-}" != 1 ]
-}
-
-# The file that the words name by the option that is followed, or nothing.
-followed_file() {
-    [ -n "$followed_option" ] || return
-    while [ "$#" -gt 0 ]; do
-        case $1 in
-            "$followed_option="*)
-                printf '%s' "${1#*=}"
-                return
-                ;;
-            "$followed_option")
-                printf '%s' "${2:-}"
-                return
-                ;;
-        esac
-        shift
-    done
 }
 
 # What part of a file's bytes the program has read, as words behind the seconds. Nothing where that can't be seen.
@@ -112,10 +52,10 @@ part_read() {
 
 # Writes each second over one line of standard error how long the program has been at work, as long as this script lives.
 count_seconds() {
-    local began=$SECONDS file
-    file=$(followed_file "$@")
+    local began=$SECONDS named
+    find_value "$followed_option" "$@"
     while sleep 1 && kill -0 $$ 2>/dev/null; do
-        printf '\r%s: %s seconds%s' "$name" "$((SECONDS - began))" "$(part_read "$file")" >&2
+        printf '\r%s: %s seconds%s' "$name" "$((SECONDS - began))" "$(part_read "$named")" >&2
     done
 }
 
@@ -135,17 +75,40 @@ hand_on() {
     printf '%s' "$line"
 }
 
+# Runs the program, and hands on to it a signal that ends this script; where this script is killed, the system kills the program
+# too, if there is the command setpriv. Its status is that of a shell: 128 and the number of a signal where one ended it.
+run_once() {
+    local child="" signal bound=()
+    ! setpriv --pdeathsig KILL true 2>/dev/null || bound=(setpriv --pdeathsig KILL)
+    for signal in HUP INT QUIT TERM; do
+        # shellcheck disable=SC2064
+        trap "ended_by=$signal; [ -z \"\$child\" ] || kill -s $signal \"\$child\" 2>/dev/null" "$signal"
+    done
+    (
+        trap - HUP INT QUIT TERM
+        exec "${bound[@]}" "$program" "$@"
+    ) <&0 &
+    child=$!
+    # A signal that is caught ends the waiting, and not the program.
+    while :; do
+        wait "$child" 2>/dev/null
+        status=$?
+        kill -0 "$child" 2>/dev/null || break
+    done
+    trap - HUP INT QUIT TERM
+    return "$status"
+}
+
 # Runs the program, and counts the seconds until it prints or ends.
 run_counting() {
     local counting
     count_seconds "$@" &
     counting=$!
     if [ -t 1 ]; then
-        (exec -a "$name" "$program" "$@") | hand_on
+        run_once "$@" | hand_on
         status=${PIPESTATUS[0]}
     else
-        (exec -a "$name" "$program" "$@")
-        status=$?
+        run_once "$@"
     fi
     stop_counting
     wait "$counting" 2>/dev/null
@@ -153,7 +116,7 @@ run_counting() {
 
 # Runs the program of this name on these words, in the caller's folder, and ends with its status.
 run_proved() {
-    local why status unreadable program_crate needed=()
+    local status ended_by="" unreadable named program_crate needed=()
     name=$1
     program_crate=${name}_program
     shift
@@ -162,20 +125,14 @@ run_proved() {
     read_crates
     need "$program_crate"
     is_built || build || exit 70
-    # The program is called by its plain name, whatever the folders above it are called.
     find_unreadable "$@"
+    say_what_waits "$@"
     if shows_seconds; then
         run_counting "$@"
-    elif [ "${#unreadable[@]}" -eq 0 ]; then
-        exec -a "$name" "$program" "$@"
     else
-        (exec -a "$name" "$program" "$@")
-        status=$?
+        run_once "$@"
     fi
-    if [ "$status" -eq 5 ]; then
-        for why in "${unreadable[@]}"; do
-            say "$why"
-        done
-    fi
+    [ -z "$ended_by" ] || kill -s "$ended_by" $$
+    say_what_to_do "$status" "$@"
     exit "$status"
 }

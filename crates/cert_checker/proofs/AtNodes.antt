@@ -16,6 +16,7 @@ use Rattle.branch_marks.specs.MarkTests.{is_fact_of}
 use Rattle.branch_marks.specs.TreeTests.{is_hole}
 use Rattle.cert_checker.specs.Step.{Step, after_leaf, at_node, is_pair_of, next_owed, take_fact, take_hole, take_split}
 use Rattle.cert_checker.specs.State.{OpenLeaf, State, Section, InTree}
+use Rattle.cert_checker.specs.declared.kept_floors.KeptRows.{KeptRows}
 use Rattle.cert_checker.specs.declared.state.Judging.{Judging}
 use Rattle.cert_checker.specs.declared.state.Part.TheVariants.{InTree as PartInTree}
 use Rattle.cert_checker.specs.declared.verdict.Reason.TheVariants.{KnownFact, NotAlive, NotFollowing, OutOfPlace}
@@ -115,10 +116,10 @@ owed_here branches here more owes facts rest =
     ∙ ap (λ (m : List Fact). m ∷ behind_of branches) facts ∙ ap (λ (r : List (List Fact)). here ∷ r) rest
 
 -- the next node that is owed, or that none is
-module _ (book : BookSeen) (state : State) (mid : Judging) (branches : Branches) (after : after_leaf book state ≡ Ok (state_of mid))
+module _ (book : BookSeen) (state : State) (mid : Judging) (branches : Branches) (floors : KeptRows) (after : after_leaf book state ≡ Ok (state_of mid))
     (part : mid.part ≡ PartInTree) (leaf : mid.leaf ≡ None) (owed : owed_of branches ≡ owed_of mid.branches) where
   abbrev next : Judging
-  next = record mid { branches = branches }
+  next = record mid { branches = branches; floors = floors }
 
   same : state_of mid ≡ state_of next
   same = in_tree_is mid part leaf ∙ kept_at_node next (owed_of mid.branches) part leaf owed

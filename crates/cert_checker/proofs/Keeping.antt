@@ -15,10 +15,12 @@ use Rattle.branch_marks.specs.Labels.{Label}
 use Rattle.branch_marks.specs.ProofTree.{zero_duals}
 use Rattle.branch_marks.specs.declared.fact.Fact.{Fact}
 use Rattle.branch_marks.specs.MarkTests.{is_alive}
+use Rattle.cert_checker.specs.declared.kept_floors.KeptRows.{KeptRows}
 use Rattle.cert_checker.specs.declared.state.Judging.{Judging}
 use Rattle.cert_checker.specs.declared.state.OpenLeaf.{OpenLeaf as KeptLeaf}
 use Rattle.cert_checker.specs.declared.state.Part.{Part}
 use Rattle.cert_checker.specs.declared.state.Part.TheVariants.{Start, InTree, InBound, InPlan, Claimed}
+use Rattle.cert_checker.specs.inside.KeptFloors.{AreAllUnder}
 use Rattle.cert_checker.specs.inside.Kept.{IsJudging, IsLeafIn, IsLeafOf, IsPartIn}
 use Rattle.open_branches.specs.declared.branches.Branches.{Branches}
 use Rattle.cert_checker.specs.inside.Buckets.{IsFamilyOf, IsLabelOf, at_in, no_label}
@@ -91,19 +93,19 @@ module _ (book : BookSeen) (marks : List Fact) (duals : List ℤ) (family : List
     zero = rw value is.zero;
   }
 
--- at a node other branches may be kept
-pub at_node_still : (book : BookSeen) (mid : Judging) (branches : Branches) → IsJudging book mid → mid.part ≡ InTree → mid.leaf ≡ None → AreBranchesOf book branches
-    → IsJudging book (record mid { branches = branches })
-at_node_still book mid branches is part leaf of = record {
+-- at a node other branches may be kept, with the floors under their marks
+pub at_node_still : (book : BookSeen) (mid : Judging) (branches : Branches) (floors : KeptRows) → IsJudging book mid → mid.part ≡ InTree → mid.leaf ≡ None
+    → AreBranchesOf book branches → AreAllUnder book branches.marks.facts floors.rows.items → IsJudging book (record mid { branches = branches; floors = floors })
+at_node_still book mid branches floors is part leaf of under = record {
   branches = of;
-  part = in_tree_part book (record mid { branches = branches }) part;
+  part = in_tree_part book (record mid { branches = branches; floors = floors }) part;
   duals = is.duals;
   covers = is.covers;
   values = is.values;
   fliers = is.fliers;
-  leaf = no_leaf book (record mid { branches = branches }) leaf;
+  leaf = no_leaf book (record mid { branches = branches; floors = floors }) leaf;
   starts = is.starts;
-  row = is.row;
+  floors = under;
   width = is.width;
 }
 

@@ -11,6 +11,7 @@ pub mod FollowingTold
 pub mod Growing
 pub mod InLeaf
 pub mod Keeping
+pub mod KeptFloors
 pub mod LeafRuns
 pub mod LineByLine
 pub mod MetWays

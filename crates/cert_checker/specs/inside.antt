@@ -1,6 +1,7 @@
 -- What only proofs, and calls further in, cite.
 pub mod Buckets
 pub mod Kept
+pub mod KeptFloors
 pub mod Leaf
 pub mod Means
 pub mod Pieces

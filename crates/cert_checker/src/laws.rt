@@ -3,6 +3,7 @@
 ghost use Rattle.cert_checker.specs.Certificate.{AcceptedClaimsAreTrue};
 ghost use Rattle.cert_checker.specs.Judged.{FailuresAreNo, FailuresStay, VerdictsAreOfEnds};
 ghost use Rattle.cert_checker.specs.Verdict.{AcceptedIsYes, YesIsAccepted, YesIsTrue};
+ghost use Rattle.cert_checker.specs.inside.KeptFloors.{FloorsBelowStay};
 ghost use Rattle.cert_checker.specs.inside.ToldLines.{FailuresDependOnLines};
 
 use branch_marks::laws::{
@@ -10,6 +11,7 @@ use branch_marks::laws::{
     shown_decides, shown_roots_bound, undecided_decides, undecided_pairs_are_of_book,
 };
 use cert_lines::laws::{read_lines_are_spelled, spelled_lines_are_read, spelled_lines_are_short};
+use floor_rows::laws::{brought_tells, floors_are_least};
 use tail_book::laws::{legal_plan_decides, legal_plans_cost_at_most, own_costs_of_legal_plans};
 
 /// What an accepted certificate claims is true of the book.
@@ -78,3 +80,11 @@ pub fn failures_stay()
 pub fn failures_are_no()
     ensures { FailuresAreNo }
 {}
+
+/// A fact leaves an aircraft its floors at all activities to which it closes no way.
+pub fn floors_below_stay()
+    ensures { FloorsBelowStay }
+{
+    floors_are_least();
+    brought_tells();
+}

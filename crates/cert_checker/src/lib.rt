@@ -7,6 +7,7 @@ mod checker;
 mod claim;
 mod cover;
 mod ends;
+mod kept_floors;
 mod label;
 pub mod laws;
 mod leaf;

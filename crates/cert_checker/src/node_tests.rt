@@ -1,7 +1,8 @@
 //! Whether a fact follows from marks, a pair is undecided, and nobody is alive at an activity.
 //!
 //! A fact is tested for the aircraft and the activities that it names, and for nothing else: a Bar asks for the floors of its
-//! aircraft up to its activity, a Cut for those of each aircraft that may use the link, up to one that goes on over it.
+//! aircraft up to its activity, a Cut for those of each aircraft that may use the link, up to one that goes on over it. Floors
+//! that are kept from the last test are not made again.
 
 ghost use Rattle.std.specs.Prelude.{◌≡◌, ◌<◌, ◌≤◌, ◌↔◌, IsTrue, true, false, length};
 ghost use Rattle.tail_book.specs.Lookup.{activities, aircraft};
@@ -16,15 +17,16 @@ ghost use Rattle.branch_marks.specs.FollowingTests.{follows};
 ghost use Rattle.branch_marks.specs.inside.MarkTables.{AreMarksOf};
 ghost use Rattle.branch_marks.specs.MarkTests.{is_usable};
 ghost use Rattle.branch_marks.specs.TreeTests.{is_hole};
-ghost use Rattle.floor_rows.specs.inside.FloorRow.{IsRowOf};
 ghost use Rattle.floor_rows.specs.inside.LeastOver.{floor_of};
+ghost use Rattle.cert_checker.specs.inside.KeptFloors.{AreAllUnder};
 ghost use Rattle.cert_checker.specs.inside.Means.{AreMeansOf};
 
+use crate::kept_floors::KeptRows;
 use crate::means::Means;
 use branch_marks::laws::follows_decides;
 use branch_marks::{Fact, Marks, Pair};
 use floor_rows::laws::asking_passes_over;
-use floor_rows::{FloorRow, may_go_over, put_floors};
+use floor_rows::may_go_over;
 use tail_book::laws::every_book_is_sound;
 use tail_book::{Book, Place};
 
@@ -35,24 +37,35 @@ fn is_dead(
     marks: &Marks,
     k: u32,
     a: u32,
-    row: &mut FloorRow,
+    kept: &mut KeptRows,
     values: &mut [i64],
 ) -> bool
     requires means { AreMeansOf book.now means.now }
     requires marks { AreMarksOf book.now marks.now }
     requires aircraft { k < aircraft book.now }
     requires activity { a < activities book.now }
-    requires row { IsRowOf book.now row.old }
+    requires kept { AreAllUnder book.now marks.now.facts kept.old.rows.items }
     requires width { length values.old ≡ length book.now.rules.counters }
     ensures means { IsTrue result ↔ IsDead book.now marks.now.facts k a }
-    ensures row { IsRowOf book.now row.new }
+    ensures kept { AreAllUnder book.now marks.now.facts kept.new.rows.items }
 {
     every_book_is_sound(book);
     if !marks.alive(book, k, a) {
         return false;
     }
-    put_floors(book, &means.net, &means.steps, marks, k, a + 1, row, values);
-    floor_rows::is_dead(book, &means.net, &means.steps, marks, k, a, row, values)
+    let i = kept.row_of(k);
+    let floors = &mut kept.rows[i];
+    floors.put(book, means, marks, k, a + 1, values);
+    floor_rows::is_dead(
+        book,
+        &means.net,
+        &means.steps,
+        marks,
+        k,
+        a,
+        &floors.row,
+        values,
+    )
 }
 
 // Whether an aircraft is the only carrier of an activity.
@@ -75,7 +88,7 @@ fn goes_over(
     k: u32,
     a: u32,
     b: u32,
-    row: &mut FloorRow,
+    kept: &mut KeptRows,
     values: &mut [i64],
 ) -> bool
     requires means { AreMeansOf book.now means.now }
@@ -83,15 +96,17 @@ fn goes_over(
     requires aircraft { k < aircraft book.now }
     requires from { a < activities book.now }
     requires to { b < activities book.now }
-    requires row { IsRowOf book.now row.old }
+    requires kept { AreAllUnder book.now marks.now.facts kept.old.rows.items }
     requires width { length values.old ≡ length book.now.rules.counters }
     ensures goes { result ≡ true → ¬ IsDeadConnection book.now marks.now.facts a b }
     ensures cannot { result ≡ false → IsUsable book.now marks.now.facts k (PlaceAfter a) b → CannotGoBy book.now k a b (floor_of book.now marks.now.facts k a) }
-    ensures row { IsRowOf book.now row.new }
+    ensures kept { AreAllUnder book.now marks.now.facts kept.new.rows.items }
 {
     every_book_is_sound(book);
-    put_floors(book, &means.net, &means.steps, marks, k, a + 1, row, values);
-    may_go_over(book, &means.steps, marks, k, a, b, row, values)
+    let i = kept.row_of(k);
+    let floors = &mut kept.rows[i];
+    floors.put(book, means, marks, k, a + 1, values);
+    may_go_over(book, &means.steps, marks, k, a, b, &floors.row, values)
 }
 
 // Whether a link is a dead connection.
@@ -101,17 +116,17 @@ fn is_dead_connection(
     marks: &Marks,
     a: u32,
     b: u32,
-    row: &mut FloorRow,
+    kept: &mut KeptRows,
     values: &mut [i64],
 ) -> bool
     requires means { AreMeansOf book.now means.now }
     requires marks { AreMarksOf book.now marks.now }
     requires from { a < activities book.now }
     requires to { b < activities book.now }
-    requires row { IsRowOf book.now row.old }
+    requires kept { AreAllUnder book.now marks.now.facts kept.old.rows.items }
     requires width { length values.old ≡ length book.now.rules.counters }
     ensures means { IsTrue result ↔ IsDeadConnection book.now marks.now.facts a b }
-    ensures row { IsRowOf book.now row.new }
+    ensures kept { AreAllUnder book.now marks.now.facts kept.new.rows.items }
 {
     asking_passes_over();
     marks.facts_are_of_book(book);
@@ -122,7 +137,7 @@ fn is_dead_connection(
     let mut k = marks.next_alive(book, a, 0);
     while (k as usize) < book.tails.len() {
         if marks.usable(book, k, Place::After(a), b) {
-            if goes_over(book, means, marks, k, a, b, row, values) {
+            if goes_over(book, means, marks, k, a, b, kept, values) {
                 return false;
             }
             used = true;
@@ -138,22 +153,22 @@ pub fn follows(
     means: &Means,
     marks: &Marks,
     fact: Fact,
-    row: &mut FloorRow,
+    kept: &mut KeptRows,
     values: &mut [i64],
 ) -> bool
     requires means { AreMeansOf book.now means.now }
     requires marks { AreMarksOf book.now marks.now }
     requires fact { IsFactOf book.now fact }
-    requires row { IsRowOf book.now row.old }
+    requires kept { AreAllUnder book.now marks.now.facts kept.old.rows.items }
     requires width { length values.old ≡ length book.now.rules.counters }
     ensures tests { result ≡ follows book.now marks.now.facts fact }
-    ensures row { IsRowOf book.now row.new }
+    ensures kept { AreAllUnder book.now marks.now.facts kept.new.rows.items }
 {
     follows_decides();
     match fact {
-        Fact::Bar(k, a) => is_dead(book, means, marks, k, a, row, values),
+        Fact::Bar(k, a) => is_dead(book, means, marks, k, a, kept, values),
         Fact::Must(k, a) => is_only_carrier(book, marks, k, a),
-        Fact::Cut(a, b) => is_dead_connection(book, means, marks, a, b, row, values),
+        Fact::Cut(a, b) => is_dead_connection(book, means, marks, a, b, kept, values),
         Fact::Tie(_, _) => false,
     }
 }

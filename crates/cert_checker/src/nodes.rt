@@ -60,12 +60,13 @@ impl Judging {
             means,
             &self.branches.marks,
             fact,
-            &mut self.row,
+            &mut self.floors,
             &mut self.counters,
         ) {
             return Ok(Some(Reason::NotFollowing));
         }
         self.branches.add(book, fact)?;
+        self.floors.give_up(fact);
         Ok(None)
     }
 
@@ -86,6 +87,7 @@ impl Judging {
             return Ok(Some(Reason::NotAlive));
         }
         self.branches.split(book, pair)?;
+        self.floors.clear();
         Ok(None)
     }
 

@@ -1,5 +1,5 @@
 //! What the checker keeps of the lines that it took: the open branches, the labels of one cover, and nothing of a leaf that is
-//! done but its bound. So its memory is that of the marks and of one cover, however long the certificate.
+//! done but its bound. So its memory is that of the marks, of one cover and of floors, however long the certificate.
 
 ghost use Rattle.std.specs.Prelude.{◌≡◌, ◌==◌, true, false, None, IfOk, Ok, Err};
 ghost use Rattle.tail_book.specs.Lookup.{aircraft};
@@ -10,8 +10,8 @@ ghost use Rattle.cert_checker.specs.declared.verdict.Reason.TheVariants.{OutOfPl
 ghost use Rattle.cert_checker.specs.inside.Kept.{IsJudging, TellsNode, section_in, state_of};
 
 use crate::bound::{bound_of, lower};
+use crate::kept_floors::KeptRows;
 use crate::label::Label;
-use floor_rows::FloorRow;
 use open_branches::Branches;
 use std::alloc::Global;
 use tail_book::laws::every_book_is_sound;
@@ -57,9 +57,9 @@ pub struct Judging {
     pub family: Vec<Label>,
     // The least bound of the leaves so far, in cost units.
     pub low: Option<u128>,
-    // Room for tests: where the labels of each activity begin, floors, and counters.
+    // Room for tests: where the labels of each activity begin, floors that the marks leave aircraft, and counters.
     pub starts: Vec<usize>,
-    pub row: FloorRow,
+    pub floors: KeptRows,
     pub counters: Vec<i64>,
 }
 
@@ -74,7 +74,7 @@ impl Judging {
         let duals = vec![in alloc; 0; n]?;
         let starts = vec![in alloc; 0; n]?;
         let counters = vec![in alloc; 0; c]?;
-        let row = FloorRow::new(alloc, n, c)?;
+        let floors = KeptRows::new(alloc, book)?;
         let branches = Branches::new(alloc, book)?;
         Ok(Judging {
             lines: 0,
@@ -89,7 +89,7 @@ impl Judging {
             family: Vec::new(alloc),
             low: None,
             starts,
-            row,
+            floors,
             counters,
         })
     }
@@ -152,6 +152,7 @@ impl Judging {
     }
 
     /// Goes on to the next node that is owed, and answers whether one may stand here.
+    // Where it is the one that is here, its marks and the floors under them stay.
     pub fn go_to_node(&mut self, book: &Book) -> Result<bool, Memory>
         requires { IsJudging book.now self.old }
         ensures judging { IfOk result (λ _. IsJudging book.now self.new) }
@@ -161,6 +162,11 @@ impl Judging {
         if !done {
             return Ok(false);
         }
+        let here = self.branches.owes;
+        if here {
+            return Ok(true);
+        }
+        self.floors.clear();
         let found = self.branches.next(book)?;
         Ok(found)
     }

@@ -1,6 +1,6 @@
 //! A log that writes the events to a sink, as lines of a certificate.
 //!
-//! Lines wait until there are many, and the sink takes them as one piece: so a file is opened for many lines at once. The log
+//! Lines wait until there are many, and the sink takes them as one piece: so a file is written for many lines at once. The log
 //! tells a list where what the sink took and the lines that wait are together the header's line and the lines of the list.
 //! It is torn where a piece failed: then the sink took a front of these lines and the next.
 

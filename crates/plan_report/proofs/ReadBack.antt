@@ -13,7 +13,7 @@ use Rattle.tail_book.specs.Lookup.{activities, aircraft}
 use Rattle.tail_book.specs.Seen.{BookSeen}
 use Rattle.tail_book.specs.inside.Sound.{IsBook}
 use Rattle.tail_book.specs.declared.outcome.Outcome.TheVariants as outcome
-use Rattle.plan_report.specs.inside.Laws.{HasNoRepeats, ReportIsReadBack, names_from, names_of_plan}
+use Rattle.plan_report.specs.inside.Laws.{HasNoRepeats, RepairedIsReadBack, ReportIsReadBack, names_from, names_of_plan}
 use Rattle.plan_report.specs.Lines.{newline, text_of}
 use Rattle.tail_text.specs.Parts.{parts_of}
 use Rattle.plan_report.specs.TextLines.{lines_of, whole_line}
@@ -91,6 +91,11 @@ costs_parts low high small_low small_high =
     slice_split_at (λ b. b == 32) (decimal low) 32 (decimal high) (decimal_lacks 32 low refl small_low) refl
     ∙ ap (λ (parts : List (List ℕ)). decimal low ∷ parts) (slice_split_none (λ b. b == 32) (decimal high) (decimal_lacks 32 high refl small_high))
 
+-- `repaired` and two numbers; the parts of what stands behind `repaired` are the numbers
+repaired_then : (numbers : List ℕ) (moves cost : ℕ) → parts_of 32 numbers ≡ decimal moves ∷ decimal cost ∷ [] → is_cost (decimal moves) ≡ true → is_cost (decimal cost) ≡ true
+    → is_heading (parts_of 32 (codes "repaired " ++ numbers)) ≡ true
+repaired_then numbers moves cost parts is_moves is_number = rw (parts, is_moves, is_number) refl
+
 -- `limit` and two costs; the parts of what stands behind `limit` are the costs
 limit_then : (costs : List ℕ) (low high : ℕ) → parts_of 32 costs ≡ decimal low ∷ decimal high ∷ [] → is_cost (decimal low) ≡ true → is_cost (decimal high) ≡ true
     → is_heading (parts_of 32 (codes "limit " ++ costs)) ≡ true
@@ -129,3 +134,9 @@ read_back book sound (outcome.Between plan low high nodes) known = λ once small
     (joined_lack (codes "limit ") (costs low high) (text_lacks (codes "limit ") refl) (costs_lack low high small_low small_high))
     (limit_then (costs low high) low high (costs_parts low high small_low small_high) (is_cost-decimal low small_low) (is_cost-decimal high small_high)) refl known once
 read_back book sound (outcome.Above low nodes) known = tt
+
+pub repaired_back : RepairedIsReadBack
+repaired_back book sound plan moves cost known once small_moves small_cost =
+    read_under book sound (codes "repaired " ++ costs moves cost) plan (omega (arith, length-append (codes "repaired ") (costs moves cost), costs_short moves cost small_moves small_cost))
+    (joined_lack (codes "repaired ") (costs moves cost) (text_lacks (codes "repaired ") refl) (costs_lack moves cost small_moves small_cost))
+    (repaired_then (costs moves cost) moves cost (costs_parts moves cost small_moves small_cost) (is_cost-decimal moves small_moves) (is_cost-decimal cost small_cost)) refl known once

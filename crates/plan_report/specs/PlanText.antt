@@ -1,5 +1,5 @@
 -- How a plan file is read, up to its first refusal: its size, its first line, and its later lines one by one.
-use Rattle.std.specs.Prelude.{ℕ, ◌+◌, ◌-◌, Bool, false, ◌&&◌, List, [], ◌∷◌, length, take, drop, slice_index, ◌==◌, nat_le, nat_lt, if◌then◌else◌, Result, Ok, Err, codes}
+use Rattle.std.specs.Prelude.{ℕ, ◌+◌, ◌-◌, Bool, false, ◌&&◌, ◌||◌, List, [], ◌∷◌, length, take, drop, slice_index, ◌==◌, nat_le, nat_lt, if◌then◌else◌, Result, Ok, Err, codes}
 use Rattle.std.specs.List.{list_all}
 use Rattle.std.specs.Result.{is_ok}
 use Rattle.std.specs.Str.{bytes_eq}
@@ -32,10 +32,14 @@ without_mark bytes = if bytes_eq (take 3 bytes) mark then drop 3 bytes else byte
 abbrev pub is_cost : List ℕ → Bool
 is_cost part = is_ok (number_of 18_446_744_073_709_551_615 part)
 
--- `optimal` and a cost, or `limit` and two
+-- the words that two numbers follow: `limit` with two costs, and `repaired` with how many moves and a cost
+abbrev pub takes_two : List ℕ → Bool
+takes_two first = bytes_eq first (codes "limit") || bytes_eq first (codes "repaired")
+
+-- `optimal` and a cost, or one of these and two numbers
 abbrev pub is_heading : List (List ℕ) → Bool
 is_heading (first ∷ cost ∷ []) = bytes_eq first (codes "optimal") && is_cost cost
-is_heading (first ∷ low ∷ high ∷ []) = bytes_eq first (codes "limit") && (is_cost low && is_cost high)
+is_heading (first ∷ low ∷ high ∷ []) = takes_two first && (is_cost low && is_cost high)
 is_heading parts = false
 
 -- the first line says what was found, and a newline ends it

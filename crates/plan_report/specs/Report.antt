@@ -1,5 +1,5 @@
 -- What is printed for an outcome: its first line, and with a plan a line for each aircraft in the book's order.
-use Rattle.std.specs.Prelude.{ℕ, ◌+◌, List, [], ◌∷◌, ◌++◌, codes}
+use Rattle.std.specs.Prelude.{ℕ, ◌+◌, List, [], ◌∷◌, ◌++◌, codes, decimal}
 use Rattle.tail_book.specs.Seen.{BookSeen}
 use Rattle.tail_book.specs.Lookup.{activity_of, tail_of}
 use Rattle.tail_book.specs.Truth.{claim_of}
@@ -25,6 +25,14 @@ aircraft_lines book k (route ∷ routes) = aircraft_line book k route ∷ aircra
 -- what was found, as a claim: the least cost, that no plan is legal, or the bound and the cost of the best plan found
 abbrev pub first_line : Outcome → List ℕ
 first_line outcome = claim_text (claim_of outcome) ++ newline
+
+-- what a repair found: how many activities are moved, and what the plan costs
+abbrev pub repaired_text : ℕ → ℕ → List ℕ
+repaired_text moves cost = codes "repaired " ++ decimal moves ++ (codes " " ++ decimal cost)
+
+-- the first line of a repaired plan
+abbrev pub repaired_line : ℕ → ℕ → List ℕ
+repaired_line moves cost = repaired_text moves cost ++ newline
 
 -- the plan of an outcome, where it has one
 abbrev pub routes_of : Outcome → List (List ℕ)

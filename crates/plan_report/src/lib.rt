@@ -13,5 +13,5 @@ mod writing;
 pub use audit_text::write_audit;
 pub use plan_text::read_plan;
 pub use refused::refusal_line;
-pub use report::{first_line, write_report};
+pub use report::{add_aircraft, first_line, write_report};
 pub use writing::{ReportFail, write_lines};

@@ -8,7 +8,7 @@ ghost use Rattle.tail_book.specs.declared.limits.TheConstants.{ACTIVITY_LIMIT, T
 ghost use Rattle.tail_text.specs.inside.Reading.{Answers};
 ghost use Rattle.tail_text.specs.declared.refusal.Stopped.TheVariants.{Refused};
 ghost use Rattle.plan_report.specs.inside.PlanText.{IsSmallPlan};
-ghost use Rattle.plan_report.specs.PlanText.{ids_in, is_cost, is_first_line, is_heading, line_in, line_of, lines_from, plan_in, plan_of, refused, tail_in, without_mark};
+ghost use Rattle.plan_report.specs.PlanText.{ids_in, is_cost, is_first_line, is_heading, line_in, line_of, lines_from, plan_in, plan_of, refused, tail_in, takes_two, without_mark};
 
 use crate::text_lines::{TextLine, TextLines};
 use std::alloc::Global;
@@ -74,10 +74,17 @@ fn is_heading(parts: &mut Parts<'_>) -> bool
     match (first, low, high, more) {
         (Some(first), Some(cost), None, _) => first == b"optimal".as_slice() && is_cost(cost),
         (Some(first), Some(low), Some(high), None) => {
-            first == b"limit".as_slice() && is_cost(low) && is_cost(high)
+            takes_two(first) && is_cost(low) && is_cost(high)
         }
         _ => false,
     }
+}
+
+// Whether two numbers follow the word: those of a limit, or of a repair.
+fn takes_two(first: &[u8]) -> bool
+    ensures { result ≡ takes_two first.now }
+{
+    first == b"limit".as_slice() || first == b"repaired".as_slice()
 }
 
 fn is_cost(part: &[u8]) -> bool

@@ -62,7 +62,8 @@ pub fn first_line(alloc: Global, outcome: &Outcome) -> Result<Line, Memory>
     Ok(line)
 }
 
-fn add_aircraft(
+/// Adds a line for each aircraft: its name and the ids of what it flies.
+pub fn add_aircraft(
     alloc: Global,
     book: &Book,
     routes: &[Route],

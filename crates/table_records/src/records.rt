@@ -3,7 +3,7 @@
 //! The reader of `csv` takes no record for a header and any number of fields, so what is wrong with a record is for the
 //! table to say. What is left of its errors is want of memory. Behind that, and behind the end, no record is left.
 
-ghost use Rattle.std.specs.Prelude.{◌≡◌, ◌∷◌, [], IfOk};
+ghost use Rattle.std.specs.Prelude.{◌≡◌, ◌∷◌, [], IfOk, IsErr};
 ghost use Rattle.std.specs.Bool.{MatchBool};
 ghost use Rattle.csv.specs.Records.{fields_of};
 ghost use Rattle.table_records.specs.Records.{records_of};
@@ -51,7 +51,8 @@ impl<'a> Records<'a> {
     /// Takes the first record that is left into `fields`, and says whether there was one.
     /// After `Memory` none is left.
     pub fn take(&mut self, fields: &mut Fields) -> Result<bool, Memory>
-        ensures { IfOk result (λ found. MatchBool found (self.old ≡ fields.new ∷ self.new) (self.old ≡ [])) }
+        ensures taken { IfOk result (λ found. MatchBool found (self.old ≡ fields.new ∷ self.new) (self.old ≡ [])) }
+        ensures memory { IsErr result → self.new ≡ [] }
     {
         if self.done {
             return Ok(false);

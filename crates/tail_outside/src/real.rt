@@ -1,6 +1,7 @@
 //! The file system and the standard output. They tell nothing of bytes, and keep no buffer of their own.
 //!
-//! The file that was read last stays open, so that a pipe can be read to its end without going back.
+//! The file that was read last stays open, so that a pipe can be read to its end without going back. So does the one that was
+//! written last: a pipe whose reader sees an end when it is closed is opened once.
 
 ghost use Rattle.std.specs.Prelude.{◌≡◌, ◌≤◌, length, IfOk, IfErr, IsErr, OnOk};
 ghost use Rattle.tail_book.specs.Faults.{HasRisen};
@@ -12,13 +13,14 @@ use std::io::{ErrorKind, Read, Seek, SeekFrom, Write};
 use std::marker::Model;
 use std::{fs, io, rt};
 
-/// Files of the file system. A read goes on in the file that was read last, where it ended there; every other call
-/// opens its file anew.
+/// Files of the file system. A read goes on in the file that was read last, where it ended there, and a piece is added to the
+/// file that was begun or added to last; every other call opens its file anew.
 #[derive(Drop)]
 pub struct RealFiles<R: rt::Files + Drop> {
     alloc: Global,
     runtime: R,
     reading: Option<Reading<R::File>>,
+    writing: Option<Writing<R::File>>,
     read_faults: u64,
     write_faults: u64,
 }
@@ -40,6 +42,7 @@ impl<R: rt::Files + Drop> RealFiles<R> {
             alloc,
             runtime,
             reading: None,
+            writing: None,
             read_faults: 0,
             write_faults: 0,
         }
@@ -57,6 +60,29 @@ impl<R: rt::Files + Drop> RealFiles<R> {
         let count = reading.read(into)?;
         self.reading = Some(reading);
         Ok(count)
+    }
+
+    // Makes the file empty. It stays open for what is added.
+    fn begin_once(&mut self, name: &str) -> io::Result<()>
+        ensures same { self.new ≡ self.old }
+    {
+        self.writing = None;
+        let file = fs::create(&self.runtime, name)?;
+        self.writing = Some(Writing::of(self.alloc, file, name));
+        Ok(())
+    }
+
+    // Adds the piece at the end of the file, which stays open, unless that fails.
+    fn append_once(&mut self, name: &str, piece: &[u8]) -> Result<(), Failed>
+        ensures same { self.new ≡ self.old }
+    {
+        let mut writing = match self.writing.take() {
+            Some(last) if last.is_of(name) => last,
+            _ => Writing::open(self.alloc, &self.runtime, name)?,
+        };
+        write_whole(&mut writing.file, piece)?;
+        self.writing = Some(writing);
+        Ok(())
     }
 }
 
@@ -116,6 +142,48 @@ impl<H: Read + Seek + Drop> Reading<H> {
     }
 }
 
+// A file that is open for writing, at its end.
+#[derive(Drop)]
+struct Writing<H> {
+    file: H,
+    // Nothing where there was no memory for the name: then no piece is added to it.
+    name: Option<String>,
+}
+
+impl<H: Drop> Writing<H> {
+    // This file of this name.
+    fn of(alloc: Global, file: H, name: &str) -> Writing<H> {
+        Writing {
+            file,
+            name: String::from_str(alloc, name).ok(),
+        }
+    }
+
+    // Whether it is the file of this name.
+    fn is_of(&self, name: &str) -> bool {
+        match &self.name {
+            Some(own) => own.as_str() == name,
+            None => false,
+        }
+    }
+
+    // The file of this name, which is made where it isn't there.
+    fn open<R: rt::Files<File = H>>(
+        alloc: Global,
+        runtime: &R,
+        name: &str,
+    ) -> Result<Writing<H>, Failed> {
+        let opened = OpenOptions::new()
+            .append(true)
+            .create(true)
+            .open(runtime, name);
+        match opened {
+            Ok(file) => Ok(Writing::of(alloc, file, name)),
+            Err(_) => Err(Failed),
+        }
+    }
+}
+
 impl<R: rt::Files + Drop> Files for RealFiles<R> {
     ghost use Rattle.std.specs.Prelude.{true, None, refl};
 
@@ -153,8 +221,8 @@ impl<R: rt::Files + Drop> Files for RealFiles<R> {
         ensures counts { self.old.write_faults ≤ self.new.write_faults }
         ensures cause { IsErr result → HasRisen self.old.write_faults self.new.write_faults }
     {
-        match fs::create(&self.runtime, name) {
-            Ok(_file) => Ok(()),
+        match self.begin_once(name) {
+            Ok(()) => Ok(()),
             Err(_) => {
                 self.write_faults = self.write_faults.saturating_add(1);
                 Err(Fault::Failed)
@@ -169,25 +237,13 @@ impl<R: rt::Files + Drop> Files for RealFiles<R> {
         ensures counts { self.old.write_faults ≤ self.new.write_faults }
         ensures cause { IsErr result → HasRisen self.old.write_faults self.new.write_faults }
     {
-        match append_whole(&self.runtime, name, piece) {
+        match self.append_once(name, piece) {
             Ok(()) => Ok(()),
             Err(Failed) => {
                 self.write_faults = self.write_faults.saturating_add(1);
                 Err(Fault::Failed)
             }
         }
-    }
-}
-
-// Writes the piece at the end of the file, which is made where it isn't there.
-fn append_whole<R: rt::Files>(runtime: &R, name: &str, piece: &[u8]) -> Result<(), Failed> {
-    let opened = OpenOptions::new()
-        .append(true)
-        .create(true)
-        .open(runtime, name);
-    match opened {
-        Ok(mut file) => write_whole(&mut file, piece),
-        Err(_) => Err(Failed),
     }
 }
 

@@ -6,3 +6,5 @@ pub mod Holding
 pub mod Lifting
 pub mod TrialRuns
 pub mod TrialWords
+pub mod RepairWords
+pub mod RepairPromised

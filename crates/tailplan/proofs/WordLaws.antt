@@ -1,11 +1,12 @@
 -- What the words mean, whatever the names are. The reading computes for names that are not known: behind two dashes
--- nothing of them is looked at, and without these only that the first sign is no dash. One case is left to a test: the
--- first name may ask for a trial.
-use Rattle.std.proofs.Common.{Bool, true, false, ◌==◌, ◌≡◌, ◌∙◌, ℕ, List, [], ◌∷◌, bytes_eq, Option, Some, None, codes, if◌then◌else◌, refl}
+-- nothing of them is looked at, and without these only that the first sign is no dash. Two cases are left to tests: the
+-- first name may ask for a trial, or for a repair.
+use Rattle.std.proofs.Common.{Bool, true, false, ◌||◌, ◌==◌, ◌≡◌, ◌∙◌, ℕ, List, [], ◌∷◌, bytes_eq, Option, Some, None, codes, if◌then◌else◌, refl}
 use Rattle.std.specs.Prelude.{option_and_then}
 use Rattle.clap.proofs.OnLiterals.{clap_on_literals}
 use Rattle.branch_tree.specs.declared.limit.Limit.TheVariants.{Free}
 use Rattle.run_frame.specs.Words.{matched}
+use Rattle.tailplan.specs.RepairWords.{is_repair}
 use Rattle.tailplan.specs.Tasks.{TaskNamesSeen}
 use Rattle.tailplan.specs.Words.{command, is_trial, names_in, run_of}
 
@@ -35,14 +36,15 @@ plain_matched : (program timetable fleet rules_file : List ℕ) (t f r : ℕ) �
 unfolding clap_on_literals
 plain_matched program timetable fleet rules_file t f r et ef er = rw (et, et, ef, ef, er, er) refl
 
-not_asked : (asks : Bool) (names : Option TaskNamesSeen) → asks ≡ false → (if asks then None else names) ≡ names
-not_asked true names is = absurd (cc is)
-not_asked false names is = refl
+not_asked : (trial repair : Bool) (names : Option TaskNamesSeen) → trial ≡ false → repair ≡ false → (if trial || repair then None else names) ≡ names
+not_asked true repair names is other = absurd (cc is)
+not_asked false true names is other = absurd (cc other)
+not_asked false false names is other = refl
 
--- and they are the names where the first asks for no trial
+-- and they are the names where the first asks for no trial and no repair
 plain_names : (program timetable fleet rules_file : List ℕ) (t f r : ℕ) → (t == 45) ≡ false → (f == 45) ≡ false → (r == 45) ≡ false
-    → bytes_eq (t ∷ timetable) (codes "trial") ≡ false → run_of (program ∷ (t ∷ timetable) ∷ (f ∷ fleet) ∷ (r ∷ rules_file) ∷ []) ≡ named (t ∷ timetable) (f ∷ fleet) (r ∷ rules_file)
+    → bytes_eq (t ∷ timetable) (codes "trial") ≡ false → bytes_eq (t ∷ timetable) (codes "repair") ≡ false → run_of (program ∷ (t ∷ timetable) ∷ (f ∷ fleet) ∷ (r ∷ rules_file) ∷ []) ≡ named (t ∷ timetable) (f ∷ fleet) (r ∷ rules_file)
 unfolding run_of
-plain_names program timetable fleet rules_file t f r et ef er other =
+plain_names program timetable fleet rules_file t f r et ef er no_trial no_repair =
     let words = program ∷ (t ∷ timetable) ∷ (f ∷ fleet) ∷ (r ∷ rules_file) ∷ [] in
-    not_asked (is_trial words) (option_and_then names_in (matched command words)) other ∙ plain_matched program timetable fleet rules_file t f r et ef er
+    not_asked (is_trial words) (is_repair words) (option_and_then names_in (matched command words)) no_trial no_repair ∙ plain_matched program timetable fleet rules_file t f r et ef er

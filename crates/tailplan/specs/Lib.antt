@@ -4,5 +4,10 @@ pub mod Words
 pub mod Answers
 pub mod Kept
 pub mod Promises
+pub mod RepairTexts
+pub mod RepairWords
+pub mod RepairCases
+pub mod RepairAnswers
+pub mod RepairPromises
 pub mod Trials
 pub mod inside

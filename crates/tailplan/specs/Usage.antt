@@ -5,3 +5,7 @@ use Rattle.plan_report.specs.Lines.{newline}
 -- the words that the program takes
 abbrev pub usage_line : List ℕ
 usage_line = codes "usage: tailplan TIMETABLE FLEET RULES [--nodes N] [--cert FILE]" ++ newline
+
+-- the words of a repair
+abbrev pub repair_usage_line : List ℕ
+repair_usage_line = codes "usage: tailplan repair TIMETABLE FLEET RULES PLAN" ++ newline

@@ -1,6 +1,6 @@
 -- The reading of the words: the program's name, and then the names of three tables, how many nodes may be counted, and the
 -- name of the certificate's file; or the word `trial` and a seed.
-use Rattle.std.specs.Prelude.{ℕ, Bool, false, List, [], ◌∷◌, bytes_eq, codes, Option, Some, None, Result, Ok, Err, if◌then◌else◌, option_and_then, option_map}
+use Rattle.std.specs.Prelude.{ℕ, Bool, ◌||◌, false, List, [], ◌∷◌, bytes_eq, codes, Option, Some, None, Result, Ok, Err, if◌then◌else◌, option_and_then, option_map}
 use Rattle.clap.specs.Words.{App, Row, first_of, with_rule}
 use Rattle.tail_text.specs.Number.{number_of}
 use Rattle.tail_text.specs.declared.bad.Bad.{Bad}
@@ -8,6 +8,7 @@ use Rattle.branch_tree.specs.declared.limit.Limit.{Limit}
 use Rattle.branch_tree.specs.declared.limit.Limit.TheVariants.{Free, Nodes}
 use Rattle.run_frame.specs.Words.{matched, optional, tables_command, tables_in}
 use Rattle.seed_tables.specs.declared.trial.TheConstants.{SEED_LIMIT}
+use Rattle.tailplan.specs.RepairWords.{is_repair}
 use Rattle.tailplan.specs.Tasks.{TaskNamesSeen}
 use Rattle.tailplan.specs.declared.words.TheConstants.{NODE_LIMIT}
 
@@ -39,9 +40,9 @@ is_trial [] = false
 is_trial (program ∷ []) = false
 is_trial (program ∷ word ∷ rest) = bytes_eq word (codes "trial")
 
--- the names that the words give; words that the command refuses give none, nor do those that ask for a trial
+-- the names that the words give; words that the command refuses give none, nor do those that ask for a trial or a repair
 unfoldable pub run_of : List (List ℕ) → Option TaskNamesSeen
-run_of words = if is_trial words then None else option_and_then names_in (matched command words)
+run_of words = if is_trial words || is_repair words then None else option_and_then names_in (matched command words)
 
 -- a seed is a number, and any other text is refused
 abbrev pub seeded : Result ℕ Bad → Option ℕ

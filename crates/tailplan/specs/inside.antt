@@ -1,4 +1,5 @@
 -- What only proofs, and calls further in, cite.
+pub mod Repairs
 pub mod Outcomes
 pub mod Tasks
 pub mod Ending

@@ -5,12 +5,17 @@
 mod answer;
 mod answered;
 mod book_plan;
+mod repair_run;
+mod repair_texts;
+mod repair_words;
+mod repaired;
 mod run;
 mod tasks;
 mod trial;
 mod usage;
 mod words;
 
+pub use repair_words::{RepairNames, repair_of};
 pub use run::solve_run;
 pub use trial::{Checker, Judge, Tried, is_accepted, run_trial};
 pub use words::{NODE_LIMIT, TaskNames, run_of, seed_of};

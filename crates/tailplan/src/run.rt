@@ -1,4 +1,5 @@
-//! A whole run: the words, the three tables, the search for a least plan with its certificate, and what is printed; or a trial.
+//! A whole run: the words, the three tables, the search for a least plan with its certificate, and what is printed; or a trial,
+//! or a repair.
 
 ghost use Rattle.std.specs.Prelude.{◌≡◌, ◌≤◌, IfOk, IfSome, IsErr, IsSome, IsTrue, None, Ok, false};
 ghost use Rattle.tail_book.specs.Faults.{HasRisen};
@@ -12,12 +13,16 @@ ghost use Rattle.run_frame.specs.declared.answer.Answer.TheVariants.{ReadFailed}
 ghost use Rattle.tailplan.specs.Answers.{AreRefused, AreSolved, IsTrueAnswer, MayUse, cert_of};
 ghost use Rattle.tailplan.specs.Kept.{FailsByWrite, LeavesCertificate, OnlyCertificate, OnlyReads, WriteHasFailed};
 ghost use Rattle.tailplan.specs.Promises.{JudgesBook, Promise, RefusesTables};
+ghost use Rattle.tailplan.specs.RepairAnswers.{MayReadPlan};
+ghost use Rattle.tailplan.specs.RepairPromises.{JudgesRepair, RefusesTexts};
 ghost use Rattle.tailplan.specs.Trials.{RefusesWords, RunPromise};
 ghost use Rattle.tailplan.specs.Words.{run_of, seed_of};
 ghost use Rattle.tailplan.specs.inside.Ending.{KeepsFiles, LeavesFile};
 
 use crate::answered::{Answered, report};
 use crate::book_plan::planned;
+use crate::repair_run::run_repair;
+use crate::repair_words::is_repair;
 use crate::tasks::Task;
 use crate::trial::{Checker, run_trial};
 use crate::words::{run_of, seed_of};
@@ -28,14 +33,15 @@ use tail_outside::{Files, ReadFail, Sink};
 /// Plans the timetable, the fleet and the rules that the words name: prints a legal plan of least cost, or that no
 /// plan is legal, or, at a limit of nodes, a bound with the best plan found, or why the words or a table are refused. A
 /// certificate is written where the words name a file for it. The files are handed back as they stand. Where the words ask
-/// for a trial it is run, and no file is touched.
+/// for a trial it is run, and no file is touched; where they ask for a repair, files are only read.
 pub fn solve_run<F: Files, S: Sink>(
     alloc: Global,
     words: &[String],
     files: F,
     out: &mut S,
 ) -> Ran<F>
-    requires { MayUse (spelled words.now) (F.shows files) }
+    requires tables { MayUse (spelled words.now) (F.shows files) }
+    requires plan { MayReadPlan (spelled words.now) (F.shows files) }
 
     // What the status says, and the causes of faults.
     ensures promised { RunPromise F.shows S.shows words.now files result.files out.old out.new result.status.0 }
@@ -46,6 +52,8 @@ pub fn solve_run<F: Files, S: Sink>(
     ensures words_refused { RefusesWords (spelled words.now) result.status.0 }
     ensures tables_refused { RefusesTables (spelled words.now) (F.shows files) result.status.0 }
     ensures judged { JudgesBook (spelled words.now) (F.shows files) result.status.0 }
+    ensures texts_refused { RefusesTexts (spelled words.now) (F.shows files) result.status.0 }
+    ensures repaired { JudgesRepair (spelled words.now) (F.shows files) result.status.0 }
 
     // What stays, and what the certificate's file is left with.
     ensures others { OnlyCertificate (cert_of (spelled words.now)) (F.shows files) (F.shows result.files) }
@@ -56,6 +64,9 @@ pub fn solve_run<F: Files, S: Sink>(
     ensures ceases { (S.shows out.new).ceased ≡ false → (S.shows out.old).ceased ≡ false }
     ensures counts { (S.shows out.old).faults ≤ (S.shows out.new).faults }
 {
+    if is_repair(words) {
+        return run_repair(alloc, words, files, out);
+    }
     match seed_of(words) {
         None => run_tables(alloc, words, files, out),
         Some(seed) => Ran {

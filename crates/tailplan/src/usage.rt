@@ -1,12 +1,19 @@
-//! The line that is printed where the words are refused: the words of a run over tables. Those of a trial are not among
-//! them, and it does not say which words were wrong.
+//! The lines that are printed where the words are refused: the words of a run over tables, and where they ask for a repair the
+//! words of that. Those of a trial are not among them, and no line says which words were wrong.
 
 ghost use Rattle.std.specs.Prelude.{◌≡◌};
-ghost use Rattle.tailplan.specs.Usage.{usage_line};
+ghost use Rattle.tailplan.specs.Usage.{repair_usage_line, usage_line};
 
 /// The words that the program takes, as one line.
 pub fn usage_line() -> &'static [u8]
     ensures { result.now ≡ usage_line }
 {
     b"usage: tailplan TIMETABLE FLEET RULES [--nodes N] [--cert FILE]\n"
+}
+
+/// The words of a repair, as one line.
+pub fn repair_usage_line() -> &'static [u8]
+    ensures { result.now ≡ repair_usage_line }
+{
+    b"usage: tailplan repair TIMETABLE FLEET RULES PLAN\n"
 }

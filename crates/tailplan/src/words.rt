@@ -7,6 +7,7 @@ ghost use Rattle.run_frame.specs.Spelled.{spelled};
 ghost use Rattle.tailplan.specs.Words.{command, is_trial, limit_of, names_in, run_of, seed_of};
 ghost use Rattle.tailplan.specs.inside.Tasks.{task_names_seen};
 
+use crate::repair_words::is_repair;
 use branch_tree::Limit;
 use clap::{Arg, ArgMatches, Command};
 use run_frame::{TableNames, matched, tables_command, tables_in, value_of};
@@ -87,13 +88,13 @@ pub fn seed_of(words: &[String]) -> Option<u64>
     }
 }
 
-/// The names of the tables and the limit, or nothing where the words are refused or ask for a trial. The words begin with
-/// the program's name.
+/// The names of the tables and the limit, or nothing where the words are refused or ask for a trial or a repair. The words
+/// begin with the program's name.
 #[tactic(auto, unfolding(crate::specs::Words::run_of))]
 pub fn run_of<'a>(alloc: Global, words: &'a [String]) -> Result<Option<TaskNames<'a>>, Memory>
     ensures { IfOk result (λ names. option_map task_names_seen names ≡ run_of (spelled words.now)) }
 {
-    if is_trial(words) {
+    if is_trial(words) || is_repair(words) {
         return Ok(None);
     }
     match matched(command(alloc)?, words)? {

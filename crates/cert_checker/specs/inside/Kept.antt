@@ -8,7 +8,6 @@ use Rattle.tail_book.specs.declared.claim.Claim.{Claim}
 use Rattle.branch_marks.specs.declared.fact.Fact.{Fact}
 use Rattle.branch_marks.specs.Labels.{Label}
 use Rattle.branch_marks.specs.ProofTree.{zero_duals}
-use Rattle.floor_rows.specs.inside.FloorRow.{IsRowOf}
 use Rattle.cert_checker.specs.Certificate.{claimed_cost}
 use Rattle.cert_checker.specs.Reasons.{has_claimed_plan}
 use Rattle.cert_checker.specs.Step.{Step, after_leaf, at_node, judge_claim}
@@ -23,6 +22,7 @@ use Rattle.cert_checker.specs.declared.verdict.Reason.{Reason}
 use Rattle.cert_checker.specs.declared.verdict.Verdict.{Verdict}
 use Rattle.cert_checker.specs.declared.verdict.Reason.TheVariants.{OutOfPlace}
 use Rattle.cert_checker.specs.inside.Buckets.{IsFamilyOf}
+use Rattle.cert_checker.specs.inside.KeptFloors.{AreAllUnder}
 use Rattle.cert_checker.specs.inside.Means.{AreMeansOf}
 use Rattle.open_branches.specs.Branches.{AreBranchesOf, owed_of}
 
@@ -96,7 +96,7 @@ pub record IsJudging (book : BookSeen) (judging : Judging) : Type 0 where
   pub fliers : length judging.fliers.items ≤ activities book
   pub leaf : IsLeafIn book judging judging.leaf
   pub starts : length judging.starts.items ≡ activities book
-  pub row : IsRowOf book judging.row
+  pub floors : AreAllUnder book judging.branches.marks.facts judging.floors.rows.items
   pub width : length judging.counters.items ≡ length book.rules.counters
 
 -- what was answered to a line, and what is kept, are what the step gives

@@ -12,8 +12,9 @@ use Rattle.plan_audit.specs.Broken.{IsAuditOf}
 use Rattle.plan_audit.specs.declared.broken.Audit.{Audit}
 use Rattle.plan_report.specs.inside.AuditText.{AreOfBook}
 use Rattle.plan_report.specs.PlanText.{plan_in}
-use Rattle.plan_report.specs.inside.Report.{HasPlanFor}
-use Rattle.plan_report.specs.Report.{report}
+use Rattle.plan_report.specs.Lines.{text_of}
+use Rattle.plan_report.specs.inside.Report.{HasPlanFor, IsPlanFor}
+use Rattle.plan_report.specs.Report.{aircraft_lines, repaired_line, report}
 
 -- the law of true outcomes: their plan has one route for each aircraft, of activities of the book
 abbrev pub TrueOutcomesCanBeWritten : Type 0
@@ -44,6 +45,11 @@ IsReadBack book Infeasible = ⊤
 IsReadBack book (Between plan low high nodes) =
     HasNoRepeats book plan → low < 2 ^ 64 → high < 2 ^ 64 → plan_in (report book (Between plan low high nodes)) ≡ Ok (names_of_plan book plan)
 IsReadBack book (Above low nodes) = ⊤
+
+-- the law of repaired plans: one in which no activity stands twice is read as its names under what a repair found
+abbrev pub RepairedIsReadBack : Type 0
+RepairedIsReadBack = (book : BookSeen) → IsBook book → (plan : List (List ℕ)) (moves cost : ℕ) → IsPlanFor book plan → HasNoRepeats book plan
+    → moves < 2 ^ 64 → cost < 2 ^ 64 → plan_in (text_of (repaired_line moves cost ∷ aircraft_lines book 0 plan)) ≡ Ok (names_of_plan book plan)
 
 -- the law of reading back: what is written of an outcome with a plan is read as the names of that plan
 abbrev pub ReportIsReadBack : Type 0

@@ -44,6 +44,17 @@ pub const RATES: Made = (
     30,
 );
 
+// Two flights at once, one back a minute too soon for both of two aircraft.
+const TOO_SOON: Made = (
+    &[
+        THERE,
+        (Task::Flight, (ARN, OSL), (360, 480)),
+        (Task::Flight, (OSL, ARN), (450, 510)),
+    ],
+    &[FIRST, FIRST],
+    31,
+);
+
 // The claim that a certificate shows, or the line and the reason of its first failure.
 type Want = Result<Claim, (u64, u8)>;
 
@@ -205,11 +216,30 @@ const BRANCHES_AND_LOW_SUMS: &[Judged] = &[
     ),
 ];
 
+// Steps of two aircraft by turns, before a split and in both of its branches. In the second one the other aircraft comes to
+// what it may not fly in the first one, and its only way to the second flight is closed by a step.
+const BY_TURNS: &[Judged] = &[
+    (
+        "tailcert 1 3 2 0\nbar 0 2\nsplit fly 0 0\nbar 0 1\nbar 1 2\nhole 2\nbar 1 2\nmust 1 0\nbar 1 1\nhole 2\nclaim infeasible\n",
+        Ok(Claim::Infeasible),
+    ),
+    (
+        "tailcert 1 3 2 0\nbar 0 2\nsplit fly 0 0\nbar 0 1\nbar 1 2\nhole 2\nbar 1 0\n",
+        Err((7, 4)),
+    ),
+    (
+        "tailcert 1 3 2 0\nbar 0 2\nsplit fly 0 0\nbar 0 1\nbar 1 2\nhole 2\nbar 1 2\nbar 1 1\n",
+        Err((8, 4)),
+    ),
+    ("tailcert 1 3 2 0\nbar 0 2\nbar 1 2\nbar 0 1\n", Err((4, 4))),
+];
+
 // What the texts are about, their book, and their verdicts.
 const TEXTS: &[(&str, Made, &[Judged])] = &[
     ("trees without a bound", LATE, WITHOUT_A_BOUND),
     ("nobody covers", NOBODY, NOBODY_COVERS),
     ("branches and low sums", RATES, BRANCHES_AND_LOW_SUMS),
+    ("steps by turns", TOO_SOON, BY_TURNS),
 ];
 
 fn texts() -> &'static [(&'static str, Made, &'static [Judged])] {

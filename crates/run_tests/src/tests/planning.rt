@@ -13,6 +13,7 @@ mod names;
 mod permissions;
 mod plans;
 mod refusals;
+mod repairs;
 mod rooms;
 mod trials;
 mod week;

@@ -5,7 +5,7 @@ ghost use Rattle.tail_outside.specs.inside.Outside.{IsRead, SameOthers, StayCeas
 ghost use Rattle.tail_outside.specs.Outside.{PieceHasFailed, Takes, TakesFront};
 
 use std::alloc::Global;
-use std::io::Write;
+use std::io::{PipeWriter, Read, Write};
 use std::os::fd::AsRawFd;
 use std::process::Abort;
 use std::test::Fail;
@@ -527,6 +527,31 @@ fn a_pipe_is_read_to_its_end(rt: HostRuntime) -> Result<(), Fail> {
     drop(writer);
     let name = format!(in rt.alloc(); "/dev/fd/{}", reader.as_raw_fd())?;
     is_read_to_its_end(&rt, RealFiles::new(rt.alloc(), &rt), &name);
+    Ok(())
+}
+
+// Asks that what is written is added where the file was begun, once nothing else has it open.
+fn is_written_on(
+    rt: &impl Abort,
+    mut real: RealFiles<&HostRuntime>,
+    name: &str,
+    writer: PipeWriter,
+) {
+    assert!(rt; real.begin(name).is_ok());
+    drop(writer);
+    assert!(rt; real.append(name, b"ab").is_ok());
+    assert!(rt; real.append(name, b"c").is_ok());
+}
+
+// A pipe under a name is opened once: its reader sees no end before the files are given up.
+#[test]
+fn a_pipe_is_written_to_its_end(rt: HostRuntime) -> Result<(), Fail> {
+    let (mut reader, writer) = io::pipe(&rt)?;
+    let name = format!(in rt.alloc(); "/dev/fd/{}", writer.as_raw_fd())?;
+    is_written_on(&rt, RealFiles::new(rt.alloc(), &rt), &name, writer);
+    let mut read = [0; 8];
+    assert!(rt; reader.read(&mut read)? == 3 && read.starts_with(b"abc"));
+    assert!(rt; reader.read(&mut read)? == 0);
     Ok(())
 }
 

@@ -9,8 +9,8 @@ use std::alloc::{AllocError, Global};
 use std::process::Abort;
 use std::test::Fail;
 
-// A quick flight and a slow one at the same time, a cheap aircraft and a dear one.
-fn same_time<'a>(judged: &'a [&'a str]) -> Typed<'a> {
+/// A quick flight and a slow one at the same time, a cheap aircraft and a dear one.
+pub fn same_time<'a>(judged: &'a [&'a str]) -> Typed<'a> {
     Typed {
         timetable: &[TIMETABLE, AT_ONCE],
         fleet: &[FLEET, CHEAP_AND_DEAR],
@@ -35,8 +35,8 @@ const NO_AIRCRAFT: Typed<'_> = Typed {
     judged: &[],
 };
 
-// A certificate of the two flights at the same time, made by hand.
-const LEAST: [&str; 14] = [
+/// A certificate of the two flights at the same time, made by hand.
+pub const LEAST: [&str; 14] = [
     "tailcert 1 2 2 0\n",
     "bound\n",
     "dual 0 120000\n",
@@ -53,11 +53,11 @@ const LEAST: [&str; 14] = [
     "claim optimal 240\n",
 ];
 
-// The parts of a certificate, and what is printed of it.
-type Row<'a> = (&'a [&'a str], &'a str);
+/// The parts of a certificate, and what is printed of it.
+pub type Row<'a> = (&'a [&'a str], &'a str);
 
-// Asserts that a certificate is judged so by these tables.
-fn assert_is_judged_so<'a>(
+/// Asserts that a certificate is judged so by these tables.
+pub fn assert_is_judged_so<'a>(
     rt: &impl Abort,
     alloc: Global,
     tables: Typed<'a>,

@@ -29,24 +29,26 @@ fn left_in(alloc: Global, ran: &Ran<MemFiles>, sink: &MemSink) -> Result<Left, F
     Ok(Left { seen, cert })
 }
 
-// What a run by these words over these files leaves.
-fn left_of(alloc: Global, words: &[String], files: MemFiles) -> Result<Left, Fail> {
-    let mut sink = MemSink::new(alloc, Vec::new(alloc))?;
+// What a run by these words over these files leaves, where these calls of the sink fail.
+fn left_of(alloc: Global, words: &[String], files: MemFiles, puts: &[u64]) -> Result<Left, Fail> {
+    let puts = Vec::from_slice(alloc, puts)?;
+    let mut sink = MemSink::new(alloc, puts)?;
     let ran = solve_run(alloc, words, files, &mut sink);
     left_in(alloc, &ran, &sink)
 }
 
-/// The same, where these calls of the files fail.
-pub fn left_by(
+// The same, where these calls of the files fail too.
+fn left_by(
     alloc: Global,
     words: &[&str],
     files: Vec<MemFile>,
-    failing: &[u64],
+    calls: &[u64],
+    puts: &[u64],
 ) -> Result<Left, Fail> {
-    let failing = Vec::from_slice(alloc, failing)?;
-    let files = MemFiles::new(alloc, files, failing)?;
+    let calls = Vec::from_slice(alloc, calls)?;
+    let files = MemFiles::new(alloc, files, calls)?;
     let words = words_of(alloc, words)?;
-    left_of(alloc, &words, files)
+    left_of(alloc, &words, files, puts)
 }
 
 /// A run's words, its records, its aircraft and the rules behind the usual ones.
@@ -71,10 +73,15 @@ fn files_with_old(alloc: Global, asked: &Asked<'_>) -> Result<Vec<MemFile>, Fail
     Ok(files)
 }
 
-/// What it leaves over these, where these calls of the files fail.
-pub fn left_over_old(alloc: Global, asked: &Asked<'_>, failing: &[u64]) -> Result<Left, Fail> {
+/// What it leaves over these, where these calls of the files and of the sink fail.
+pub fn left_over_old(
+    alloc: Global,
+    asked: &Asked<'_>,
+    calls: &[u64],
+    puts: &[u64],
+) -> Result<Left, Fail> {
     let files = files_with_old(alloc, asked)?;
-    left_by(alloc, asked.words, files, failing)
+    left_by(alloc, asked.words, files, calls, puts)
 }
 
 /// The words that ask for a certificate, with a limit of no nodes behind them or not.
@@ -106,7 +113,7 @@ const UNFLOWN: Asked<'_> = Asked {
 
 // Whether a run ends with this status and writes this certificate.
 fn is_written(alloc: Global, asked: &Asked<'_>, status: u8, cert: &str) -> Result<bool, Fail> {
-    let left = left_over_old(alloc, asked, &[])?;
+    let left = left_over_old(alloc, asked, &[], &[])?;
     Ok(left.seen.status == status && left.cert.as_slice() == cert.as_bytes())
 }
 
@@ -136,7 +143,7 @@ fn steps_are_written(rt: HostRuntime) -> Result<(), Fail> {
         &[FLEET, ONE_AT_ARLANDA],
         &[LONGER_TURN],
     )?;
-    let left = left_by(rt.alloc(), CERTIFIED, files, &[])?;
+    let left = left_by(rt.alloc(), CERTIFIED, files, &[], &[])?;
     let cert = b"tailcert 1 2 1 0\nbar 0 1\nmust 0 0\nhole 1\nclaim infeasible\n".as_slice();
     assert!(rt;
         left.seen.is(1, "infeasible\n") && left.cert.as_slice() == cert,
@@ -147,7 +154,7 @@ fn steps_are_written(rt: HostRuntime) -> Result<(), Fail> {
 
 // Whether a run ends with this status and leaves the file as it was.
 fn is_untouched(alloc: Global, asked: &Asked<'_>, status: u8) -> Result<bool, Fail> {
-    let left = left_over_old(alloc, asked, &[])?;
+    let left = left_over_old(alloc, asked, &[], &[])?;
     Ok(left.seen.status == status && left.cert.len() == 4_000)
 }
 
@@ -179,45 +186,69 @@ fn refusals_leave_the_file(rt: HostRuntime) -> Result<(), Fail> {
     Ok(())
 }
 
-// Whether a run of whose calls one fails ends as it may: a failed read leaves the file as it was, and a failed write that, or a
-// front of the certificate, with nothing printed; and else as the whole run.
-fn ends_as_it_may(left: &Left, whole: &Left) -> bool {
-    let same = left.cert.len() == 4_000;
-    match left.seen.status {
-        5 => same && left.seen.printed.is_empty(),
-        6 => left.seen.printed.is_empty() && (same || whole.cert.starts_with(&left.cert)),
-        status => {
-            status == whole.seen.status
-                && left.seen.printed.as_slice() == whole.seen.printed.as_slice()
-                && left.cert.as_slice() == whole.cert.as_slice()
-        }
-    }
+// Whether two runs ended alike and left the same.
+fn are_alike(left: &Left, whole: &Left) -> bool {
+    left.seen.status == whole.seen.status
+        && left.seen.printed.as_slice() == whole.seen.printed.as_slice()
+        && left.cert.as_slice() == whole.cert.as_slice()
 }
 
-// Whether a run of which this call fails ends as it may, with a failed read where it is one of the first six.
+// Whether a run of which this call of the files fails leaves what it may. The first six are reads, and the file is as it was; then
+// it is begun, and after that failure is as it was too; then the header is added, and then all other lines: where one of these fails,
+// the pieces before it are there. Nothing is printed. There is no tenth call.
 fn call_leaves_a_front(
     alloc: Global,
     asked: &Asked<'_>,
     call: u64,
     whole: &Left,
 ) -> Result<bool, Fail> {
-    let left = left_over_old(alloc, asked, &[call])?;
-    Ok(ends_as_it_may(&left, whole) && (left.seen.status == 5) == (call < 7))
+    let left = left_over_old(alloc, asked, &[call], &[])?;
+    if call > 9 {
+        return Ok(are_alike(&left, whole));
+    }
+    let status = if call > 6 { 6 } else { 5 };
+    let kept = if call > 7 {
+        whole.cert.starts_with(&left.cert) && left.cert.len() < whole.cert.len()
+    } else {
+        left.cert.len() == 4_000
+    };
+    Ok(left.seen.is(status, "") && kept)
 }
 
 fn calls_leave_a_front(rt: &impl Abort, alloc: Global, asked: &Asked<'_>) -> Result<(), Fail> {
-    let whole = left_over_old(alloc, asked, &[])?;
-    for call in 1..13 {
+    let whole = left_over_old(alloc, asked, &[], &[])?;
+    for call in 1..11 {
         assert!(rt; call_leaves_a_front(alloc, asked, call, &whole)?, "{call}");
     }
     Ok(())
 }
 
-// Each call of the files fails in turn: six reads, and then the writes.
+// Each call of the files fails in turn.
 #[test]
 fn failed_calls_leave_a_front(rt: HostRuntime) -> Result<(), Fail> {
     for asked in &[UNFLOWN, CROSSED, LIMITED] {
         calls_leave_a_front(&rt, rt.alloc(), asked)?;
+    }
+    Ok(())
+}
+
+// Whether a run of which this call of the sink fails ends so, with its certificate whole.
+fn put_ends_so(alloc: Global, put: u64, status: u8, printed: &str) -> Result<bool, Fail> {
+    let left = left_over_old(alloc, &CROSSED, &[], &[put])?;
+    let whole = left_over_old(alloc, &CROSSED, &[], &[])?;
+    Ok(left.seen.is(status, printed) && left.cert.as_slice() == whole.cert.as_slice())
+}
+
+// Each line is a call of the sink, which holds the lines before the one that fails. The certificate was written before them.
+#[test]
+fn failed_puts_leave_the_certificate(rt: HostRuntime) -> Result<(), Fail> {
+    for &(put, status, printed) in &[
+        (1, 6, ""),
+        (2, 6, "optimal 240\n"),
+        (3, 6, "optimal 240\nA1: F2\n"),
+        (4, 0, "optimal 240\nA1: F2\nA2: F1\n"),
+    ] {
+        assert!(rt; put_ends_so(rt.alloc(), put, status, printed)?, "{put}");
     }
     Ok(())
 }
@@ -242,7 +273,7 @@ pub fn verdict_on(
     rules: &[&str],
 ) -> Result<Verdict, Fail> {
     let files = table_files(alloc, &[TIMETABLE, records], fleet, rules)?;
-    let left = left_by(alloc, CERTIFIED, files, &[])?;
+    let left = left_by(alloc, CERTIFIED, files, &[], &[])?;
     judged(alloc, &[TIMETABLE, records], fleet, rules, &left.cert)
 }
 

@@ -61,8 +61,8 @@ fn end_as_they_may(
 
 // Runs twice, since at most one of the two runs out of memory: the other ends as it has to.
 fn ends_as_it_may(rt: &impl Abort, alloc: Global, due: &Ended<'_>) -> Result<(), Fail> {
-    let first = left_over_old(alloc, &due.asked, &[])?;
-    let second = left_over_old(alloc, &due.asked, &[])?;
+    let first = left_over_old(alloc, &due.asked, &[], &[])?;
+    let second = left_over_old(alloc, &due.asked, &[], &[])?;
     if first.seen.status == NO_MEMORY.0 {
         end_as_they_may(rt, alloc, due, &second, &first)
     } else {

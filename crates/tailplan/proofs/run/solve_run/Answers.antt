@@ -1,8 +1,48 @@
-use Rattle.std.proofs.Common.{◌≡◌, Some, rules}
+use Rattle.std.proofs.Common.{◌≡◌, Some, false, rules, true}
 use Rattle.run_frame.specs.Spelled.{spelled}
+use Rattle.tailplan.specs.RepairWords.{is_repair}
 use Rattle.tailplan.specs.Words.{seed_of}
+use Rattle.tailplan.proofs.RepairWords.{no_refusal as no_refusal_in_repair, no_repair_judged, no_repair_refused, no_touch, no_verdict as no_verdict_in_repair}
 use Rattle.tailplan.proofs.TrialWords.{left_alone, no_refusal, no_verdict}
 use Rattle.tailplan.proofs.run.solve_run.Goals as goal
+
+-- a repair: of tables and of a seed nothing is said
+pub returns-then-is_repair-clause-tables_refused : goal.returns-then-is_repair-clause-tables_refused
+returns-then-is_repair-clause-tables_refused g c =
+    let asks : is_repair (spelled c.args.words.now) ≡ true = search rules in
+    no_refusal_in_repair (spelled c.args.words.now) (g.F.Files.shows c.args.files) c.run_repair.result.status.0 asks
+
+pub returns-then-is_repair-clause-judged : goal.returns-then-is_repair-clause-judged
+returns-then-is_repair-clause-judged g c =
+    let asks : is_repair (spelled c.args.words.now) ≡ true = search rules in
+    no_verdict_in_repair (spelled c.args.words.now) (g.F.Files.shows c.args.files) c.run_repair.result.status.0 asks
+
+pub returns-then-is_repair-clause-untouched : goal.returns-then-is_repair-clause-untouched
+returns-then-is_repair-clause-untouched g c =
+    let asks : is_repair (spelled c.args.words.now) ≡ true = search rules in
+    no_touch (spelled c.args.words.now) _ asks
+
+-- a run over tables: of a repair nothing is said
+pub returns-in-None-clause-texts_refused : goal.returns-in-None-clause-texts_refused
+returns-in-None-clause-texts_refused g c =
+    let other : is_repair (spelled c.args.words.now) ≡ false = search rules in
+    no_repair_refused (spelled c.args.words.now) (g.F.Files.shows c.args.files) c.run_tables.result.status.0 other
+
+pub returns-in-None-clause-repaired : goal.returns-in-None-clause-repaired
+returns-in-None-clause-repaired g c =
+    let other : is_repair (spelled c.args.words.now) ≡ false = search rules in
+    no_repair_judged (spelled c.args.words.now) (g.F.Files.shows c.args.files) c.run_tables.result.status.0 other
+
+-- a trial: of tables and of a repair nothing is said, and no file is touched
+pub returns-in-Some-clause-texts_refused : goal.returns-in-Some-clause-texts_refused
+returns-in-Some-clause-texts_refused g c =
+    let other : is_repair (spelled c.args.words.now) ≡ false = search rules in
+    no_repair_refused (spelled c.args.words.now) (g.F.Files.shows c.args.files) c.run_trial.result.0 other
+
+pub returns-in-Some-clause-repaired : goal.returns-in-Some-clause-repaired
+returns-in-Some-clause-repaired g c =
+    let other : is_repair (spelled c.args.words.now) ≡ false = search rules in
+    no_repair_judged (spelled c.args.words.now) (g.F.Files.shows c.args.files) c.run_trial.result.0 other
 
 pub returns-in-Some-clause-tables_refused : goal.returns-in-Some-clause-tables_refused
 returns-in-Some-clause-tables_refused g c =

@@ -26,6 +26,6 @@ returns-clause-judging c =
       fliers = is.fliers;
       leaf = search (rules, begun_leaf);
       starts = is.starts;
-      row = is.row;
+      floors = is.floors;
       width = is.width;
     }

@@ -1,6 +1,8 @@
-use Rattle.std.proofs.Common.{◌∙◌, Ok, ap, sym, arith}
+use Rattle.std.proofs.Common.{◌∙◌, List, Ok, ap, sym, subst, arith}
 use Rattle.std.proofs.lemmas.Grind.{common_steps}
+use Rattle.branch_marks.specs.declared.fact.Fact.{Fact}
 use Rattle.cert_checker.specs.inside.Kept.{state_of}
+use Rattle.cert_checker.specs.inside.KeptFloors.{AreAllUnder}
 use Rattle.cert_checker.proofs.AtNodes.{fact_known, fact_not_following, fact_out, fact_taken, kept_at_node, no_node, node_here, owed_here}
 use Rattle.cert_checker.proofs.Keeping.{in_tree_part, no_leaf}
 use Rattle.cert_checker.proofs.state.Judging.take_fact.Goals as goal
@@ -32,7 +34,7 @@ returns-clause-step c =
     let added = c.in_ok-add.ensures in
     fact_taken _ _ _ node c.args.fact (sym c.is_of.ensures.tests ∙ c.if-not-is_of.false) (sym c.has.ensures.tests ∙ c.if-has.false)
     (sym c.follows.ensures.tests ∙ c.if-not-follows.false)
-    ∙ ap Ok (kept_at_node (record c.go_to_node.new.self { branches = c.add.new.self }) _ node.part node.leaf (owed_here c.add.new.self _ _ (added.owes ∙ node.owes) added.facts added.behind))
+    ∙ ap Ok (kept_at_node (record c.go_to_node.new.self { branches = c.add.new.self; floors = c.give_up.new.self }) _ node.part node.leaf (owed_here c.add.new.self _ _ (added.owes ∙ node.owes) added.facts added.behind))
 
 pub returns-clause-judging : goal.returns-clause-judging
 returns-clause-judging c =
@@ -42,13 +44,14 @@ returns-clause-judging c =
     let is = c.in_ok-found.ensures.judging in
     record {
       branches = c.in_ok-add.ensures.branches;
-      part = in_tree_part book (record mid { branches = c.add.new.self }) node.part;
+      part = in_tree_part book (record mid { branches = c.add.new.self; floors = c.give_up.new.self }) node.part;
       duals = is.duals;
       covers = is.covers;
       values = is.values;
       fliers = is.fliers;
-      leaf = no_leaf book (record mid { branches = c.add.new.self }) node.leaf;
+      leaf = no_leaf book (record mid { branches = c.add.new.self; floors = c.give_up.new.self }) node.leaf;
       starts = is.starts;
-      row = c.follows.ensures.row;
+      floors = subst (λ (facts : List Fact). AreAllUnder book facts c.give_up.new.self.rows.items) (sym c.in_ok-add.ensures.facts)
+          (c.give_up.ensures book mid.branches.marks.facts c.follows.ensures.kept);
       width = grind (arith, common_steps);
     }

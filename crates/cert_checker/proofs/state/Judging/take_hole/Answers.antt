@@ -30,4 +30,5 @@ returns-clause-judging c =
     let node = node_here c.args.book.now (state_of c.args.self.now) c.go_to_node.new.self c.in_ok-found.found c.in_ok-found.ensures.node c.if-not-found.false in
     let mid = c.go_to_node.new.self in
     let is = c.in_ok-found.ensures.judging in
-    at_node_still c.args.book.now mid (record mid.branches { owes = false }) is node.part node.leaf (owes_alone c.args.book.now mid.branches false is.branches)
+    at_node_still c.args.book.now mid (record mid.branches { owes = false }) mid.floors is node.part node.leaf
+    (owes_alone c.args.book.now mid.branches false is.branches) is.floors

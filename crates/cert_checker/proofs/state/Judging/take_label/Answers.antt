@@ -30,6 +30,6 @@ returns-clause-judging c =
           (label_more book marks old.duals.items old.family.items leaf label here place.0 after refl refl refl refl
           (record { activity = place.1; count = place.2; counters = c.requires.counters }) (sym c.alive.ensures.tests ∙ c.if-not-alive.false));
       starts = is.starts;
-      row = is.row;
+      floors = is.floors;
       width = is.width;
     }

@@ -23,9 +23,12 @@ returns-clause-step c =
     let node = node_here c.args.book.now (state_of c.args.self.now) c.go_to_node.new.self c.in_ok-found.found c.in_ok-found.ensures.node c.if-not-found.false in
     let parted = c.in_ok-split.ensures in
     split_taken _ _ _ node c.args.pair (sym c.is_pair_of.ensures ∙ c.if-not-is_pair_of.false) (sym c.undecided.ensures ∙ c.if-not-undecided.false)
-    ∙ ap Ok (kept_at_node (record c.go_to_node.new.self { branches = c.split.new.self }) _ node.part node.leaf (owed_here c.split.new.self _ _ (parted.owes ∙ node.owes) parted.facts parted.behind))
+    ∙ ap Ok (kept_at_node (record c.go_to_node.new.self { branches = c.split.new.self; floors = c.clear.new.self }) _ node.part node.leaf (owed_here c.split.new.self _ _ (parted.owes ∙ node.owes) parted.facts parted.behind))
 
 pub returns-clause-judging : goal.returns-clause-judging
 returns-clause-judging c =
     let node = node_here c.args.book.now (state_of c.args.self.now) c.go_to_node.new.self c.in_ok-found.found c.in_ok-found.ensures.node c.if-not-found.false in
-    at_node_still c.args.book.now c.go_to_node.new.self c.split.new.self c.in_ok-found.ensures.judging node.part node.leaf c.in_ok-split.ensures.branches
+    let mid = c.go_to_node.new.self in
+    let is = c.in_ok-found.ensures.judging in
+    at_node_still c.args.book.now mid c.split.new.self c.clear.new.self is node.part node.leaf c.in_ok-split.ensures.branches
+    (c.clear.ensures c.args.book.now mid.branches.marks.facts c.split.new.self.marks.facts is.floors)

@@ -1,0 +1,9 @@
+pub mod Layers
+pub mod FactChains
+pub mod PlaceFacts
+pub mod Orders
+pub mod SlotEdits
+pub mod NodesKept
+pub mod SlotPlaces
+pub mod TreesGrown
+pub mod Endings

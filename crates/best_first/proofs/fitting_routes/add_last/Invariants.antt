@@ -1,0 +1,5 @@
+use Rattle.branch_tree.specs.Step.{IsLegalPool}
+use Rattle.best_first.proofs.fitting_routes.add_last.Given as goal
+
+abbrev pub invariant-loop-i : goal.invariant-loop-i
+invariant-loop-i l = IsLegalPool l.table l.book l.to

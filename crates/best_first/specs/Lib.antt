@@ -1,0 +1,5 @@
+pub mod Rank
+pub mod Order
+pub mod BestTree
+pub mod Laws
+pub mod inside

@@ -1,0 +1,5 @@
+-- What only proofs, and calls further in, cite.
+pub mod Links
+pub mod Slots
+pub mod BestParts
+pub mod Visits

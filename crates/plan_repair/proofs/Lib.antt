@@ -1,0 +1,5 @@
+pub mod HomeLemmas
+pub mod RaisedCosts
+pub mod LeastPlans
+pub mod RungLemmas
+pub mod ReportLemmas

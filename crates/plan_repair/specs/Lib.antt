@@ -1,0 +1,5 @@
+pub mod Homes
+pub mod Moves
+pub mod LeastRepair
+pub mod RepairText
+pub mod inside

@@ -1,0 +1,28 @@
+-- A plan of least cost by a table, and one with the fewest moves. For src/least_plans.rt.
+use Rattle.std.specs.Prelude.{ℕ, ◌≡◌, ◌≤◌, List, Option, None, Some}
+use Rattle.tail_book.specs.Seen.{BookSeen}
+use Rattle.tail_book.specs.TableSeen.{CostTableSeen}
+use Rattle.tail_book.specs.Plan.{IsLegalPlan}
+use Rattle.tail_book.specs.Truth.{CostsAtLeastIn, HasNoPlan, IsPlanIn}
+use Rattle.plan_repair.specs.declared.least_plans.LeastPlan.{LeastPlan}
+use Rattle.plan_repair.specs.Moves.{moves}
+
+-- the plan is legal and costs this by the table, and no legal plan costs less
+pub record IsLeastPlan (table : CostTableSeen) (book : BookSeen) (found : LeastPlan) : Type 0 where
+  pub plan : IsPlanIn table book found.cost found.plan
+  pub least : CostsAtLeastIn table book found.cost
+
+-- such a plan was found, or no plan is legal
+abbrev pub IsLeastOrNone : CostTableSeen → BookSeen → Option LeastPlan → Type 0
+IsLeastOrNone table book None = HasNoPlan book
+IsLeastOrNone table book (Some found) = IsLeastPlan table book found
+
+-- every legal plan has at least so many moves
+abbrev pub MovesAtLeast : BookSeen → List (Option ℕ) → ℕ → Type 0
+MovesAtLeast book homes few = (plan : List (List ℕ)) → IsLegalPlan book plan → few ≤ moves homes plan
+
+-- the plan is legal, its cost counts its moves, and no legal plan has fewer
+pub record IsFewest (book : BookSeen) (homes : List (Option ℕ)) (found : LeastPlan) : Type 0 where
+  pub legal : IsLegalPlan book found.plan
+  pub count : moves homes found.plan ≡ found.cost
+  pub least : MovesAtLeast book homes found.cost

@@ -1,0 +1,19 @@
+//! Plan repair: a published plan in which little is moved, made legal again for a book that has changed.
+#![tactic(auto)]
+
+mod answer;
+mod at_home;
+pub mod laws;
+mod least_plans;
+mod moved;
+mod raised;
+mod repairing;
+mod report;
+mod rungs;
+
+pub use answer::Repair;
+pub use at_home::homes;
+pub use moved::moves;
+pub use raised::REPAIR_LIMIT;
+pub use repairing::repair;
+pub use report::write_repair;

@@ -1,0 +1,76 @@
+//! The repair of a plan: the legal plan with the fewest moves that costs least among these.
+//!
+//! It is found by searches over tables in which moves are raised. The published plan itself is where they begin, if it is
+//! still legal.
+
+ghost use Rattle.std.specs.Prelude.{◌≡◌, ◌≤◌, IfOk, IfSome, length};
+ghost use Rattle.tail_book.specs.Lookup.{activities};
+ghost use Rattle.tail_book.specs.Plan.{IsLegalPlan};
+ghost use Rattle.tail_book.specs.CostTable.{costs_of};
+ghost use Rattle.plan_repair.specs.declared.raised.TheConstants.{REPAIR_LIMIT};
+ghost use Rattle.plan_repair.specs.LeastRepair.{IsTrueRepair};
+ghost use Rattle.plan_repair.specs.Moves.{AreHomesFor};
+
+use crate::answer::Repair;
+use crate::rungs::{first_raise, highest, least_at, settled};
+use plan_audit::audit_plan;
+use std::alloc::Global;
+use tail_book::laws::{every_book_is_sound, own_costs_are_for_book};
+use tail_book::{Book, CostTable, Memory, Plan, plan_by};
+
+// Who flies each activity at home: this number where nobody does.
+fn fliers_at_home(alloc: Global, homes: &[Option<u32>], nobody: u32) -> Result<Vec<u32>, Memory>
+    ensures { IfOk result (λ fliers. length fliers.items ≡ length homes.now) }
+{
+    let mut fliers = Vec::with_capacity(alloc, homes.len())?;
+    for home in homes {
+        fliers.push(match home {
+            Some(k) => *k,
+            None => nobody,
+        })?;
+    }
+    Ok(fliers)
+}
+
+// The plan in which all fly what is at home with them, where it is legal: then it moves nothing.
+fn home_plan(
+    alloc: Global,
+    book: &Book,
+    own: &CostTable,
+    homes: &[Option<u32>],
+) -> Result<Option<Plan>, Memory>
+    requires own { own.now ≡ costs_of book.now }
+    requires homes { AreHomesFor book.now homes.now }
+    ensures { IfOk result (λ start. IfSome start (IsLegalPlan book.now)) }
+{
+    every_book_is_sound(book);
+    own_costs_are_for_book();
+    let nobody = book.tails.len() as u32;
+    let fliers = fliers_at_home(alloc, homes, nobody)?;
+    let plan = plan_by(alloc, &fliers, nobody)?;
+    match audit_plan(alloc, book, own, &plan)? {
+        Some(_) => Ok(Some(plan)),
+        None => Ok(None),
+    }
+}
+
+/// Repairs a published plan for a book of at most 1,000 activities, of which it takes the home of each activity: a legal
+/// plan that moves as few of them as can be, and costs as little as it can with these moves, or that no plan is legal.
+pub fn repair(alloc: Global, book: &Book, homes: &[Option<u32>]) -> Result<Repair, Memory>
+    requires few { activities book.now ≤ REPAIR_LIMIT }
+    requires homes { AreHomesFor book.now homes.now }
+    ensures { IfOk result (IsTrueRepair book.now homes.now) }
+{
+    let own = CostTable::of(alloc, book)?;
+    let start = home_plan(alloc, book, &own, homes)?;
+    let raise = first_raise(&own, highest(book));
+    let Some(first) = least_at(alloc, book, &own, homes, raise, start.as_ref())? else {
+        return Ok(Repair::Infeasible);
+    };
+    let best = settled(alloc, book, &own, homes, first, raise)?;
+    Ok(Repair::Done {
+        plan: best.plan,
+        moves: best.moves,
+        cost: best.cost,
+    })
+}
