@@ -12,7 +12,7 @@ ghost use Rattle.branch_marks.specs.declared.fact.Fact.{Fact as MarkFact};
 ghost use Rattle.branch_marks.specs.inside.MarkTables.{AreMarksOf};
 ghost use Rattle.floor_rows.specs.inside.FloorRow.{floor_in, IsRowOf};
 ghost use Rattle.floor_rows.specs.inside.LeastOver.{floor_of};
-ghost use Rattle.cert_checker.specs.inside.KeptFloors.{AreAllUnder, AreFloorsUnder, LeavesBelow};
+ghost use Rattle.cert_checker.specs.inside.KeptFloors.{AreAllUnder, AreFloorsUnder, AreLeftUnder, LeavesBelow};
 ghost use Rattle.cert_checker.specs.inside.Means.{AreMeansOf};
 
 use crate::laws::floors_below_stay;
@@ -190,7 +190,7 @@ impl KeptRows {
 
     /// Gives up what a further fact may change.
     pub fn give_up(&mut self, fact: Fact)
-        ensures { (book : BookSeen) (marks : List MarkFact) → AreAllUnder book marks self.old.rows.items → AreAllUnder book (marks ++ fact ∷ []) self.new.rows.items }
+        ensures { AreLeftUnder fact self.old.rows.items self.new.rows.items }
     {
         for i in 0..self.rows.len() {
             self.rows[i].give_up(fact);

@@ -1,7 +1,7 @@
 //! Rows of one width in chunks of 1,024 rows.
 //!
-//! Row `i` stands in chunk `i / 1024`. A chunk is claimed without being filled and never moves, so nothing is copied where
-//! rows are added, whatever their number. What takes memory is `reserve` alone: a push takes a row's room from what is spare.
+//! The rows fill one chunk after another. What lies behind a chunk's last row is room that nothing has been written to, and no
+//! chunk moves: adding rows copies none of them, whatever their number. Only `reserve` takes memory, and a push uses what it took.
 
 ghost use Rattle.std.specs.Prelude.{◌≡◌, ◌<◌, ◌≤◌, ◌+◌, ◌-◌, ◌*◌, ◌^◌, ◌++◌, ◌∷◌, [], length, take, drop, replicate, IfOk, OnErr, slice_index_or};
 

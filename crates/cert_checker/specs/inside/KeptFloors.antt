@@ -27,6 +27,10 @@ pub record AreAllUnder (book : BookSeen) (marks : List Fact) (rows : List KeptFl
   pub some : 0 < length rows
   pub each : (i : ℕ) → i < length rows → AreFloorsUnder book marks (floors_at rows i)
 
+-- rows that are so are so in turn where one fact more is marked
+abbrev pub AreLeftUnder : Fact → List KeptFloors → List KeptFloors → Type 0
+AreLeftUnder fact old new = (book : BookSeen) (marks : List Fact) → AreAllUnder book marks old → AreAllUnder book (marks ++ fact ∷ []) new
+
 -- the fact closes no way of aircraft k to an activity below n
 abbrev pub LeavesBelow : ℕ → ℕ → Fact → Type 0
 LeavesBelow k n (Bar j a) = j ≡ k → n ≤ a
