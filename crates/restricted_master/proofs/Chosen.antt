@@ -16,7 +16,7 @@ use Rattle.branch_marks.specs.Weights.{dual}
 use Rattle.branch_marks.specs.Pool.{IsLeastIn, LeastInIsLeast}
 use Rattle.restricted_master.specs.Seen.{PoolSeen, RouteListsSeen}
 use Rattle.restricted_master.specs.Pool.{aircraft_at, entry_at}
-use Rattle.restricted_master.specs.Lists.{is_of, has, list_at, numbers_of, in_order}
+use Rattle.restricted_master.specs.Lists.{is_of, has, list_at, numbers_of, in_order, AreListsOf}
 use Rattle.restricted_master.specs.declared.choice.Choice.{Choice}
 use Rattle.restricted_master.specs.inside.Choices.{choice_at, IsSmall, IsSmallChoice, IsSmallWeight}
 use Rattle.restricted_master.specs.inside.Least.{lighter, weight_at, entry_weight, IsAbove, IsChoiceOf, IsFound, IsLeastBelow, IsWeighed}
@@ -76,12 +76,12 @@ module _ (pool : PoolSeen) (numbers : List ℕ) (weights : List ℤ) (dual : ℤ
         ap (λ (c : Choice). c.without) (choice_other choices j k (record { with = with; without = (choice_at choices j).without }) ne) ∙ same k within)
   ]
 
--- one aircraft more is completed
-pub found_more : (P : ℕ → Choice → Type 0) (choices initial : List Choice) (j : ℕ) (new : Choice) → j < length choices
-    → ((k : ℕ) → k < j → P k (choice_at choices k)) → P j new → (k : ℕ) → k < j + 1 → P k (choice_at (set choices j new) k)
-found_more P choices initial j new below found here k lt = elim (cases_eq k j) [
-  | inl e ↦ subst (λ (m : ℕ). P m (choice_at (set choices j new) m)) (sym e) (subst (P j) (sym (choice_set choices j new below)) here)
-  | inr ne ↦ subst (P k) (sym (choice_other choices j k new ne)) (found k (omega (arith, lt, ne)))
+-- what holds of the first so many holds of one more, where it is written there
+pub written_more : {X : Type 0} (P : ℕ → X → Type 0) (xs : List X) (j : ℕ) (new default : X) → j < length xs
+    → ((k : ℕ) → k < j → P k (get_or xs k default)) → P j new → (k : ℕ) → k < j + 1 → P k (get_or (set xs j new) k default)
+written_more P xs j new default below before here k lt = elim (cases_eq k j) [
+  | inl e ↦ subst (λ (m : ℕ). P m (get_or (set xs j new) m default)) (sym e) (subst (P j) (sym (get_or-set_same xs j new default below)) here)
+  | inr ne ↦ subst (P k) (sym (get_or-set_other xs j k new default ne)) (before k (omega (arith, lt, ne)))
 ]
 
 pub rest_more : (choices initial : List Choice) (j : ℕ) (new : Choice) → ((k : ℕ) → j ≤ k → choice_at choices k ≡ choice_at initial k)
@@ -117,13 +117,13 @@ module _ (table : CostTableSeen) (book : BookSeen) (pool : PoolSeen) (lists : Ro
   pub with_all : All (λ i. i < length pool.entries) with_list
   with_all p d lt = subst (λ (i : ℕ). i < length pool.entries) (sym (get_or_default with_list p d 0 lt)) (with_members p lt).0
 
-module _ (table : CostTableSeen) (book : BookSeen) (pool : PoolSeen) (lists : RouteListsSeen) (duals weights values : List ℤ) (k : ℕ)
-    (weighed : IsWeighed table book pool lists duals weights values) (of_book : k < aircraft book) where
+-- the list of an aircraft has exactly its routes
+module _ (pool : PoolSeen) (n m : ℕ) (lists : RouteListsSeen) (k : ℕ) (lists_of : AreListsOf pool n m lists) (of_book : k < m) where
   abbrev own_list : List ℕ
   own_list = list_at lists.by_aircraft k
 
   own_is : own_list ≡ numbers_of pool k
-  own_is = weighed.lists_of.by_aircraft k of_book
+  own_is = lists_of.by_aircraft k of_book
 
   pub own_members : (p : ℕ) → p < length own_list → (get_or own_list p 0 < length pool.entries) × (is_of pool k (get_or own_list p 0) ≡ true)
   own_members p below =
@@ -135,6 +135,8 @@ module _ (table : CostTableSeen) (book : BookSeen) (pool : PoolSeen) (lists : Ro
   pub own_all : All (λ i. i < length pool.entries) own_list
   own_all p d lt = subst (λ (i : ℕ). i < length pool.entries) (sym (get_or_default own_list p d 0 lt)) (own_members p lt).0
 
+module _ (table : CostTableSeen) (book : BookSeen) (pool : PoolSeen) (lists : RouteListsSeen) (duals weights values : List ℤ) (k : ℕ)
+    (weighed : IsWeighed table book pool lists duals weights values) (of_book : k < aircraft book) where
   -- an aircraft's value is the least of its routes' weights
   pub value_least : LeastInIsLeast → IsLeastBelow (length pool.entries) (is_of pool k) (weight_at weights) (Some (value_of values k))
   value_least is_least =
@@ -179,7 +181,7 @@ module _ (is_least : LeastInIsLeast) (table : CostTableSeen) (book : BookSeen) (
       without = elim found.without [
         | inl stays ↦ subst (λ (o : Option ℤ). IsLeastBelow (length pool.entries) (λ i. is_of pool k i && not (has pool a i)) (weight_at weights) o)
             (sym (stays.0 ∙ known)) (kept stays.1)
-        | inr looked ↦ to_numbers (length pool.entries) (list_at lists.by_aircraft k) (is_of pool k) (λ i. not (has pool a i)) (weight_at weights) new.without (own_members table book pool lists duals weights values k weighed of_book) (own_places table book pool lists duals weights values k weighed of_book) looked
+        | inr looked ↦ to_numbers (length pool.entries) (list_at lists.by_aircraft k) (is_of pool k) (λ i. not (has pool a i)) (weight_at weights) new.without (own_members pool (activities book) (aircraft book) lists k weighed.lists_of of_book) (own_places pool (activities book) (aircraft book) lists k weighed.lists_of of_book) looked
       ];
     }
 

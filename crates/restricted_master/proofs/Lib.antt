@@ -6,6 +6,7 @@ mod Members
 mod LeastBelow
 mod PoolLeast
 mod Chosen
+mod OwnLeast
 mod Shifted
 mod PoolSums
 mod Climbing

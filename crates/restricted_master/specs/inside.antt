@@ -6,3 +6,4 @@ pub mod Choices
 pub mod Listing
 pub mod Least
 pub mod Moving
+pub mod Leaps

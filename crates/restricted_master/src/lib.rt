@@ -10,6 +10,7 @@ mod hashing;
 mod index;
 mod kept_numbers;
 pub mod laws;
+mod leaping;
 mod moving;
 mod new_routes;
 mod pool;
@@ -17,6 +18,7 @@ mod pool_add;
 mod pool_duals;
 mod pool_weights;
 mod route_lists;
+mod sums;
 mod switching;
 
 pub use kept_numbers::number_of;

@@ -3,29 +3,34 @@
 //! This is coordinate ascent of the Lagrangian sum over a pool. The sum is a concave function of each dual, and the best
 //! number of one is found exactly (`switching`). Each move gains at least a cost unit, and the sum is bounded over the
 //! box, so it ends. All memory is asked for before the first dual moves.
+//! Where that takes many sweeps, leaps go on along the way of a sweep (`leaping`), and what they end with is swept again.
 //! A look at an activity is a walk over its routes, and over those of the aircraft that take it now. It is looked at
 //! again only where another dual has moved since.
 
-ghost use Rattle.std.specs.Prelude.{◌≡◌, ℕ, ◌<◌, ◌≤ℤ◌, ◌≤◌, ◌-ℤ◌, ◌^◌, pos, true, IfOk, OnErr, length};
+ghost use Rattle.std.specs.Prelude.{◌≡◌, ℕ, ◌<◌, ◌≤ℤ◌, true, IfOk, OnErr, length};
 ghost use Rattle.tail_book.specs.Lookup.{activities, aircraft};
 ghost use Rattle.tail_book.specs.CostTable.{IsTableFor};
-ghost use Rattle.tail_book.specs.Ranges.{IsWithin};
-ghost use Rattle.tail_book.specs.Sums.{total};
 ghost use Rattle.branch_marks.specs.Pool.{sum_in, values_in};
 ghost use Rattle.branch_marks.specs.Settled.{AreDuals, IsSettledOver};
 ghost use Rattle.restricted_master.specs.Pool.{HasRoutes, IsPoolFor};
 ghost use Rattle.restricted_master.specs.Lists.{AreListsOf};
 ghost use Rattle.restricted_master.specs.inside.Least.{AreWeights, IsWeighed};
+ghost use Rattle.restricted_master.specs.inside.Leaps.{IsLeapRoom};
 ghost use Rattle.restricted_master.specs.inside.Moving.{is_due, IsWork, Settles, Sweeps, Visits};
 
 use crate::choice::Choice;
+use crate::leaping::Leap;
 use crate::moving::look_at;
 use crate::pool_weights::weight_of;
+use crate::sums::lagrangian;
 use crate::{Pool, RouteLists, laws};
 use branch_marks::laws::least_in_is_least;
 use std::alloc::Global;
 use tail_book::laws::{every_book_is_sound, every_cost_table_is_sound};
 use tail_book::{Book, CostTable, Duals, Memory};
+
+// From so many sweeps on duals creep, and leaps are worth their time.
+const CREEPING: u64 = 4;
 
 // The weights of all routes.
 fn weigh(
@@ -65,19 +70,6 @@ fn least_values(
         values.push(pool.least(book, table, duals, k as u32).unwrap_or(0))?;
     }
     Ok(values)
-}
-
-// The sum of a list.
-fn total(list: &[i64]) -> i128
-    requires { length list.now ≤ 2 ^ 32 }
-    ensures value { result ≡ total list.now }
-    ensures range { IsWithin (pos 0 -ℤ pos (2 ^ 96)) (pos (2 ^ 96)) result }
-{
-    let mut sum = 0;
-    for i in 0..list.len() {
-        sum += list[i] as i128;
-    }
-    sum
 }
 
 // Marks all activities to be looked at.
@@ -154,6 +146,68 @@ fn sweep(
     moved
 }
 
+// Leaps, and marks all activities where that moves duals.
+fn leap_on(
+    book: &Book,
+    table: &CostTable,
+    pool: &Pool,
+    lists: &RouteLists,
+    duals: &mut [i64],
+    weights: &mut [i64],
+    values: &mut [i64],
+    due: &mut [bool],
+    leap: &mut Leap,
+)
+    requires weighed { IsWeighed table.now book.now pool.now lists.now duals.old weights.old values.old }
+    requires routes { HasRoutes book.now pool.now }
+    requires work { IsWork table.now book.now pool.now.entries duals.old due.old }
+    requires room { IsLeapRoom book.now pool.now leap.old }
+    ensures weighed { IsWeighed table.now book.now pool.now lists.now duals.new weights.new values.new }
+    ensures work { IsWork table.now book.now pool.now.entries duals.new due.new }
+    ensures room { IsLeapRoom book.now pool.now leap.new }
+    ensures no_less { sum_in table.now book.now duals.old pool.now.entries ≤ℤ sum_in table.now book.now duals.new pool.now.entries }
+{
+    if leap.go_on(book, table, pool, lists, duals, weights, values) {
+        mark_all(due);
+    }
+}
+
+// A sweep, and a leap after one that moved a dual, where duals creep. Answers whether the sweep moved one.
+fn round(
+    book: &Book,
+    table: &CostTable,
+    pool: &Pool,
+    lists: &RouteLists,
+    duals: &mut [i64],
+    weights: &mut [i64],
+    values: &mut [i64],
+    choices: &mut [Choice],
+    due: &mut [bool],
+    leap: &mut Leap,
+    creep: bool,
+) -> bool
+    requires weighed { IsWeighed table.now book.now pool.now lists.now duals.old weights.old values.old }
+    requires routes { HasRoutes book.now pool.now }
+    requires each { length choices.old ≡ aircraft book.now }
+    requires work { IsWork table.now book.now pool.now.entries duals.old due.old }
+    requires room { IsLeapRoom book.now pool.now leap.old }
+    ensures weighed { IsWeighed table.now book.now pool.now lists.now duals.new weights.new values.new }
+    ensures work { IsWork table.now book.now pool.now.entries duals.new due.new }
+    ensures room { IsLeapRoom book.now pool.now leap.new }
+    ensures swept { Sweeps table.now book.now pool.now.entries (activities book.now) duals.old duals.new result }
+{
+    leap.begin(book, pool, duals);
+    if !sweep(
+        book, table, pool, lists, duals, weights, values, choices, due,
+    ) {
+        return false;
+    }
+    if creep {
+        leap_on(book, table, pool, lists, duals, weights, values, due, leap);
+    }
+    true
+}
+
 // Sweeps until no dual moves, and answers the sum.
 fn climb(
     book: &Book,
@@ -165,11 +219,13 @@ fn climb(
     values: &mut [i64],
     choices: &mut [Choice],
     due: &mut [bool],
+    leap: &mut Leap,
 ) -> i128
     requires weighed { IsWeighed table.now book.now pool.now lists.now duals.old weights.old values.old }
     requires routes { HasRoutes book.now pool.now }
     requires each { length choices.old ≡ aircraft book.now }
     requires work { IsWork table.now book.now pool.now.entries duals.old due.old }
+    requires room { IsLeapRoom book.now pool.now leap.old }
     ensures settled { IsSettledOver table.now book.now pool.now.entries duals.new }
     ensures sum { result ≡ sum_in table.now book.now duals.new pool.now.entries }
     ensures no_less { sum_in table.now book.now duals.old pool.now.entries ≤ℤ sum_in table.now book.now duals.new pool.now.entries }
@@ -178,12 +234,15 @@ fn climb(
     every_cost_table_is_sound(table);
     laws::sums_are_bounded();
     let mut moved = true;
+    let mut sweeps = 0u64;
     while moved {
-        moved = sweep(
-            book, table, pool, lists, duals, weights, values, choices, due,
+        sweeps = sweeps.saturating_add(1);
+        let creep = sweeps >= CREEPING;
+        moved = round(
+            book, table, pool, lists, duals, weights, values, choices, due, leap, creep,
         );
     }
-    total(duals) + total(values)
+    lagrangian(duals, values)
 }
 
 // Climbs with all activities to be looked at.
@@ -205,8 +264,9 @@ fn climb_all(
     ensures memory { OnErr result (duals.new ≡ duals.old) }
 {
     let mut due = vec![in alloc; true; book.activities.len()]?;
+    let mut leap = Leap::new(alloc, book, pool)?;
     Ok(climb(
-        book, table, pool, lists, duals, weights, values, choices, &mut due,
+        book, table, pool, lists, duals, weights, values, choices, &mut due, &mut leap,
     ))
 }
 

@@ -14,7 +14,7 @@ add_with-requires-clause-numbers c =
     subst (λ (xs : List ℕ). All (λ i. i < length c.args.pool.now.entries) xs) (sym c.with.ensures) (with_all _ _ _ _ _ _ _ c.args.a c.requires.weighed c.requires.activity)
 
 pub complete-requires-clause-numbers : goal.complete-requires-clause-numbers
-complete-requires-clause-numbers c = λ k lt. own_all _ _ _ _ _ _ _ k c.requires.weighed (omega (arith, lt, c.requires.choices, c.start.auto.choices, c.add_with.auto.choices))
+complete-requires-clause-numbers c = λ k lt. own_all _ _ _ _ k c.requires.weighed.lists_of (omega (arith, lt, c.requires.choices, c.start.auto.choices, c.add_with.auto.choices))
 
 -- all weights are small
 pub complete-requires-clause-with : goal.complete-requires-clause-with

@@ -1,40 +1,41 @@
-use Rattle.std.proofs.Common.{◌∙◌, ap, pos, arith}
+use Rattle.std.proofs.Common.{◌≡◌, ◌∙◌, pos, arith, rules, to_z, of_z}
 use Rattle.std.proofs.lemmas.Int.{ints}
+use Rattle.std.specs.Int.{w128}
 use Rattle.tail_book.specs.Lookup.{activities}
-use Rattle.tail_book.specs.Sums.{total}
 use Rattle.branch_marks.specs.Pool.{sum_in}
 use Rattle.restricted_master.specs.inside.Least.{greatest_sum}
 use Rattle.restricted_master.proofs.Climbing.{room_falls, some_is, sweeps_false, sweeps_no_less, sweeps_same_sum, sweeps_true}
-use Rattle.restricted_master.proofs.PoolLeast.{values_are}
+use Rattle.restricted_master.proofs.OwnLeast.{sum_is}
 use Rattle.restricted_master.proofs.pool_duals.climb.Goals as goal
 
 -- each sweep but the last leaves less up to the bound
 pub loop-moved-smaller : goal.loop-moved-smaller
 loop-moved-smaller c =
     room_falls (pos (greatest_sum c.args.book.now)) (sum_in c.args.table.now c.args.book.now c.loop-moved.duals c.args.pool.now.entries)
-    (sum_in c.args.table.now c.args.book.now c.sweep-moved.new.duals c.args.pool.now.entries) c.loop-moved.moved c.sweep-moved.result c.loop-moved-test.true
+    (sum_in c.args.table.now c.args.book.now c.round-moved.new.duals c.args.pool.now.entries) c.loop-moved.moved c.round-moved.result c.loop-moved-test.true
     (c.sums_are_bounded.ensures _ _ _ _ _ _ _ c.every_cost_table_is_sound.ensures c.loop-moved.invariant.weighed)
-    (c.sums_are_bounded.ensures _ _ _ _ _ _ _ c.every_cost_table_is_sound.ensures c.sweep-moved.ensures.weighed)
-    (sweeps_true c.args.table.now c.args.book.now c.args.pool.now.entries (activities c.args.book.now) c.loop-moved.duals c.sweep-moved.new.duals c.sweep-moved.result c.sweep-moved.ensures.swept) (sweeps_same_sum c.args.table.now c.args.book.now c.args.pool.now.entries (activities c.args.book.now) c.loop-moved.duals c.sweep-moved.new.duals c.sweep-moved.result c.sweep-moved.ensures.swept)
+    (c.sums_are_bounded.ensures _ _ _ _ _ _ _ c.every_cost_table_is_sound.ensures c.round-moved.ensures.weighed)
+    (sweeps_true c.args.table.now c.args.book.now c.args.pool.now.entries (activities c.args.book.now) c.loop-moved.duals c.round-moved.new.duals c.round-moved.result c.round-moved.ensures.swept) (sweeps_same_sum c.args.table.now c.args.book.now c.args.pool.now.entries (activities c.args.book.now) c.loop-moved.duals c.round-moved.new.duals c.round-moved.result c.round-moved.ensures.swept)
 
 pub loop-moved-preserved : goal.loop-moved-preserved
 loop-moved-preserved c =
-    let more = sweeps_no_less c.args.table.now c.args.book.now c.args.pool.now.entries (activities c.args.book.now) c.loop-moved.duals c.sweep-moved.new.duals c.sweep-moved.result c.sweep-moved.ensures.swept in
+    let more = sweeps_no_less c.args.table.now c.args.book.now c.args.pool.now.entries (activities c.args.book.now) c.loop-moved.duals c.round-moved.new.duals c.round-moved.result c.round-moved.ensures.swept in
     let so_far = c.loop-moved.invariant.no_less in
     record {
-      each = c.sweep-moved.auto.choices ∙ c.loop-moved.invariant.each;
-      weighed = c.sweep-moved.ensures.weighed;
-      work = c.sweep-moved.ensures.work;
+      each = c.round-moved.auto.choices ∙ c.loop-moved.invariant.each;
+      weighed = c.round-moved.ensures.weighed;
+      work = c.round-moved.ensures.work;
+      room = c.round-moved.ensures.room;
       no_less = omega (arith, ints, so_far, more);
-      done = λ e. (sweeps_false c.args.table.now c.args.book.now c.args.pool.now.entries (activities c.args.book.now) c.loop-moved.duals c.sweep-moved.new.duals c.sweep-moved.result c.sweep-moved.ensures.swept e).1;
+      done = λ e. (sweeps_false c.args.table.now c.args.book.now c.args.pool.now.entries (activities c.args.book.now) c.loop-moved.duals c.round-moved.new.duals c.round-moved.result c.round-moved.ensures.swept e).1;
     }
 
--- the sums fit
-pub total-requires : goal.total-requires
-total-requires c = omega (arith, c.loop-moved.invariant.weighed.duals_of.one_each, c.every_book_is_sound.ensures.few_activities)
+-- the sum fits
+pub lagrangian-requires-clause-duals : goal.lagrangian-requires-clause-duals
+lagrangian-requires-clause-duals c = omega (arith, c.loop-moved.invariant.weighed.duals_of.one_each, c.every_book_is_sound.ensures.few_activities)
 
-pub total-requires-2 : goal.total-requires-2
-total-requires-2 c = omega (arith, c.loop-moved.invariant.weighed.values_of.each, c.every_book_is_sound.ensures.few_tails)
+pub lagrangian-requires-clause-values : goal.lagrangian-requires-clause-values
+lagrangian-requires-clause-values c = omega (arith, c.loop-moved.invariant.weighed.values_of.each, c.every_book_is_sound.ensures.few_tails)
 
 pub returns-clause-settled : goal.returns-clause-settled
 returns-clause-settled c = record {
@@ -45,7 +46,6 @@ returns-clause-settled c = record {
 
 pub returns-clause-sum : goal.returns-clause-sum
 returns-clause-sum c =
-    let one = c.total.ensures.value in
-    let two = c.total-2.ensures.value in
-    let same = ap total (values_are c.args.table.now c.args.book.now c.args.pool.now c.loop-moved.duals c.loop-moved.values c.loop-moved.invariant.weighed.values_of) in
-    omega (arith, ints, one, two, same, c.total.ensures.range, c.total-2.ensures.range)
+    let read : to_z w128 (of_z w128 c.lagrangian.result) ≡ c.lagrangian.result = search rules in
+    read ∙ c.lagrangian.ensures
+    ∙ sum_is c.args.table.now c.args.book.now c.args.pool.now c.loop-moved.duals c.loop-moved.values c.loop-moved.invariant.weighed.values_of

@@ -3,6 +3,7 @@ use Rattle.std.specs.Prelude.{if◌then◌else◌}
 use Rattle.tail_book.specs.Lookup.{activities, aircraft}
 use Rattle.branch_marks.specs.Bound.{bound_of}
 use Rattle.branch_marks.specs.Pool.{sum_in}
+use Rattle.restricted_master.specs.inside.Leaps.{IsLeapRoom}
 use Rattle.restricted_master.specs.inside.Least.{greatest_sum, IsWeighed}
 use Rattle.restricted_master.specs.inside.Moving.{IsSettledAt, IsWork}
 use Rattle.restricted_master.proofs.pool_duals.climb.Given as goal
@@ -13,6 +14,7 @@ invariant-loop-moved l = record {
   each : length l.choices ≡ aircraft l.book;
   weighed : IsWeighed l.table l.book l.pool l.lists l.duals l.weights l.values;
   work : IsWork l.table l.book l.pool.entries l.duals l.due;
+  room : IsLeapRoom l.book l.pool l.leap;
   no_less : sum_in l.table l.book l.initial.duals l.pool.entries ≤ℤ sum_in l.table l.book l.duals l.pool.entries;
   done : l.moved ≡ false → (a : ℕ) → a < activities l.book → IsSettledAt l.table l.book l.pool.entries l.duals a;
 }

@@ -1,7 +1,7 @@
 use Rattle.std.proofs.Common.{◌≡◌, ◌+ℤ◌, ◌-ℤ◌, ◌*◌, ◌^◌, pos, drop}
 use Rattle.tail_book.specs.Ranges.{IsWithin}
 use Rattle.tail_book.specs.Sums.{total}
-use Rattle.restricted_master.proofs.pool_duals.total.Given as goal
+use Rattle.restricted_master.proofs.sums.total.Given as goal
 
 -- what is left is missing; and each number adds at most 2^63
 abbrev pub invariant-loop-i : goal.invariant-loop-i

@@ -3,7 +3,7 @@ use Rattle.std.proofs.lemmas.Int.{ints}
 use Rattle.std.proofs.lemmas.List.{drop_more}
 use Rattle.std.specs.Int.{w128}
 use Rattle.tail_book.specs.Sums.{total}
-use Rattle.restricted_master.proofs.pool_duals.total.Goals as goal
+use Rattle.restricted_master.proofs.sums.total.Goals as goal
 
 added : (list : List ℤ) (i : ℕ) (sum : ℤ) → i < length list → (sum +ℤ total (drop i list)) ≡ total list
     → ((sum +ℤ get_or list i (pos 0)) +ℤ total (drop (i + 1) list)) ≡ total list
