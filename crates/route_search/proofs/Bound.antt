@@ -15,7 +15,7 @@ use Rattle.tail_book.specs.inside.Sound.{IsBook}
 use Rattle.branch_marks.specs.declared.fact.Fact.{Fact}
 use Rattle.branch_marks.specs.inside.Fitting.{FitsIsUsableToItsEnd}
 use Rattle.branch_marks.specs.Marks.{Fits, FitsFrom, MayEnd}
-use Rattle.branch_marks.specs.Weights.{arc_weight, weight, weight_from, WeightIsAlong, IsRouteOfWeight}
+use Rattle.branch_marks.specs.Weights.{arc_weight, weight, weight_from, WeightIsAlong, IsLeastWeight, IsRouteOfWeight}
 use Rattle.label_store.specs.Seen.{StoreSeen}
 use Rattle.label_store.specs.Buckets.{row_at}
 use Rattle.pricing.specs.declared.end.RouteEnd.{RouteEnd}
@@ -26,6 +26,8 @@ use Rattle.pricing.specs.inside.WeightRange.{IsSmall}
 use Rattle.pricing.specs.inside.Truth.{first_row, AreTrue}
 use Rattle.pricing.proofs.Families.{row_at_most}
 use Rattle.route_search.specs.declared.end.Ends.{Ends}
+use Rattle.route_search.specs.LeastWithin.{IsFoundWithin}
+use Rattle.route_search.specs.declared.least_within.LeastWithin.{LeastWithin}
 use Rattle.route_search.specs.declared.least_within.LeastWithin.TheVariants.{Best, NoneWithin}
 use Rattle.route_search.specs.inside.Ends.{IsEndLimit, AreEnds}
 use Rattle.route_search.specs.inside.Laws.{BestOrNoneWithin, FittingRestsAreSmall, IsClamped, ClampedCutsFindTheSame}
@@ -70,6 +72,9 @@ beyond cut w lt = omega (arith, ints, lt)
 
 lower_yet : (value limit w : ℤ) → value ≤ℤ limit → limit <ℤ w → value ≤ℤ w
 lower_yet value limit w le lt = omega (arith, ints, le, lt)
+
+not_beyond : (value limit : ℤ) → value ≤ℤ limit → (limit +ℤ pos 1) ≤ℤ value → ⊥
+not_beyond value limit le lt = absurd (omega (arith, ints, le, lt))
 
 chain : (value limit cut : ℤ) → value ≤ℤ limit → limit ≤ℤ cut → value ≤ℤ cut
 chain value limit cut le most = omega (arith, ints, le, most)
@@ -188,3 +193,12 @@ same small along table book marks k duals cut clamped NoneWithin sound sound_tab
     clamped_beyond (weight table book k duals route) cut clamped is
     (subst IsSmall (sym (along table book k duals route)) (small table book marks k duals Carry route sound sound_table for_book in_box fits))
     (found route legal fits)
+
+-- where the least weight is within a nearer cut, what is found within that is what is found within the cut
+pub as_far : (table : CostTableSeen) (book : BookSeen) (marks : List Fact) (k : ℕ) (duals : List ℤ) (value near cut : ℤ)
+    → IsLeastWeight table book marks k duals value → value ≤ℤ near → near ≤ℤ cut → (found : LeastWithin)
+    → IsFoundWithin table book marks k duals near found → IsFoundWithin table book marks k duals cut found
+as_far table book marks k duals value near cut least le more (Best other route) found = (found.0, found.1, chain other near cut found.2 more)
+as_far table book marks k duals value near cut least le more NoneWithin found =
+    let (route, one) = least.attained in
+    absurd (not_beyond value near le (subst (λ (w : ℤ). (near +ℤ pos 1) ≤ℤ w) one.weighs (found route one.legal one.fits)))

@@ -1,7 +1,8 @@
 -- Completions: of the rests that begin with an activity the least is what the link adds and the least behind that activity, and
--- with one activity more to begin with the least is the lesser of the two.
-use Rattle.std.proofs.Common.{◌≡◌, ℕ, ℤ, ◌+ℤ◌, ◌≤ℤ◌, ◌+◌, ◌<◌, arith, inl, inr, ◌⊎◌, List, [], ◌∷◌, Option, None, Some, sym, ◌∙◌, ap, subst}
-use Rattle.std.specs.Prelude.{slice_index_or, int_lt}
+-- with one activity more to begin with the least is the lesser of the two. A connection costs nothing or more, so where what an
+-- activity adds and the least behind it are no less than the least so far, no rest that begins with it is lighter.
+use Rattle.std.proofs.Common.{◌≡◌, ℕ, ℤ, ◌+ℤ◌, ◌-ℤ◌, ◌≤ℤ◌, ◌+◌, ◌*◌, ◌<◌, arith, inl, inr, ◌⊎◌, List, [], ◌∷◌, Option, None, Some, sym, ◌∙◌, ap, subst}
+use Rattle.std.specs.Prelude.{pos, slice_index_or, int_lt}
 use Rattle.std.specs.Int.{int_min}
 use Rattle.std.proofs.lemmas.Bool.{cases_lt}
 use Rattle.std.proofs.lemmas.Int.{ints, clamps}
@@ -9,17 +10,18 @@ use Rattle.tail_book.specs.Seen.{BookSeen}
 use Rattle.tail_book.specs.TableSeen.{CostTableSeen}
 use Rattle.tail_book.specs.declared.place.Place.{Place}
 use Rattle.tail_book.specs.declared.place.Place.TheVariants.{After}
-use Rattle.tail_book.specs.CostTable.{IsCostTable, IsTableFor}
+use Rattle.tail_book.specs.CostTable.{IsCostTable, IsTableFor, cost_unit, activity_cost_in, connection_cost_in}
 use Rattle.tail_book.specs.inside.Sound.{IsBook}
 use Rattle.tail_book.proofs.Picked.{picked}
 use Rattle.branch_marks.specs.declared.fact.Fact.{Fact}
 use Rattle.branch_marks.specs.Marks.{IsUsable, FitsFrom}
 use Rattle.branch_marks.specs.Settled.{AreDuals}
-use Rattle.branch_marks.specs.Weights.{arc_weight, weight_from}
+use Rattle.branch_marks.specs.Weights.{arc_weight, dual, weight_from}
 use Rattle.pricing.specs.inside.WeightRange.{IsSmall}
 use Rattle.route_search.specs.declared.completion.Way.{Way}
-use Rattle.route_search.specs.inside.Completion.{BeginsAmong, IsAttained, IsLeastAmong, IsCompletion, IsWay, IsWayOrNone, lesser_weight, least_of}
+use Rattle.route_search.specs.inside.Completion.{BeginsAmong, IsAttained, IsBehind, IsLeastAmong, IsCompletion, IsNoLess, IsWay, IsWayOrNone, lesser_weight, least_of}
 use Rattle.route_search.specs.inside.Laws.{FittingRestsAreSmall}
+use Rattle.route_search.specs.inside.Task.{IsAdded}
 
 more_on_left : (arc low rest : ℤ) → low ≤ℤ rest → (arc +ℤ low) ≤ℤ (arc +ℤ rest)
 more_on_left arc low rest le = omega (arith, ints, le)
@@ -30,7 +32,29 @@ least_low w one other le = omega (arith, ints, clamps, le)
 least_other : (w one other : ℤ) → other ≤ℤ w → int_min one other ≤ℤ w
 least_other w one other le = omega (arith, ints, clamps, le)
 
+connections_add : (activity connection : ℕ) (d : ℤ) → (pos (cost_unit * activity) -ℤ d) ≤ℤ (pos (cost_unit * (activity + connection)) -ℤ d)
+connections_add activity connection d = omega (arith, ints)
+
+both_no_less : (added arc rest behind : ℤ) → added ≤ℤ arc → rest ≤ℤ behind → (added +ℤ rest) ≤ℤ (arc +ℤ behind)
+both_no_less added arc rest behind le more = omega (arith, ints, le, more)
+
+no_less_yet : (low sum all : ℤ) → low ≤ℤ sum → sum ≤ℤ all → low ≤ℤ all
+no_less_yet low sum all le more = omega (arith, ints, le, more)
+
 module _ (table : CostTableSeen) (book : BookSeen) (marks : List Fact) (k : ℕ) (duals : List ℤ) where
+  -- what an activity adds is at most what it adds over any link
+  added_at_most : (x : Place) (b : ℕ) (added : ℤ) → IsAdded table k duals b added → added ≤ℤ arc_weight table book k duals x b
+  added_at_most x b added is = subst (λ (z : ℤ). z ≤ℤ arc_weight table book k duals x b) (sym is.value)
+      (connections_add (activity_cost_in table k b) (connection_cost_in table book k x b) (dual duals b))
+
+  -- so it is, with the least behind it, at most what a rest weighs that begins with it
+  pub least_through : (x : Place) (b : ℕ) (added low : ℤ) → IsAdded table k duals b added → IsBehind table book marks k duals b (Some low)
+      → IsUsable book marks k x b → (rest : List ℕ) → FitsFrom book marks k (After b) rest
+      → (added +ℤ low) ≤ℤ (arc_weight table book k duals x b +ℤ weight_from table book k duals (After b) rest)
+  least_through x b added low is behind usable rest fits =
+      both_no_less added (arc_weight table book k duals x b) low (weight_from table book k duals (After b) rest)
+      (added_at_most x b added is) ((behind usable.after).0 rest fits)
+
   -- a rest behind b is one from x on that begins with b
   attained_through : (x : Place) (b : ℕ) (low : ℤ) → IsUsable book marks k x b → IsAttained table book marks k duals (After b) low
       → IsAttained table book marks k duals x (arc_weight table book k duals x b +ℤ low)
@@ -101,6 +125,20 @@ module _ (table : CostTableSeen) (book : BookSeen) (marks : List Fact) (k : ℕ)
         (λ rest begins fits. least_low (weight_from table book k duals x rest) low way.least (among.0 rest begins fits))
         (λ rest fits. least_other (weight_from table book k duals x (slice_index_or firsts i 0 ∷ rest)) low way.least (here.least rest fits.1)),
     lesser_attained x low way.least among.1 here.attained,
+  )
+
+  -- with one activity more to begin with it stays the least, where that one is no lighter
+  pub among_no_less : (x : Place) (firsts : List ℕ) (i b : ℕ) (added : ℤ) (rest least : Option ℤ) → IsAdded table k duals b added
+      → IsBehind table book marks k duals b rest → IsNoLess added rest least → slice_index_or firsts i 0 ≡ b
+      → IsLeastAmong table book marks k duals x firsts i least → IsLeastAmong table book marks k duals x firsts (i + 1) least
+  among_no_less x firsts i b added None least is behind no_less at among = absurd no_less
+  among_no_less x firsts i b added (Some rest) None is behind no_less at among = absurd no_less
+  among_no_less x firsts i b added (Some rest) (Some low) is behind no_less at among = (
+    with_next (λ (tail : List ℕ). FitsFrom book marks k x tail → low ≤ℤ weight_from table book k duals x tail) firsts i among.0
+        (λ tail. subst (λ (a : ℕ). FitsFrom book marks k x (a ∷ tail) → low ≤ℤ weight_from table book k duals x (a ∷ tail)) (sym at)
+        (λ fits. no_less_yet low (added +ℤ rest) (weight_from table book k duals x (b ∷ tail)) no_less
+        (least_through x b added rest is behind fits.0 tail fits.1))),
+    among.1,
   )
 
   all_begin : (x : Place) (firsts : List ℕ) (i : ℕ) → ((b : ℕ) → IsUsable book marks k x b → (q : ℕ) × (q < i) × (slice_index_or firsts q 0 ≡ b))

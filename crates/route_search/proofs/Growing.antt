@@ -2,7 +2,7 @@
 -- that what it gives is covered, passes a limit of a counter, or is past the limit of weight; covered stays covered,
 -- and the limit only falls, so what was tried stays tried. An activity's bucket is done once all that may come next was
 -- tried from each of its rows, and those rows are still what they were.
-use Rattle.std.proofs.Common.{◌≡◌, ℕ, ℤ, ◌+ℤ◌, ◌-ℤ◌, ◌≤ℤ◌, ◌<ℤ◌, suc, ◌+◌, ◌<◌, ◌≤◌, arith, inl, inr, List, length, get_or, sym, subst}
+use Rattle.std.proofs.Common.{◌≡◌, ℕ, ℤ, ◌+ℤ◌, ◌-ℤ◌, ◌≤ℤ◌, ◌<ℤ◌, suc, ◌+◌, ◌<◌, arith, inl, inr, List, Option, None, Some, length, get_or, sym, subst}
 use Rattle.std.specs.Prelude.{pos}
 use Rattle.std.specs.List.{Contains}
 use Rattle.std.proofs.lemmas.Bool.{cases_lt}
@@ -21,8 +21,10 @@ use Rattle.pricing.specs.Rows.{weight_of}
 use Rattle.pricing.specs.inside.Truth.{first_row, row_after}
 use Rattle.pricing.proofs.Families.{row_of_bucket}
 use Rattle.route_search.specs.declared.completion.Way.{Way}
-use Rattle.route_search.specs.inside.Completion.{IsWay}
-use Rattle.route_search.specs.inside.Reach.{IsPast, IsTried, AreTried, IsDone, AreDone, GrowsFrom}
+use Rattle.route_search.specs.inside.Completion.{IsBehind, IsWay}
+use Rattle.route_search.specs.inside.Reach.{IsPast, IsTried, AreTried, IsDone, AreDone, GrowsFrom, HasNoRoom, WeighNoLess}
+use Rattle.route_search.specs.inside.Task.{IsAdded}
+use Rattle.route_search.proofs.Completions.{least_through}
 
 module _ (table : CostTableSeen) (book : BookSeen) (marks : List Fact) (k : ℕ) (duals : List ℤ) where
   past_lower : (limit lower : ℤ) (b : ℕ) (w : ℤ) → lower ≤ℤ limit → IsPast table book marks k duals limit b w → IsPast table book marks k duals lower b w
@@ -71,6 +73,26 @@ module _ (table : CostTableSeen) (book : BookSeen) (marks : List Fact) (k : ℕ)
       → IsTried table book marks k duals limit store Carry (first_row book k) b
   past_at_first limit store b way on_way lt within = inr (λ rest fits.
       first_over (arc_weight table book k duals Carry b) way.least (weight_from table book k duals (After b) rest) limit (on_way.least rest fits) lt)
+
+  all_over : (low w added arc rest behind limit : ℤ) → low ≤ℤ w → (added +ℤ rest) ≤ℤ (arc +ℤ behind) → limit <ℤ ((low +ℤ added) +ℤ rest)
+      → limit <ℤ ((w +ℤ arc) +ℤ behind)
+  all_over low w added arc rest behind limit le more lt = omega (arith, ints, le, more, lt)
+
+  -- where the lightest row of x has no room through an activity, no row of x has
+  pub tried_without_room : (limit low added : ℤ) (rest : Option ℤ) (old store : StoreSeen) (x b : ℕ) → IsAdded table k duals b added
+      → IsBehind table book marks k duals b rest → WeighNoLess old x low → HasNoRoom low added rest limit
+      → AreTried table book marks k duals limit old x store b
+  tried_without_room limit low added None old store x b is behind least no_room usable j has within = inr (λ tail fits. absurd (behind usable.after tail fits))
+  tried_without_room limit low added (Some rest) old store x b is behind least no_room usable j has within = inr (λ tail fits.
+      all_over low (weight_of (row_at old.rows j)) added (arc_weight table book k duals (After x) b) rest (weight_from table book k duals (After b) tail) limit
+      (least j has) (least_through table book marks k duals (After x) b added rest is behind usable tail fits) no_room)
+
+  -- the lightest row of x stays so
+  pub lightest_stays : (low : ℤ) (first old : StoreSeen) (x : ℕ) → IsStore first → x < length first.buckets → GrowsFrom (suc x) first old
+      → WeighNoLess first x low → WeighNoLess old x low
+  lightest_stays low first old x sound lt grows least j has =
+      let there : Contains (bucket_of first x) j = subst (λ (bucket : List ℕ). Contains bucket j) (grows.others x (omega arith)) has in
+      subst (λ (r : List ℤ). low ≤ℤ weight_of r) (sym (grows.rows.rows j (row_of_bucket first sound x j lt there).kept)) (least j there)
 
   -- activities at whose places all were tried, and one more
   pub reached_one_more : (limit : ℤ) (m : ℕ) (first old new : StoreSeen) (there : List ℕ) (x i : ℕ) → GrowsFrom m old new

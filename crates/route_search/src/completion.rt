@@ -4,20 +4,22 @@
 //! forbid, a legal rest of a route is among the rests that fit, and none of it weighs less than the completion. No link is
 //! asked for twice, and an activity from which no end can be reached ends the question at once.
 
-ghost use Rattle.std.specs.Prelude.{◌≡◌, ◌<◌, ◌+ℤ◌, ◌+◌, [], length, None, Some, IfSome, slice_index_or};
+ghost use Rattle.std.specs.Prelude.{◌≡◌, ◌<◌, ◌+ℤ◌, ◌+◌, [], ℕ, List, IsTrue, length, None, Some, IfSome, slice_index_or};
 ghost use Rattle.tail_book.specs.declared.place.Place.TheVariants.{After};
 ghost use Rattle.tail_book.specs.Lookup.{activities};
 ghost use Rattle.tail_book.specs.Place.{IsPlaceOf};
 ghost use Rattle.pricing.specs.inside.WeightRange.{IsBroad, IsSmall};
 ghost use Rattle.route_search.specs.inside.Task.{IsTask};
-ghost use Rattle.route_search.specs.inside.Completion.{least_of, lesser_weight};
+ghost use Rattle.route_search.specs.inside.Completion.{IsNoLess, least_of, lesser_weight};
 ghost use Rattle.route_search.specs.inside.ForTask.{AreBehindFor, AreLaterBehindFor, IsBehindFor, IsCompletionFor, IsLeastAmongFor, IsUsableFor, IsWayFor, IsWayOrNoneFor};
 
 use crate::followers::followers;
 use crate::laws;
-use crate::step::arc_weight;
+use crate::step::{added_by, arc_weight};
 use crate::task::{Task, every_task_is_sound};
+use connection_net::laws::{rows_are_their_places, rows_for_each, rows_rise};
 use tail_book::Place;
+use tail_book::laws::rising_routes_are_below;
 
 /// The way through an activity: what it adds to a weight, and the least weight from there to an end with it, both in
 /// thousandths of a cost unit.
@@ -92,6 +94,34 @@ fn least_of(way: Option<Way>) -> Option<i64>
     }
 }
 
+// Whether what an activity adds and the least weight behind it are no less than the least so far.
+fn is_no_less(added: i64, rest: Option<i64>, least: Option<i64>) -> bool
+    ensures { IsTrue result → IsNoLess added rest least }
+{
+    match (rest, least) {
+        (Some(rest), Some(low)) => low as i128 <= added as i128 + rest as i128,
+        _ => false,
+    }
+}
+
+// The least weight so far, or over a way through one activity more. A connection costs nothing or more, so the link is asked for
+// only where that way may be lighter.
+fn with_way(task: &Task, behind: &[Option<i64>], x: u32, b: u32, least: Option<i64>) -> Option<i64>
+    requires task { IsTask task.now }
+    requires place { x < activities task.now.book.now }
+    requires activity { b < activities task.now.book.now }
+    requires one_each { length behind.now ≡ activities task.now.book.now }
+    requires behind { IsBehindFor task.now b (slice_index_or behind.now b None) }
+    ensures { (firsts : List ℕ) (i : ℕ) → slice_index_or firsts i 0 ≡ b → IsLeastAmongFor task.now (After x) firsts i least
+        → IsLeastAmongFor task.now (After x) firsts (i + 1) result }
+{
+    if is_no_less(added_by(task, b), behind[b as usize], least) {
+        return least;
+    }
+    let way = way_through(task, behind, Place::After(x), b);
+    lesser(least, least_of(way))
+}
+
 // What the aircraft has behind it where it ends its route at a place, if it may.
 fn ended(task: &Task, from: Place) -> Option<i64>
     requires task { IsTask task.now }
@@ -116,8 +146,7 @@ fn least_behind(task: &Task, behind: &[Option<i64>], x: u32) -> Option<i64>
     let mut least = ended(task, Place::After(x));
     let next = followers(task, x);
     for i in 0..next.len() {
-        let way = way_through(task, behind, Place::After(x), next[i]);
-        least = lesser(least, least_of(way));
+        least = with_way(task, behind, x, next[i], least);
     }
     least
 }
@@ -134,6 +163,25 @@ fn behind_alive(task: &Task, behind: &[Option<i64>], x: u32) -> Option<i64>
         return None;
     }
     least_behind(task, behind, x)
+}
+
+/// The least weight of any route, counters aside, in thousandths of a cost unit, if there is one.
+pub fn relaxed(task: &Task, behind: &[Option<i64>]) -> Option<i64>
+    requires task { IsTask task.now }
+    requires behind { AreBehindFor task.now behind.now }
+{
+    every_task_is_sound(task);
+    rows_rise();
+    rows_for_each();
+    rows_are_their_places();
+    rising_routes_are_below();
+    let mut least = ended(task, Place::Carry);
+    let first = task.net.heads(task.k);
+    for i in 0..first.len() {
+        let way = way_through(task, behind, Place::Carry, first[i]);
+        least = lesser(least, least_of(way));
+    }
+    least
 }
 
 /// Writes the least weight behind each activity, in thousandths of a cost unit.

@@ -7,6 +7,7 @@ mod end;
 mod followers;
 mod laws;
 mod least_within;
+mod lightest;
 mod reach;
 mod rest;
 mod rests;

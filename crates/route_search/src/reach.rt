@@ -5,7 +5,7 @@
 //! link adds and the least that can come behind, is past the limit: no completion of it is within. That is one comparison,
 //! before the counters are stepped, before anything is copied. Nothing is allocated but what the store grows by.
 
-ghost use Rattle.std.specs.Prelude.{◌≡◌, ◌<◌, ◌≤◌, ◌+◌, ◌-ℤ◌, ℤ, suc, length, IfOk};
+ghost use Rattle.std.specs.Prelude.{◌≡◌, ◌<◌, ◌≤◌, ◌+◌, ◌+ℤ◌, ◌-ℤ◌, ℤ, false, suc, length, IfOk};
 ghost use Rattle.tail_book.specs.declared.place.Place.TheVariants.{Carry, After};
 ghost use Rattle.tail_book.specs.Lookup.{activities, carry_of};
 ghost use Rattle.tail_book.specs.Place.{IsPlaceOf};
@@ -16,13 +16,14 @@ ghost use Rattle.label_store.specs.inside.Laws.{IsCoveredAt};
 ghost use Rattle.pricing.specs.inside.WeightRange.{IsBroad, IsSmall};
 ghost use Rattle.pricing.specs.inside.Truth.{place_of, IsKept};
 ghost use Rattle.label_store.specs.inside.Growth.{IsAsWide};
-ghost use Rattle.route_search.specs.inside.Reach.{GrowsFrom, up_to};
+ghost use Rattle.route_search.specs.inside.Reach.{GrowsFrom, HasNoRoom, WeighNoLess, up_to};
 ghost use Rattle.route_search.specs.inside.ForTask.{AreBehindFor, AreTriedFor, AreTrueFor, GoesOnWithinFor, IsDoneFor, IsNextFor, IsTriedFor, IsTrueFor, IsUsableFor, IsWayFor, arc_weight_for, first_row_for, row_for};
 ghost use Rattle.route_search.specs.inside.Task.{IsTask};
 
 use crate::completion::{Way, way_through};
 use crate::followers::followers;
-use crate::step::links_leave_free;
+use crate::lightest::lightest;
+use crate::step::{added_by, links_leave_free};
 use crate::task::{Task, every_task_is_sound};
 use connection_net::laws::{heads_are_links, rows_are_their_places, rows_for_each, rows_rise};
 use label_store::Store;
@@ -190,12 +191,39 @@ fn try_kept(
     try_row(task, Place::After(x), b, way.arc, Some(j), row, store)
 }
 
-// Tries the rows of an activity on the way to a later one, where there is a way.
+// Two weights together.
+fn both(one: i64, other: i64) -> i128
+    ensures { result ≡ one +ℤ other }
+{
+    one as i128 + other as i128
+}
+
+// What a limit leaves beside a weight.
+fn left(limit: i64, low: i64) -> i128
+    ensures { result ≡ limit -ℤ low }
+{
+    limit as i128 - low as i128
+}
+
+// Whether a row of this weight may have room on a way through an activity that adds so much, with the least behind it. A
+// connection costs nothing or more.
+fn may_have_room(low: i64, added: i64, rest: Option<i64>, limit: i64) -> bool
+    ensures { result ≡ false → HasNoRoom low added rest limit }
+{
+    match rest {
+        Some(rest) => both(added, rest) <= left(limit, low),
+        None => false,
+    }
+}
+
+// Tries the rows of an activity on the way to a later one, where there is a way. The link is asked for only where the lightest
+// row may have room.
 fn try_link(
     task: &Task,
     behind: &[Option<i64>],
     x: u32,
     b: u32,
+    low: i64,
     limit: i64,
     row: &mut [i64],
     store: &mut Store,
@@ -205,6 +233,7 @@ fn try_link(
     requires place { x < activities task.now.book.now }
     requires activity { b < activities task.now.book.now }
     requires later { x < b }
+    requires low { WeighNoLess store.old x low }
     requires limit { IsBroad limit }
     requires nodes { length store.old.buckets ≡ activities task.now.book.now }
     requires width { length row.old ≡ 1 + length task.now.book.now.rules.counters }
@@ -216,6 +245,9 @@ fn try_link(
     ensures wide { IsAsWide store.old store.new }
     ensures length { length row.new ≡ length row.old }
 {
+    if !may_have_room(low, added_by(task, b), behind[b as usize], limit) {
+        return Ok(());
+    }
     let Some(way) = way_through(task, behind, Place::After(x), b) else {
         return Ok(());
     };
@@ -246,9 +278,10 @@ fn try_links(
     ensures length { length row.new ≡ length row.old }
 {
     every_store_is_sound(store);
+    let low = lightest(store, x);
     let next = followers(task, x);
     for i in 0..next.len() {
-        try_link(task, behind, x, next[i], limit, row, store)?;
+        try_link(task, behind, x, next[i], low, limit, row, store)?;
     }
     Ok(())
 }

@@ -9,11 +9,11 @@ ghost use Rattle.tail_book.specs.Lookup.{activities};
 ghost use Rattle.route_search.specs.inside.Task.{IsTask};
 
 use crate::followers::followers;
+use crate::lightest::lightest;
 use crate::rest::{Rest, behind_link, counts, ended, keep};
-use crate::step::arc_weight;
+use crate::step::{added_by, arc_weight};
 use crate::task::{Task, every_task_is_sound};
 use label_store::Store;
-use label_store::laws::every_store_is_sound;
 use std::alloc::Global;
 use tail_book::{Memory, Place};
 
@@ -34,22 +34,6 @@ pub struct Rests {
 
 const NONE: Span = Span { from: 0, to: 0 };
 
-/// What the lightest row at an activity weighs, in thousandths of a cost unit, if there is a row.
-fn lightest(store: &Store, x: u32) -> Option<i64>
-    requires { x < length store.now.buckets }
-{
-    every_store_is_sound(store);
-    let mut least = None;
-    for i in 0..store.count(x as usize) {
-        let weight = store.row(store.at(x as usize, i))[0];
-        least = match least {
-            Some(known) => Some(weight.min(known)),
-            None => Some(weight),
-        };
-    }
-    least
-}
-
 impl Rests {
     /// No rest yet.
     pub fn new(alloc: Global) -> Rests {
@@ -68,14 +52,29 @@ impl Rests {
         }
     }
 
-    // Takes the rests of an activity over the link to it, those that are within the room left before it.
-    fn take_over(&mut self, task: &Task, x: u32, b: u32, room: i64) -> Result<(), Memory>
+    // Takes the rests of an activity over the link to it, those that are within the room left before it. A connection costs
+    // nothing or more, so the link is asked for only where the lightest of them may be within.
+    fn take_over(
+        &mut self,
+        task: &Task,
+        behind: &[Option<i64>],
+        x: u32,
+        b: u32,
+        room: i64,
+    ) -> Result<(), Memory>
         requires task { IsTask task.now }
         requires before { x < activities task.now.book.now }
         requires activity { b < activities task.now.book.now }
     {
         let span = self.at(b);
-        if span.from >= span.to || !task.marks.usable(task.book, task.k, Place::After(x), b) {
+        let least = match behind.get(b as usize) {
+            Some(Some(rest)) => added_by(task, b).saturating_add(*rest),
+            _ => return Ok(()),
+        };
+        if span.from >= span.to
+            || least > room
+            || !task.marks.usable(task.book, task.k, Place::After(x), b)
+        {
             return Ok(());
         }
         let arc = arc_weight(task, Place::After(x), b);
@@ -95,7 +94,13 @@ impl Rests {
     }
 
     // Makes the rests of an activity, that are within the room left behind its lightest row.
-    fn make_at(&mut self, task: &Task, x: u32, room: i64) -> Result<(), Memory>
+    fn make_at(
+        &mut self,
+        task: &Task,
+        behind: &[Option<i64>],
+        x: u32,
+        room: i64,
+    ) -> Result<(), Memory>
         requires task { IsTask task.now }
         requires activity { x < activities task.now.book.now }
     {
@@ -105,7 +110,7 @@ impl Rests {
         }
         let next = followers(task, x);
         for i in 0..next.len() {
-            self.take_over(task, x, next[i], room)?;
+            self.take_over(task, behind, x, next[i], room)?;
         }
         let from = self.all.len();
         self.all.extend_from_slice(&self.here)?;
@@ -120,7 +125,13 @@ impl Rests {
     }
 
     /// Makes the rests of all activities that have a row.
-    pub fn make(&mut self, task: &Task, store: &Store, cut: i64) -> Result<(), Memory>
+    pub fn make(
+        &mut self,
+        task: &Task,
+        behind: &[Option<i64>],
+        store: &Store,
+        cut: i64,
+    ) -> Result<(), Memory>
         requires task { IsTask task.now }
         requires nodes { length store.now.buckets ≡ activities task.now.book.now }
     {
@@ -132,8 +143,9 @@ impl Rests {
         self.spans.resize(n, NONE)?;
         for done in 0..n {
             let x = (n - 1 - done) as u32;
-            if let Some(weight) = lightest(store, x) {
-                self.make_at(task, x, cut.saturating_sub(weight))?;
+            if store.count(x as usize) > 0 {
+                let room = cut.saturating_sub(lightest(store, x));
+                self.make_at(task, behind, x, room)?;
             }
         }
         Ok(())

@@ -6,9 +6,10 @@
 //! out is past the limit, whatever completes it, so the least end is the least weight, if that is within the cut. The buckets
 //! are no closed family: a leaf of a search tree wants `price`.
 //! One pass over the links back and one forth, and as many tries of rows as the limit leaves: with a cut near the least
-//! weight a few for each activity.
+//! weight a few for each activity. A wary search, whose cut may be far out, looks nearer first, a few times: the least route
+//! within a nearer cut is the least within the cut.
 
-ghost use Rattle.std.specs.Prelude.{◌≡◌, ◌<◌, ◌+◌, length, IfOk};
+ghost use Rattle.std.specs.Prelude.{◌≡◌, ◌<◌, ◌≤ℤ◌, ◌+◌, length, IfOk, IfSome};
 ghost use Rattle.tail_book.specs.Lookup.{activities, aircraft};
 ghost use Rattle.tail_book.specs.CostTable.{IsTableFor};
 ghost use Rattle.connection_net.specs.Net.{net_of};
@@ -23,7 +24,7 @@ ghost use Rattle.route_search.specs.inside.ForTask.{AreBehindFor, AreDoneFor, Ar
 ghost use Rattle.route_search.specs.inside.Task.{IsTask};
 
 use crate::added::add_up;
-use crate::completion::complete;
+use crate::completion::{complete, relaxed};
 use crate::end::{Ends, first_ends, with_ends_at};
 use crate::reach::{begin, go_on};
 use crate::rests::Rests;
@@ -52,7 +53,18 @@ pub struct RouteSearch {
     pub store: Store,
     /// Rests of routes, for suggestions.
     pub rests: Rests,
+    /// Whether cuts may be far out, so that a search looks further only step by step.
+    pub is_wary: bool,
 }
+
+// A search that goes step by step looks so often before it looks as far as its cut.
+const LOOKS: u32 = 12;
+
+// The first look goes so far in thousandths of a cost unit, or by the slack where that is more, and each other one so many times
+// as far as the one before.
+const FIRST_LOOK: i64 = 50_000;
+
+const FURTHER: i64 = 4;
 
 // As far from 0 as a cut can be of use: each weight lies within half of it.
 const FARTHEST: i64 = 1 << 62;
@@ -134,6 +146,143 @@ fn found(
     })
 }
 
+// How far out routes are that are heavier than one of this weight by the slack and less, where that is no further than the cut.
+fn with_slack(value: i64, slack: u32, cut: i64) -> i64
+    requires { value ≤ℤ cut }
+    ensures least { value ≤ℤ result }
+    ensures most { result ≤ℤ cut }
+{
+    value.saturating_add(i64::from(slack)).min(cut)
+}
+
+// The least route, if it is within a nearer cut. Where routes that are heavier by the slack and less may lie beyond that, they
+// are looked for too.
+fn found_nearer(
+    alloc: Global,
+    task: &Task,
+    behind: &[Option<i64>],
+    near: i64,
+    cut: i64,
+    slack: u32,
+    row: &mut [i64],
+    store: &mut Store,
+) -> Result<Option<LeastWithin>, Memory>
+    requires task { IsTask task.now }
+    requires behind { AreBehindFor task.now behind.now }
+    requires near { IsBroad near }
+    requires cut { IsBroad cut }
+    requires nearer { near ≤ℤ cut }
+    requires nodes { length store.old.buckets ≡ activities task.now.book.now }
+    requires width { length row.old ≡ 1 + length task.now.book.now.rules.counters }
+    requires same_width { store.old.width ≡ length row.old }
+    ensures found { IfOk result (λ found. IfSome found (IsFoundWithinFor task.now cut)) }
+    ensures wide { IsAsWide store.old store.new }
+    ensures length { length row.new ≡ length row.old }
+{
+    let looked = found(alloc, task, behind, near, slack, row, store)?;
+    let LeastWithin::Best { value, route } = looked else {
+        return Ok(None);
+    };
+    let far = with_slack(value, slack, cut);
+    if far <= near {
+        return Ok(Some(LeastWithin::Best { value, route }));
+    }
+    let found = found(alloc, task, behind, far, slack, row, store)?;
+    Ok(Some(found))
+}
+
+// The least route, if one of a few looks finds it. They go on from the least weight of any route, counters aside, each further
+// than the one before.
+fn found_early(
+    alloc: Global,
+    task: &Task,
+    behind: &[Option<i64>],
+    cut: i64,
+    slack: u32,
+    row: &mut [i64],
+    store: &mut Store,
+) -> Result<Option<LeastWithin>, Memory>
+    requires task { IsTask task.now }
+    requires behind { AreBehindFor task.now behind.now }
+    requires cut { IsBroad cut }
+    requires nodes { length store.old.buckets ≡ activities task.now.book.now }
+    requires width { length row.old ≡ 1 + length task.now.book.now.rules.counters }
+    requires same_width { store.old.width ≡ length row.old }
+    ensures found { IfOk result (λ found. IfSome found (IsFoundWithinFor task.now cut)) }
+    ensures wide { IsAsWide store.old store.new }
+    ensures length { length row.new ≡ length row.old }
+{
+    let Some(least) = relaxed(task, behind) else {
+        return Ok(None);
+    };
+    let slack_wide = i64::from(slack);
+    let mut more = slack_wide.max(FIRST_LOOK);
+    for _look in 0..LOOKS {
+        let near = clamped(least.saturating_add(more).saturating_add(slack_wide));
+        if near >= cut {
+            return Ok(None);
+        }
+        if let Some(found) = found_nearer(alloc, task, behind, near, cut, slack, row, store)? {
+            return Ok(Some(found));
+        }
+        more = more.saturating_mul(FURTHER);
+    }
+    Ok(None)
+}
+
+// The least route within a cut that may be too far out: what a look finds on the way there, if one does.
+fn found_step_by_step(
+    alloc: Global,
+    task: &Task,
+    behind: &[Option<i64>],
+    cut: i64,
+    slack: u32,
+    row: &mut [i64],
+    store: &mut Store,
+) -> Result<LeastWithin, Memory>
+    requires task { IsTask task.now }
+    requires behind { AreBehindFor task.now behind.now }
+    requires cut { IsBroad cut }
+    requires nodes { length store.old.buckets ≡ activities task.now.book.now }
+    requires width { length row.old ≡ 1 + length task.now.book.now.rules.counters }
+    requires same_width { store.old.width ≡ length row.old }
+    ensures found { IfOk result (IsFoundWithinFor task.now cut) }
+    ensures wide { IsAsWide store.old store.new }
+    ensures length { length row.new ≡ length row.old }
+{
+    if let Some(found) = found_early(alloc, task, behind, cut, slack, row, store)? {
+        return Ok(found);
+    }
+    found(alloc, task, behind, cut, slack, row, store)
+}
+
+// The least route within a cut, step by step where that may be too far out.
+fn found_within(
+    alloc: Global,
+    task: &Task,
+    behind: &[Option<i64>],
+    is_wary: bool,
+    cut: i64,
+    slack: u32,
+    row: &mut [i64],
+    store: &mut Store,
+) -> Result<LeastWithin, Memory>
+    requires task { IsTask task.now }
+    requires behind { AreBehindFor task.now behind.now }
+    requires cut { IsBroad cut }
+    requires nodes { length store.old.buckets ≡ activities task.now.book.now }
+    requires width { length row.old ≡ 1 + length task.now.book.now.rules.counters }
+    requires same_width { store.old.width ≡ length row.old }
+    ensures found { IfOk result (IsFoundWithinFor task.now cut) }
+    ensures wide { IsAsWide store.old store.new }
+    ensures length { length row.new ≡ length row.old }
+{
+    if is_wary {
+        return found_step_by_step(alloc, task, behind, cut, slack, row, store);
+    }
+    found(alloc, task, behind, cut, slack, row, store)
+}
+
 impl RouteSearch {
     /// What searches of a book keep.
     pub fn new(alloc: Global, book: &Book) -> Result<RouteSearch, Memory>
@@ -154,6 +303,7 @@ impl RouteSearch {
             row,
             store,
             rests,
+            is_wary: false,
         })
     }
 
@@ -196,10 +346,11 @@ impl RouteSearch {
         every_task_is_sound(&task);
         complete(&task, &mut self.behind);
         let near = clamped(cut);
-        let found = found(
+        let found = found_within(
             alloc,
             &task,
             &self.behind,
+            self.is_wary,
             near,
             slack,
             &mut self.row,
@@ -242,7 +393,7 @@ impl RouteSearch {
             added: &self.added,
             k,
         };
-        self.rests.make(&task, &self.store, cut)?;
+        self.rests.make(&task, &self.behind, &self.store, cut)?;
         into.write(&self.store, &self.rests, book.activities.len(), cut)
     }
 }

@@ -48,8 +48,8 @@ fn connection_cost(book: &Book, table: &CostTable, k: u32, from: Place, b: u32) 
     turn_rules::connection_cost(book, &table.bands, k, from, b)
 }
 
-// What an activity costs less its dual.
-fn added_by(task: &Task, b: u32) -> i64
+/// What an activity costs less its dual, in thousandths of a cost unit.
+pub fn added_by(task: &Task, b: u32) -> i64
     requires task { IsTask task.now }
     requires activity { b < activities task.now.book.now }
     ensures { IsAdded task.now.table.now task.now.k task.now.duals.now.values b result }

@@ -68,6 +68,12 @@ lesser_weight None other = other
 lesser_weight (Some low) None = Some low
 lesser_weight (Some low) (Some other) = Some (int_min low other)
 
+-- both are there, and with what an activity adds the least weight behind it is no less than the least so far
+abbrev pub IsNoLess : ℤ → Option ℤ → Option ℤ → Type 0
+IsNoLess added None least = ⊥
+IsNoLess added (Some rest) None = ⊥
+IsNoLess added (Some rest) (Some low) = low ≤ℤ (added +ℤ rest)
+
 -- the least through an activity
 abbrev pub least_of : Option Way → Option ℤ
 least_of None = None

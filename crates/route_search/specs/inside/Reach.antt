@@ -1,5 +1,5 @@
 -- Rows as they come: what was tried on the way from a place, as far as a limit.
-use Rattle.std.specs.Prelude.{ℕ, ℤ, suc, ◌+ℤ◌, ◌<ℤ◌, ◌<◌, ◌⊎◌, List, Contains}
+use Rattle.std.specs.Prelude.{ℕ, ℤ, suc, ◌+ℤ◌, ◌<ℤ◌, ◌≤ℤ◌, ◌<◌, ◌⊎◌, ⊤, List, Contains, Option, None, Some}
 use Rattle.tail_book.specs.Seen.{BookSeen}
 use Rattle.tail_book.specs.TableSeen.{CostTableSeen}
 use Rattle.tail_book.specs.declared.place.Place.{Place}
@@ -37,6 +37,15 @@ GoesOnWithin table book marks k duals limit store x row =
 abbrev pub AreTried : CostTableSeen → BookSeen → List Fact → ℕ → List ℤ → ℤ → StoreSeen → ℕ → StoreSeen → ℕ → Type 0
 AreTried table book marks k duals limit old x store b = IsUsable book marks k (After x) b
     → (j : ℕ) → Contains (bucket_of old x) j → IsTried table book marks k duals limit store (After x) (row_at old.rows j) b
+
+-- no row of the bucket of x weighs less
+abbrev pub WeighNoLess : StoreSeen → ℕ → ℤ → Type 0
+WeighNoLess store x low = (j : ℕ) → Contains (bucket_of store x) j → low ≤ℤ weight_of (row_at store.rows j)
+
+-- with what an activity adds, and the least behind it, a row of this weight is past the limit; or nothing can come behind it
+abbrev pub HasNoRoom : ℤ → ℤ → Option ℤ → ℤ → Type 0
+HasNoRoom low added None limit = ⊤
+HasNoRoom low added (Some rest) limit = limit <ℤ ((low +ℤ added) +ℤ rest)
 
 -- it goes on from each row of the bucket of x
 abbrev pub IsDone : CostTableSeen → BookSeen → List Fact → ℕ → List ℤ → ℤ → StoreSeen → ℕ → Type 0

@@ -1,17 +1,10 @@
-use Rattle.std.proofs.Common.{◌+◌, arith, ap, sym, ◌∙◌, subst}
+use Rattle.std.proofs.Common.{refl, arith}
 use Rattle.tail_book.specs.declared.place.Place.TheVariants.{After}
-use Rattle.route_search.specs.inside.Completion.{IsLeastAmong, lesser_weight}
-use Rattle.route_search.proofs.Completions.{among_one_more, among_all}
+use Rattle.route_search.proofs.Completions.{among_all}
 use Rattle.route_search.proofs.completion.least_behind.Goals as goal
 
 pub loop-i-preserved : goal.loop-i-preserved
-loop-i-preserved c =
-    let table = c.args.task.now.table.now in
-    let book = c.args.task.now.book.now in
-    let among = among_one_more table book c.args.task.now.marks.now.facts c.args.task.now.k c.args.task.now.duals.now.values (After c.args.x)
-    c.followers-next.result.now c.loop-i.i c.loop-i.least c.way_through-way.result c.loop-i.invariant c.way_through-way.ensures.way in
-    subst (IsLeastAmong table book c.args.task.now.marks.now.facts c.args.task.now.k c.args.task.now.duals.now.values (After c.args.x) c.followers-next.result.now (c.loop-i.i + 1))
-    (sym (c.lesser-least.ensures ∙ ap (lesser_weight c.loop-i.least) c.least_of.ensures)) among
+loop-i-preserved c = c.with_way-least.ensures c.followers-next.result.now c.loop-i.i refl c.loop-i.invariant
 
 -- whatever is usable is among them
 pub returns : goal.returns
