@@ -3,7 +3,8 @@
 //! A round prices duals exactly, adds routes to the pool, and climbs over the pool from the best duals. The pool promises
 //! a sum that pricing does not keep, since it lacks routes; so duals go only so far from the best ones, further where the
 //! promise was kept and less where it was not. Where the pool promises little more than the best sum, the temperature
-//! falls. At the last temperature a few rounds without a gain end the ascent.
+//! falls; where a promise was kept far out though sweeps did not come to rest, it rises. At the last temperature a few
+//! rounds without a gain end the ascent.
 
 ghost use Rattle.std.specs.Prelude.{◌≡◌, length, None, IfOk};
 ghost use Rattle.branch_marks.specs.Settled.{AreDuals};
@@ -19,11 +20,14 @@ use tail_book::{Book, COST_UNIT, CostTable, Duals, Memory};
 
 // The temperature at the beginning is such a part of the mean of the first duals, which is as large as costs are, and lies
 // within these, in thousandths of a cost unit.
-const PART: u64 = 10;
+const PART: u64 = 100;
 
-const MILDEST: u64 = 5_000;
+const MILDEST: u64 = 1_000;
 
 const HOTTEST: u64 = 1 << 31;
+
+// The radius at the beginning is so many temperatures.
+const FIRST_RADIUS: i64 = 3;
 
 // The temperature at the end of an ascent for few aircraft.
 const COLDEST: u64 = 20;
@@ -38,6 +42,12 @@ const NEAR_RADIUS: i64 = 10_000;
 
 // How far duals are trusted at most.
 const LAST_RADIUS: i64 = 5_000_000;
+
+// A radius of more temperatures than this is far.
+const FAR: i64 = 10;
+
+// A gain of less than such a part of a temperature for each aircraft is little.
+const LITTLE: i128 = 10;
 
 // So many rounds without a gain end the ascent.
 const STALLS: u32 = 4;
@@ -64,6 +74,8 @@ pub struct Ascent {
     // what the pool promised of the duals that are to be priced
     promised: Option<i128>,
     stalls: u32,
+    // whether the last sweeps came to rest
+    is_still: bool,
 }
 
 impl Model for Ascent {
@@ -119,7 +131,7 @@ impl Ascent {
             table,
             first,
             temperature,
-            temperature.saturating_mul(2),
+            temperature.saturating_mul(FIRST_RADIUS),
         )
     }
 
@@ -154,6 +166,7 @@ impl Ascent {
             sum: None,
             promised: None,
             stalls: 0,
+            is_still: true,
         })
     }
 
@@ -234,10 +247,22 @@ impl Ascent {
         };
         if gain.saturating_mul(2) > hoped {
             self.radius = self.radius.saturating_mul(3) / 2;
+            self.heat();
         } else if gain.saturating_mul(10) < hoped {
             self.radius = self.radius.saturating_mul(3) / 5;
         }
         self.radius = self.radius.min(LAST_RADIUS).max(self.temperature);
+    }
+
+    // Lets the temperature rise where sweeps did not come to rest and what the pool promised was kept far from the best duals:
+    // there it is too cold for the way that is left.
+    fn heat(&mut self)
+        ensures { self.new ≡ self.old }
+    {
+        let far = self.temperature.saturating_mul(FAR);
+        if !self.is_still && self.radius > far && self.temperature < HOTTEST as i64 {
+            self.temperature = self.temperature.saturating_mul(3) / 2;
+        }
     }
 
     /// Moves duals to where the sum over a pool is larger, near the best ones, and within the box.
@@ -255,13 +280,30 @@ impl Ascent {
     {
         duals.values.copy_from_slice(self.best.as_slice());
         for _turn in 0..COOLINGS {
-            let is_still = self.climb_once(book, table, pool, duals)?;
-            if !is_still || !self.is_near(book.tails.len()) {
+            self.is_still = self.climb_once(book, table, pool, duals)?;
+            if !self.is_still {
+                self.cool_where_promise_is_small(book.tails.len());
+                return Ok(());
+            }
+            if !self.is_near(book.tails.len()) {
                 return Ok(());
             }
             self.cool();
         }
         Ok(())
+    }
+
+    // Cools where sweeps did not come to rest, but the pool promises so little that no more is to be had at this temperature.
+    fn cool_where_promise_is_small(&mut self, aircraft: usize)
+        ensures { self.new ≡ self.old }
+    {
+        let (Some(promised), Some(best)) = (self.promised, self.sum) else {
+            return;
+        };
+        let little = (aircraft as i128).saturating_mul(self.temperature as i128) / LITTLE;
+        if promised.saturating_sub(best) <= little {
+            self.cool();
+        }
     }
 
     // Climbs at the present temperature, and notes what the pool promises of the duals. Answers whether little moved at last.

@@ -31,7 +31,7 @@ const RELAXED: i64 = 26;
 const STRIDE: i64 = 16;
 
 /// Below this temperature mixtures are cool: more sweeps are worth their time. In thousandths of a cost unit.
-pub const COOL: i64 = 4000;
+pub const COOL: i64 = 1000;
 
 // While mixtures are hot, an activity whose dual moves less than such a part of the temperature rests for so many sweeps.
 const STILL: u64 = 100;
