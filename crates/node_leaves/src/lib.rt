@@ -4,6 +4,7 @@
 
 mod best;
 mod covers;
+mod demands;
 pub mod laws;
 mod leaf;
 mod node_events;
@@ -16,6 +17,7 @@ mod suggestions;
 
 pub use best::Best;
 pub use covers::{note_bounded, note_stuck};
+pub use demands::demand_duals;
 pub use leaf::{PricedLeaf, lagrangian_of, price_leaf};
 pub use node_pricer::{NodePricer, PricedAll};
 pub use notes::{note_all, note_one, note_steps};

@@ -1,10 +1,10 @@
 //! First duals that show at once that no plan is there, where counting shows it: more activities are under way at a moment than
-//! there are aircraft, or more have left an airport by a moment than came there before.
+//! there are aircraft, or more have left an airport by a moment, or are under way there, than came there before.
 //!
-//! A route has at most one of the activities of a moment, and leaves an airport at most once more often than it came there, and
-//! that only where its aircraft comes in. So where what is asked for has the end of the box for a dual, and what brings
-//! aircraft the other end, the Lagrangian sum is no less than the box's end for each activity too many, which is as much as a
-//! target can be. It is priced like any other.
+//! A route has at most one of the activities of a moment. Up to a moment it leaves an airport, and is busy there at the moment, at
+//! most once more often than it came there, and that only where its aircraft comes in. So where what is asked for has the end of
+//! the box for a dual, and what brings aircraft the other end, the Lagrangian sum is no less than the box's end for each activity
+//! too many, which is as much as a target can be. It is priced like any other.
 
 ghost use Rattle.std.specs.Prelude.{IfOk, IfSome};
 ghost use Rattle.tail_book.specs.CostTable.{IsInBox, IsTableFor};
@@ -27,7 +27,9 @@ fn asks(activity: &Activity, shortage: Shortage) -> bool {
     match shortage {
         Shortage::Everywhere(moment) => activity.start <= moment && moment < activity.end,
         Shortage::At(port, moment) => {
-            activity.from == port && activity.to != port && activity.start <= moment
+            activity.from == port
+                && activity.start <= moment
+                && (activity.to != port || moment < activity.end)
         }
     }
 }
