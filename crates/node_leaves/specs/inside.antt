@@ -3,3 +3,4 @@ pub mod EventLists
 pub mod PricedStore
 pub mod Leaf
 pub mod FittingPool
+pub mod Field

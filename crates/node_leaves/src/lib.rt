@@ -3,13 +3,16 @@
 #![tactic(auto)]
 
 mod best;
+mod budgets;
 mod covers;
 mod demands;
 pub mod laws;
 mod leaf;
+mod lightest;
 mod node_events;
 mod node_pricer;
 mod notes;
+mod passes;
 mod root_duals;
 mod shortage;
 mod stop;
@@ -21,6 +24,7 @@ pub use demands::demand_duals;
 pub use leaf::{PricedLeaf, lagrangian_of, price_leaf};
 pub use node_pricer::{NodePricer, PricedAll};
 pub use notes::{note_all, note_one, note_steps};
+pub use passes::pass_duals;
 pub use root_duals::first_duals;
 pub use shortage::shortage_duals;
 pub use stop::Stop;
