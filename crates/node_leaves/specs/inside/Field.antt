@@ -1,4 +1,4 @@
--- What passes look for routes in: tables, network and marks are of the book.
+-- What passes look for routes in: tables, network and marks are of the book. For src/passes.rt and src/lightest.rt.
 use Rattle.std.specs.Prelude.{◌≡◌}
 use Rattle.tail_book.specs.CostTable.{IsTableFor}
 use Rattle.connection_net.specs.Net.{net_of}
