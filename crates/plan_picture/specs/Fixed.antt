@@ -6,6 +6,10 @@ use Rattle.plan_report.specs.Lines.{newline}
 abbrev pub style : List ℕ
 style = codes "<style>text{font-family:Arial,Helvetica,sans-serif}.title{font-size:28px;font-weight:bold}.name{font-size:22px;font-weight:bold}.type{font-size:18px;font-weight:normal;fill:#444}.share{font-size:15px;fill:#222}.date{font-size:22px;font-weight:bold}.hour{font-size:16px;fill:#444}.again{font-size:13px;fill:#777}.id{font-size:16px;text-anchor:middle}.port{font-size:13px;fill:#222}.to{text-anchor:end}.flight rect,.ground rect{stroke:#fff;stroke-width:2}.flight rect{fill:#88ccee}.ground rect{fill:#ddcc77}.red rect{fill:#bb2200;fill-opacity:.85}.red .id{fill:#fff;font-weight:bold}.rule{font-size:16px;font-weight:bold}.rule,.broken{fill:#bb2200}.turn{fill:#225588}.stop rect{fill:#b5ddd0}.curfew{fill:#aa4499;opacity:.18}.line{stroke:#888}</style><rect width='100%' height='100%' fill='#fff'/>" ++ newline
 
+-- the outline of a bar whose activity is moved, and the letters that say how many are; it stands behind the other colours, so it covers their outline
+abbrev pub moved_style : List ℕ
+moved_style = codes "<style>.moved rect{stroke:#332288;stroke-width:6}.moves{font-size:22px;font-weight:bold;fill:#332288}</style>" ++ newline
+
 -- a line for each hour, for each six hours and for each day, and in each row the hours 6, 12 and 18
 abbrev pub grid_patterns : List ℕ
 grid_patterns = codes "<defs><pattern id='hours' patternUnits='userSpaceOnUse' width='60' height='60'><path d='M.5 0V60' stroke='#e0e0e0'/></pattern><pattern id='sixes' patternUnits='userSpaceOnUse' width='360' height='60'><path d='M1 0V60' stroke='#bbb' stroke-width='2'/></pattern><pattern id='days' patternUnits='userSpaceOnUse' y='10' width='1440' height='100'><path d='M1.5 0V100' stroke='#444' stroke-width='3'/><g class='again'><text x='364' y='18'>06</text><text x='724' y='18'>12</text><text x='1084' y='18'>18</text></g></pattern></defs>" ++ newline

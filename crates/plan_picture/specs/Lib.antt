@@ -1,6 +1,9 @@
+pub mod View
+pub mod Homes
 pub mod Layout
 pub mod Calendar
 pub mod Fixed
+pub mod Moved
 pub mod Ports
 pub mod Bars
 pub mod Stops

@@ -1,4 +1,4 @@
--- The picture of a plan, as the text of an SVG: its front with the title, curfews, dates, rows, and what no route has.
+-- The picture of a plan, as the text of an SVG: its front with the title, moves, curfews, dates, rows, and what no route has.
 use Rattle.std.specs.Prelude.{ℕ, ℤ, zero, suc, ◌+◌, ◌*◌, ◌/◌, List, [], ◌∷◌, ◌++◌, codes, decimal, length, min, ◌==◌, unsigned_abs, if◌then◌else◌}
 use Rattle.tail_book.specs.Seen.{BookSeen, RawPlanSeen}
 use Rattle.tail_book.specs.Cost.{plan_cost}
@@ -12,9 +12,10 @@ use Rattle.plan_picture.specs.Calendar.{date_text}
 use Rattle.plan_picture.specs.Curfews.{bands}
 use Rattle.plan_picture.specs.Fixed.{clock, close, grid_patterns, html_close, html_open, style}
 use Rattle.plan_picture.specs.Layout.{days_shown, first_moment, y_of}
+use Rattle.plan_picture.specs.Moved.{marked_by, moves_lines}
 use Rattle.plan_picture.specs.Rows.{rows_from, uncovered_in, uncovered_rows}
+use Rattle.plan_picture.specs.View.{ViewSeen}
 use Rattle.plan_picture.specs.declared.layout.TheConstants.{LEFT, DAY_WIDTH}
-use Rattle.plan_picture.specs.declared.view.View.{View}
 
 -- the width of a picture, and its height: a row for each aircraft, and at most eight for what no route has
 abbrev pub width_of : BookSeen → ℕ
@@ -80,20 +81,21 @@ front_lines width height cost rules =
     open_line width height ∷ style ∷ grid_patterns ∷ clock ∷ title_line cost rules ∷ grid_line width height ∷ []
 
 -- the lines of the picture of a plan that costs so much, or breaks these rules
-abbrev pub svg_lines : View → BookSeen → List (List ℕ) → ℕ → List Broken → List (List ℕ)
+abbrev pub svg_lines : ViewSeen → BookSeen → List (List ℕ) → ℕ → List Broken → List (List ℕ)
 svg_lines view book plan cost rules =
     front_lines (width_of book) (height_of book (uncovered_in rules)) cost rules
+    ++ moves_lines view.homes plan
     ++ bands book view.airport (height_of book (uncovered_in rules))
     ++ day_lines (first_moment book) (days_shown book)
-    ++ rows_from book (first_moment book) (width_of book) rules 0 plan
+    ++ rows_from book (marked_by view.homes) (first_moment book) (width_of book) rules 0 plan
     ++ uncovered_rows book (first_moment book) (width_of book) (uncovered_in rules)
     ++ close ∷ []
 
 -- the same, as a page of its own where one is asked for
-abbrev pub page_lines : View → BookSeen → List (List ℕ) → ℕ → List Broken → List (List ℕ)
+abbrev pub page_lines : ViewSeen → BookSeen → List (List ℕ) → ℕ → List Broken → List (List ℕ)
 page_lines view book plan cost rules =
     (if view.html then html_open ∷ [] else []) ++ svg_lines view book plan cost rules ++ (if view.html then html_close ∷ [] else [])
 
 -- the picture of a plan: of what is kept of it, at its cost, with the rules that it breaks
-abbrev pub picture : View → BookSeen → RawPlanSeen → List ℕ
+abbrev pub picture : ViewSeen → BookSeen → RawPlanSeen → List ℕ
 picture view book raw = text_of (page_lines view book (kept book raw) (plan_cost book (kept book raw)) (broken book raw))

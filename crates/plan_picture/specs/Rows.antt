@@ -1,5 +1,5 @@
 -- The rows of a picture: one for each aircraft in the book's order, and below them what no route has.
-use Rattle.std.specs.Prelude.{ℕ, ℤ, ◌+◌, ◌%◌, List, [], ◌∷◌, ◌++◌, codes, decimal, if◌then◌else◌}
+use Rattle.std.specs.Prelude.{ℕ, ℤ, ◌+◌, ◌%◌, List, [], ◌∷◌, ◌++◌, codes, decimal, Option, None, if◌then◌else◌}
 use Rattle.tail_book.specs.Seen.{BookSeen}
 use Rattle.tail_book.specs.Lookup.{aircraft, kind_of, tail_of, type_of}
 use Rattle.tail_book.specs.Numbers.{is_empty}
@@ -9,6 +9,7 @@ use Rattle.plan_audit.specs.declared.broken.Broken.{Broken}
 use Rattle.plan_audit.specs.declared.broken.Broken.TheVariants.{Unknown, Twice, Uncovered, NotAllowed, Curfew, NoLink, Counter}
 use Rattle.plan_report.specs.Lines.{newline}
 use Rattle.plan_picture.specs.Bars.{bar_lines, rules_at}
+use Rattle.plan_picture.specs.Homes.{moved_from}
 use Rattle.plan_picture.specs.Layout.{y_of}
 use Rattle.plan_picture.specs.Shares.{greatest, share_texts}
 use Rattle.plan_picture.specs.Stops.{stop_lines}
@@ -38,22 +39,25 @@ aircraft_line book width k route =
     head_line k width (tail_of book k).name (type_of book (kind_of book k)).name (share_texts 0 book.rules.counters (greatest book k route))
 
 -- activity b of aircraft k from its place x on, which is the one of number i in its route: what is marked before it, and its bar
-abbrev pub leg_lines : BookSeen → ℤ → List Broken → ℕ → ℕ → Place → ℕ → List (List ℕ)
-leg_lines book first rules k i x b = stop_lines book first k k x b ++ bar_lines book first k i b (rules_at book k b rules)
+abbrev pub leg_lines : BookSeen → List (Option ℕ) → ℤ → List Broken → ℕ → ℕ → Place → ℕ → List (List ℕ)
+leg_lines book homes first rules k i x b =
+    stop_lines book first k k x b ++ bar_lines book first k i b (rules_at book k b rules) (moved_from homes k b)
 
 -- the rest of a route from its activity of number i on
-abbrev pub route_lines : BookSeen → ℤ → List Broken → ℕ → ℕ → Place → List ℕ → List (List ℕ)
-route_lines book first rules k i x [] = []
-route_lines book first rules k i x (b ∷ route) = leg_lines book first rules k i x b ++ route_lines book first rules k (i + 1) (After b) route
+abbrev pub route_lines : BookSeen → List (Option ℕ) → ℤ → List Broken → ℕ → ℕ → Place → List ℕ → List (List ℕ)
+route_lines book homes first rules k i x [] = []
+route_lines book homes first rules k i x (b ∷ route) =
+    leg_lines book homes first rules k i x b ++ route_lines book homes first rules k (i + 1) (After b) route
 
 -- the row of aircraft k: its head, and its route
-abbrev pub row_lines : BookSeen → ℤ → ℕ → List Broken → ℕ → List ℕ → List (List ℕ)
-row_lines book first width rules k route = aircraft_line book width k route ∷ route_lines book first rules k 0 Carry route
+abbrev pub row_lines : BookSeen → List (Option ℕ) → ℤ → ℕ → List Broken → ℕ → List ℕ → List (List ℕ)
+row_lines book homes first width rules k route = aircraft_line book width k route ∷ route_lines book homes first rules k 0 Carry route
 
 -- the rows of the aircraft from k on
-abbrev pub rows_from : BookSeen → ℤ → ℕ → List Broken → ℕ → List (List ℕ) → List (List ℕ)
-rows_from book first width rules k [] = []
-rows_from book first width rules k (route ∷ routes) = row_lines book first width rules k route ++ rows_from book first width rules (k + 1) routes
+abbrev pub rows_from : BookSeen → List (Option ℕ) → ℤ → ℕ → List Broken → ℕ → List (List ℕ) → List (List ℕ)
+rows_from book homes first width rules k [] = []
+rows_from book homes first width rules k (route ∷ routes) =
+    row_lines book homes first width rules k route ++ rows_from book homes first width rules (k + 1) routes
 
 -- the activities that no route has
 abbrev pub uncovered_in : List Broken → List ℕ
@@ -68,7 +72,7 @@ uncovered_in (Counter k a c ∷ rules) = uncovered_in rules
 
 -- the bar of the one of number i among them, in turn in eight rows from a row on
 abbrev pub uncovered_bar : BookSeen → ℤ → ℕ → ℕ → ℕ → List (List ℕ)
-uncovered_bar book first row i a = bar_lines book first (row + i % 8) i a (codes " uncovered")
+uncovered_bar book first row i a = bar_lines book first (row + i % 8) i a (codes " uncovered") None
 
 -- their bars, from number i on
 abbrev pub uncovered_lines : BookSeen → ℤ → ℕ → ℕ → List ℕ → List (List ℕ)

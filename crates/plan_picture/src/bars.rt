@@ -1,16 +1,17 @@
 //! The bars of activities, and the rules that their aircraft break with them.
 //!
-//! A bar stands at the minutes of its activity, and is red where a rule is named with it. For each bar in an aircraft's
+//! A bar stands at the minutes of its activity, and is red where a rule is named with it, and outlined where
+//! another aircraft flew it before. For each bar in an aircraft's
 //! row all broken rules are looked through, so naming them costs as many looks as there are bars times broken rules,
 //! and nothing where the plan is legal.
 
 ghost use Rattle.std.specs.Prelude.{◌≡◌, ◌<◌, ◌++◌, IfOk, OnOk, All, length};
-ghost use Rattle.tail_book.specs.Lookup.{activities, activity_of, airport_of, from_port, to_port};
+ghost use Rattle.tail_book.specs.Lookup.{activities, activity_of, airport_of, from_port, tail_of, to_port};
 ghost use Rattle.tail_book.specs.inside.Sound.{IsMoment};
 ghost use Rattle.plan_report.specs.AuditText.{counter_name};
 ghost use Rattle.plan_report.specs.inside.AuditText.{IsOfBook};
 ghost use Rattle.plan_picture.specs.inside.Drawable.{IsNear};
-ghost use Rattle.plan_picture.specs.Bars.{at_port, bar_class, bar_front, bar_line, bar_lines, details, if_same, rule_at, rule_line, rules_at};
+ghost use Rattle.plan_picture.specs.Bars.{at_port, bar_class, bar_front, bar_line, bar_lines, details, if_same, kind_class, moved_class, moved_text, red_class, rule_at, rule_line, rules_at};
 
 use crate::calendar::add_moment;
 use crate::layout::{add_span, x_of, y_of};
@@ -89,19 +90,73 @@ pub fn add_rules_at(
     Ok(())
 }
 
-fn add_class(book: &Book, a: u32, names: &[u8], line: &mut Line) -> Result<(), Memory>
+// Appends whether an activity is a flight or ground time.
+fn add_kind_class(book: &Book, a: u32, line: &mut Line) -> Result<(), Memory>
     requires { a < activities book.now }
-    ensures { OnOk result (line.new ≡ line.old ++ bar_class book.now a names.now) }
+    ensures { OnOk result (line.new ≡ line.old ++ kind_class book.now a) }
 {
     if book.activities[a as usize].flight {
-        line.text(b"flight")?;
+        line.text(b"flight")
     } else {
-        line.text(b"ground")?;
+        line.text(b"ground")
     }
-    if !names.is_empty() {
-        line.text(b" red")?;
+}
+
+// Appends the class that makes a bar red, where a rule is named.
+fn add_red_class(names: &[u8], line: &mut Line) -> Result<(), Memory>
+    ensures { OnOk result (line.new ≡ line.old ++ red_class names.now) }
+{
+    if names.is_empty() {
+        return Ok(());
     }
-    Ok(())
+    line.text(b" red")
+}
+
+// Appends the class of an outline, where another aircraft flew the activity before.
+fn add_moved_class(before: Option<u32>, line: &mut Line) -> Result<(), Memory>
+    ensures { OnOk result (line.new ≡ line.old ++ moved_class before) }
+{
+    match before {
+        Some(_) => line.text(b" moved"),
+        None => Ok(()),
+    }
+}
+
+fn tail_name(book: &Book, j: u32) -> &[u8]
+    ensures { result.now ≡ (tail_of book.now j).name }
+{
+    match book.tails.get(j as usize) {
+        Some(tail) => tail.name.as_bytes(),
+        None => &[],
+    }
+}
+
+// Appends which aircraft that was.
+fn add_moved_text(book: &Book, before: Option<u32>, line: &mut Line) -> Result<(), Memory>
+    ensures { OnOk result (line.new ≡ line.old ++ moved_text book.now before) }
+{
+    match before {
+        Some(j) => {
+            line.text(b", moved from ")?;
+            line.text(tail_name(book, j))
+        }
+        None => Ok(()),
+    }
+}
+
+fn add_class(
+    book: &Book,
+    a: u32,
+    names: &[u8],
+    before: Option<u32>,
+    line: &mut Line,
+) -> Result<(), Memory>
+    requires { a < activities book.now }
+    ensures { OnOk result (line.new ≡ line.old ++ bar_class book.now a names.now before) }
+{
+    add_kind_class(book, a, line)?;
+    add_red_class(names, line)?;
+    add_moved_class(before, line)
 }
 
 fn add_at_port(book: &Book, port: u32, moment: i64, line: &mut Line) -> Result<(), Memory>
@@ -114,15 +169,22 @@ fn add_at_port(book: &Book, port: u32, moment: i64, line: &mut Line) -> Result<(
     add_moment(moment.unsigned_abs(), line)
 }
 
-fn add_details(book: &Book, a: u32, names: &[u8], line: &mut Line) -> Result<(), Memory>
+fn add_details(
+    book: &Book,
+    a: u32,
+    names: &[u8],
+    before: Option<u32>,
+    line: &mut Line,
+) -> Result<(), Memory>
     requires { a < activities book.now }
-    ensures { OnOk result (line.new ≡ line.old ++ details book.now a names.now) }
+    ensures { OnOk result (line.new ≡ line.old ++ details book.now a names.now before) }
 {
     line.text(id_of(book, a))?;
     line.text(b", ")?;
     add_at_port(book, from_port(book, a), start_of(book, a), line)?;
     line.text(b", ")?;
     add_at_port(book, to_port(book, a), end_of(book, a), line)?;
+    add_moved_text(book, before, line)?;
     line.text(names)
 }
 
@@ -149,15 +211,16 @@ fn add_front(
     row: u64,
     a: u32,
     names: &[u8],
+    before: Option<u32>,
     line: &mut Line,
 ) -> Result<(), Memory>
     requires activity { a < activities book.now }
     requires first { IsNear first }
     requires row { row < 1000 }
-    ensures { OnOk result (line.new ≡ line.old ++ bar_front book.now first row a names.now) }
+    ensures { OnOk result (line.new ≡ line.old ++ bar_front book.now first row a names.now before) }
 {
     line.text(b"<svg class='")?;
-    add_class(book, a, names, line)?;
+    add_class(book, a, names, before, line)?;
     line.text(b"'")?;
     add_span(
         first,
@@ -167,7 +230,7 @@ fn add_front(
         line,
     )?;
     line.text(b" height='60'><title>")?;
-    add_details(book, a, names, line)?;
+    add_details(book, a, names, before, line)?;
     line.text(b"</title><rect width='100%' height='32'/>")
 }
 
@@ -178,14 +241,15 @@ fn bar_line(
     row: u64,
     a: u32,
     names: &[u8],
+    before: Option<u32>,
 ) -> Result<Line, Memory>
     requires activity { a < activities book.now }
     requires first { IsNear first }
     requires row { row < 1000 }
-    ensures { IfOk result (λ line. line ≡ bar_line book.now first row a names.now) }
+    ensures { IfOk result (λ line. line ≡ bar_line book.now first row a names.now before) }
 {
     let mut line = Line::new(alloc)?;
-    add_front(book, first, row, a, names, &mut line)?;
+    add_front(book, first, row, a, names, before, &mut line)?;
     line.text(b"<text class='id' x='50%' y='22'>")?;
     line.text(id_of(book, a))?;
     line.text(b"</text><text class='port' x='2' y='44'>")?;
@@ -221,7 +285,8 @@ fn rule_line(
     Ok(line)
 }
 
-/// Adds the bar of an activity, and the names of the rules that are broken with it where there are any.
+/// Adds the bar of an activity, with the aircraft that flew it before where that was another one, and the names of the rules
+/// that are broken with it where there are any.
 pub fn add_bar(
     alloc: Global,
     book: &Book,
@@ -230,14 +295,15 @@ pub fn add_bar(
     i: u64,
     a: u32,
     names: &[u8],
+    before: Option<u32>,
     lines: &mut Vec<Line>,
 ) -> Result<(), Memory>
     requires activity { a < activities book.now }
     requires first { IsNear first }
     requires row { row < 1000 }
-    ensures { OnOk result (lines.new.items ≡ lines.old.items ++ bar_lines book.now first row i a names.now) }
+    ensures { OnOk result (lines.new.items ≡ lines.old.items ++ bar_lines book.now first row i a names.now before) }
 {
-    lines.push(bar_line(alloc, book, first, row, a, names)?)?;
+    lines.push(bar_line(alloc, book, first, row, a, names, before)?)?;
     if !names.is_empty() {
         lines.push(rule_line(alloc, book, first, row, i, a, names)?)?;
     }

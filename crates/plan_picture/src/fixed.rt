@@ -1,13 +1,33 @@
 //! The lines of a picture that are always the same: its colours and letters, its grid, and the page around it.
 
-ghost use Rattle.std.specs.Prelude.{◌≡◌};
-ghost use Rattle.plan_picture.specs.Fixed.{clock, close, grid_patterns, html_close, html_open, style};
+ghost use Rattle.std.specs.Prelude.{◌≡◌, IfOk};
+ghost use Rattle.plan_picture.specs.Fixed.{clock, close, grid_patterns, html_close, html_open, moved_style, style};
+
+use std::alloc::Global;
+use tail_book::Memory;
+use tail_text::Line;
+
+/// The line of a text.
+pub fn fixed_line(alloc: Global, text: &[u8]) -> Result<Line, Memory>
+    ensures { IfOk result (λ line. line ≡ text.now) }
+{
+    let mut line = Line::new(alloc)?;
+    line.text(text)?;
+    Ok(line)
+}
 
 /// The colours and letters of a picture, on white.
 pub fn style() -> &'static [u8]
     ensures { result.now ≡ style }
 {
     b"<style>text{font-family:Arial,Helvetica,sans-serif}.title{font-size:28px;font-weight:bold}.name{font-size:22px;font-weight:bold}.type{font-size:18px;font-weight:normal;fill:#444}.share{font-size:15px;fill:#222}.date{font-size:22px;font-weight:bold}.hour{font-size:16px;fill:#444}.again{font-size:13px;fill:#777}.id{font-size:16px;text-anchor:middle}.port{font-size:13px;fill:#222}.to{text-anchor:end}.flight rect,.ground rect{stroke:#fff;stroke-width:2}.flight rect{fill:#88ccee}.ground rect{fill:#ddcc77}.red rect{fill:#bb2200;fill-opacity:.85}.red .id{fill:#fff;font-weight:bold}.rule{font-size:16px;font-weight:bold}.rule,.broken{fill:#bb2200}.turn{fill:#225588}.stop rect{fill:#b5ddd0}.curfew{fill:#aa4499;opacity:.18}.line{stroke:#888}</style><rect width='100%' height='100%' fill='#fff'/>\n"
+}
+
+/// The outline of a bar whose activity is moved. It stands behind the other colours, so it covers their outline.
+pub fn moved_style() -> &'static [u8]
+    ensures { result.now ≡ moved_style }
+{
+    b"<style>.moved rect{stroke:#332288;stroke-width:6}.moves{font-size:22px;font-weight:bold;fill:#332288}</style>\n"
 }
 
 /// A line for each hour, for each six hours and for each day, and in each row the hours 6, 12 and 18.

@@ -1,12 +1,15 @@
-//! The picture of a plan: a row of bars for each aircraft, by the minute, with what is broken in red.
+//! The picture of a plan: a row of bars for each aircraft, by the minute, with what is broken in red, and
+//! what another aircraft flew before in an outline.
 #![tactic(auto)]
 
+mod at_home;
 mod bars;
 mod calendar;
 mod curfews;
 mod fixed;
 pub mod laws;
 mod layout;
+mod moved;
 mod picture;
 mod rows;
 mod shares;
@@ -14,5 +17,6 @@ mod stops;
 mod stretches;
 mod view;
 
+pub use at_home::homes;
 pub use picture::write_picture;
 pub use view::{View, port_named};

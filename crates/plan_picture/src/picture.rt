@@ -12,8 +12,9 @@ ghost use Rattle.plan_picture.specs.inside.Drawable.{IsDrawable, IsNear};
 
 use crate::calendar::add_date;
 use crate::curfews::add_bands;
-use crate::fixed::{clock, close, grid_patterns, html_close, html_open, style};
+use crate::fixed::{clock, close, fixed_line, grid_patterns, html_close, html_open, style};
 use crate::layout::{DAY_WIDTH, LEFT, days_shown, first_moment, y_of};
+use crate::moved::{add_moves, marked_by};
 use crate::rows::{add_rows, add_uncovered, uncovered_in};
 use crate::view::View;
 use plan_audit::Broken;
@@ -27,7 +28,7 @@ use tail_text::Line;
 /// Writes the picture of a plan, one put a line: its routes, and its cost, in cost units, or the rules that it breaks.
 pub fn write_picture<S: Sink>(
     alloc: Global,
-    view: View,
+    view: &View,
     book: &Book,
     plan: &Plan,
     cost: u64,
@@ -35,8 +36,8 @@ pub fn write_picture<S: Sink>(
     out: &mut S,
 ) -> Result<(), ReportFail>
     requires { IsDrawable book.now plan.now rules.now }
-    ensures taken { OnOk result (Takes (S.shows out.old) (S.shows out.new) (text_of (page_lines view book.now plan.now cost rules.now))) }
-    ensures front { OnErr result (TakesFront (S.shows out.old) (S.shows out.new) (text_of (page_lines view book.now plan.now cost rules.now))) }
+    ensures taken { OnOk result (Takes (S.shows out.old) (S.shows out.new) (text_of (page_lines view.now book.now plan.now cost rules.now))) }
+    ensures front { OnErr result (TakesFront (S.shows out.old) (S.shows out.new) (text_of (page_lines view.now book.now plan.now cost rules.now))) }
     ensures beside { S.beside out.old out.new }
     ensures ceases { (S.shows out.new).ceased ≡ false → (S.shows out.old).ceased ≡ false }
     ensures counts { (S.shows out.old).faults ≤ (S.shows out.new).faults }
@@ -50,14 +51,14 @@ pub fn write_picture<S: Sink>(
 
 fn page_lines(
     alloc: Global,
-    view: View,
+    view: &View,
     book: &Book,
     plan: &Plan,
     cost: u64,
     rules: &[Broken],
 ) -> Result<Vec<Line>, Memory>
     requires { IsDrawable book.now plan.now rules.now }
-    ensures { IfOk result (λ lines. lines.items ≡ page_lines view book.now plan.now cost rules.now) }
+    ensures { IfOk result (λ lines. lines.items ≡ page_lines view.now book.now plan.now cost rules.now) }
 {
     let mut lines = Vec::new(alloc);
     if view.html {
@@ -70,17 +71,9 @@ fn page_lines(
     Ok(lines)
 }
 
-fn fixed_line(alloc: Global, text: &[u8]) -> Result<Line, Memory>
-    ensures { IfOk result (λ line. line ≡ text.now) }
-{
-    let mut line = Line::new(alloc)?;
-    line.text(text)?;
-    Ok(line)
-}
-
 fn add_svg(
     alloc: Global,
-    view: View,
+    view: &View,
     book: &Book,
     plan: &Plan,
     cost: u64,
@@ -88,16 +81,18 @@ fn add_svg(
     lines: &mut Vec<Line>,
 ) -> Result<(), Memory>
     requires { IsDrawable book.now plan.now rules.now }
-    ensures { OnOk result (lines.new.items ≡ lines.old.items ++ svg_lines view book.now plan.now cost rules.now) }
+    ensures { OnOk result (lines.new.items ≡ lines.old.items ++ svg_lines view.now book.now plan.now cost rules.now) }
 {
     every_book_is_sound(book);
     let uncovered = uncovered_in(alloc, book, rules)?;
     let (first, width) = (first_moment(book), width_of(book));
     let height = height_of(book, &uncovered);
     add_front(alloc, width, height, cost, rules, lines)?;
+    add_moves(alloc, view, &plan.0, lines)?;
     add_bands(alloc, book, view.airport, height, lines)?;
     add_days(alloc, first, days_shown(book), lines)?;
-    add_rows(alloc, book, first, width, rules, &plan.0, lines)?;
+    let homes = marked_by(view);
+    add_rows(alloc, book, homes, first, width, rules, &plan.0, lines)?;
     add_uncovered(alloc, book, first, width, &uncovered, lines)?;
     lines.push(fixed_line(alloc, close())?)?;
     Ok(())

@@ -13,6 +13,7 @@ ghost use Rattle.plan_picture.specs.Rows.{again, aircraft_line, frame, head_line
 
 use crate::bars::{add_bar, add_rules_at};
 use crate::layout::y_of;
+use crate::moved::moved_from;
 use crate::shares::{add_shares, greatest};
 use crate::stops::add_stops;
 use plan_audit::Broken;
@@ -117,6 +118,7 @@ fn aircraft_line(
 fn add_leg(
     alloc: Global,
     book: &Book,
+    homes: &[Option<u32>],
     first: i64,
     rules: &[Broken],
     k: u32,
@@ -131,17 +133,29 @@ fn add_leg(
     requires activity { b < activities book.now }
     requires first { IsNear first }
     requires rules { All (IsOfBook book.now) rules.now }
-    ensures { OnOk result (lines.new.items ≡ lines.old.items ++ leg_lines book.now first rules.now k i from b) }
+    ensures { OnOk result (lines.new.items ≡ lines.old.items ++ leg_lines book.now homes.now first rules.now k i from b) }
 {
     add_stops(alloc, book, first, k as u64, k, from, b, lines)?;
     let mut names = Line::new(alloc)?;
     add_rules_at(book, k, b, rules, &mut names)?;
-    add_bar(alloc, book, first, k as u64, i, b, names.bytes(), lines)
+    let before = moved_from(homes, k, b);
+    add_bar(
+        alloc,
+        book,
+        first,
+        k as u64,
+        i,
+        b,
+        names.bytes(),
+        before,
+        lines,
+    )
 }
 
 fn add_route(
     alloc: Global,
     book: &Book,
+    homes: &[Option<u32>],
     first: i64,
     rules: &[Broken],
     k: u32,
@@ -153,12 +167,12 @@ fn add_route(
     requires first { IsNear first }
     requires rules { All (IsOfBook book.now) rules.now }
     requires activities { All (λ a. a < activities book.now) route.now }
-    ensures { OnOk result (lines.new.items ≡ lines.old.items ++ route_lines book.now first rules.now k 0 Carry route.now) }
+    ensures { OnOk result (lines.new.items ≡ lines.old.items ++ route_lines book.now homes.now first rules.now k 0 Carry route.now) }
 {
     let mut from = Place::Carry;
     for i in 0..route.len() {
         add_leg(
-            alloc, book, first, rules, k, i as u64, from, route[i], lines,
+            alloc, book, homes, first, rules, k, i as u64, from, route[i], lines,
         )?;
         from = Place::After(route[i]);
     }
@@ -168,6 +182,7 @@ fn add_route(
 fn add_row(
     alloc: Global,
     book: &Book,
+    homes: &[Option<u32>],
     first: i64,
     width: u64,
     rules: &[Broken],
@@ -180,16 +195,17 @@ fn add_row(
     requires first { IsNear first }
     requires rules { All (IsOfBook book.now) rules.now }
     requires activities { All (λ a. a < activities book.now) route.now }
-    ensures { OnOk result (lines.new.items ≡ lines.old.items ++ row_lines book.now first width rules.now k route.now) }
+    ensures { OnOk result (lines.new.items ≡ lines.old.items ++ row_lines book.now homes.now first width rules.now k route.now) }
 {
     lines.push(aircraft_line(alloc, book, width, k, route)?)?;
-    add_route(alloc, book, first, rules, k, route, lines)
+    add_route(alloc, book, homes, first, rules, k, route, lines)
 }
 
-/// Adds the rows of the aircraft.
+/// Adds the rows of the aircraft, with what has left its home among these marked.
 pub fn add_rows(
     alloc: Global,
     book: &Book,
+    homes: &[Option<u32>],
     first: i64,
     width: u64,
     rules: &[Broken],
@@ -199,11 +215,13 @@ pub fn add_rows(
     requires few { aircraft book.now < 1000 }
     requires first { IsNear first }
     requires drawable { IsDrawable book.now routes.now rules.now }
-    ensures { OnOk result (lines.new.items ≡ lines.old.items ++ rows_from book.now first width rules.now 0 routes.now) }
+    ensures { OnOk result (lines.new.items ≡ lines.old.items ++ rows_from book.now homes.now first width rules.now 0 routes.now) }
 {
     for k in 0..routes.len() {
         let route = &routes[k];
-        add_row(alloc, book, first, width, rules, k as u32, &route.0, lines)?;
+        add_row(
+            alloc, book, homes, first, width, rules, k as u32, &route.0, lines,
+        )?;
     }
     Ok(())
 }
@@ -257,7 +275,7 @@ fn add_uncovered_bar(
     ensures { OnOk result (lines.new.items ≡ lines.old.items ++ uncovered_bar book.now first row i a) }
 {
     let names = b" uncovered";
-    add_bar(alloc, book, first, row + i % 8, i, a, names, lines)
+    add_bar(alloc, book, first, row + i % 8, i, a, names, None, lines)
 }
 
 /// Adds the rows of what no route has, under a head of their own.

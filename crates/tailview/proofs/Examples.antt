@@ -1,5 +1,5 @@
 -- What the words mean, at command lines that are written out. The rows show a plan's name in each way to write it, as
--- every program takes it, then an airport and a page on request, and that an option twice, without its value or unknown
+-- every program takes it, then a plan before, an airport and a page on request, and that an option twice, without its value or unknown
 -- is refused.
 use Rattle.std.proofs.Common.{◌≡◌, ℕ, true, false, List, [], ◌∷◌, Option, Some, None, codes, refl}
 use Rattle.clap.proofs.OnLiterals.{clap_on_literals}
@@ -38,7 +38,7 @@ no_other_options = (refl, refl, refl, refl)
 
 -- the words name these tables, this plan and an airport, and ask for a page
 abbrev with_more : Option ViewNamesSeen
-with_more = Some (record { tables = record { timetable = codes "t"; fleet = codes "f"; rules = codes "r" }; plan = codes "p"; airport = Some (codes "ARN"); html = true })
+with_more = Some (record { tables = record { timetable = codes "t"; fleet = codes "f"; rules = codes "r" }; plan = codes "p"; before = None; airport = Some (codes "ARN"); html = true })
 
 -- an airport and a page can be asked for anywhere; an airport once and with a value, and a page without one
 more_on_request : (after_name (codes "t" ∷ codes "f" ∷ codes "r" ∷ codes "--plan" ∷ codes "p" ∷ codes "--curfews" ∷ codes "ARN" ∷ codes "--html" ∷ []) ≡ with_more)
@@ -48,3 +48,23 @@ more_on_request : (after_name (codes "t" ∷ codes "f" ∷ codes "r" ∷ codes "
     × (after_name (codes "t" ∷ codes "f" ∷ codes "r" ∷ codes "--plan" ∷ codes "p" ∷ codes "--html=x" ∷ []) ≡ None)
 unfolding clap_on_literals names_of
 more_on_request = (refl, refl, refl, refl, refl)
+
+-- the words name these tables, this plan and one that was published before
+abbrev with_before : List ℕ → Option ViewNamesSeen
+with_before name = Some (record {
+  tables = record { timetable = codes "t"; fleet = codes "f"; rules = codes "r" };
+  plan = codes "p";
+  before = Some name;
+  airport = None;
+  html = false;
+})
+
+-- a plan that was published before can be named anywhere, once and with a name, and not in place of the plan
+before_on_request : (after_name (codes "t" ∷ codes "f" ∷ codes "r" ∷ codes "--plan" ∷ codes "p" ∷ codes "--moved" ∷ codes "o" ∷ []) ≡ with_before (codes "o"))
+    × (after_name (codes "--moved=-o" ∷ codes "t" ∷ codes "f" ∷ codes "r" ∷ codes "--plan" ∷ codes "p" ∷ []) ≡ with_before (codes "-o"))
+    × (after_name (codes "t" ∷ codes "f" ∷ codes "r" ∷ codes "--moved" ∷ codes "p" ∷ codes "--plan" ∷ codes "p" ∷ []) ≡ with_before (codes "p"))
+    × (after_name (codes "t" ∷ codes "f" ∷ codes "r" ∷ codes "--plan" ∷ codes "p" ∷ codes "--moved" ∷ []) ≡ None)
+    × (after_name (codes "t" ∷ codes "f" ∷ codes "r" ∷ codes "--plan" ∷ codes "p" ∷ codes "--moved=o" ∷ codes "--moved=o" ∷ []) ≡ None)
+    × (after_name (codes "t" ∷ codes "f" ∷ codes "r" ∷ codes "--moved" ∷ codes "o" ∷ []) ≡ None)
+unfolding clap_on_literals names_of
+before_on_request = (refl, refl, refl, refl, refl, refl)

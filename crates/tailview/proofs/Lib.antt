@@ -1,3 +1,5 @@
 pub mod Examples
+pub mod MatchedNames
 pub mod Promised
+pub mod ReadTexts
 pub mod WordLaws

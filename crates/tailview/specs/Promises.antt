@@ -16,7 +16,7 @@ use Rattle.tailview.specs.Words.{names_of}
 -- the tables are a book, and the picture of the plan was printed
 pub record PrintsPicture (before after : SinkShown) (texts : TextsSeen) (case : Case) : Type 0 where
   pub is : case_of texts ≡ Ok case
-  pub printed : Takes before after (picture (view_in case.book texts) case.book case.plan)
+  pub printed : Takes before after (picture (view_in case.book texts case.before) case.book case.plan)
 
 -- the picture was printed of a plan that breaks no rule: what is kept of it is legal
 pub record PrintsLegal (before after : SinkShown) (texts : TextsSeen) : Type 0 where

@@ -1,4 +1,4 @@
--- The reading of the words: the program's name, the names of three tables and that of a plan's file, and what is shown.
+-- The reading of the words: the program's name, the names of three tables and those of plans' files, and what is shown.
 use Rattle.std.specs.Prelude.{ℕ, List, codes, nat_lt, Option, Some, option_and_then, option_map}
 use Rattle.clap.specs.Words.{App, Row, Rule, count_of, first_of, new_rule, with_rule}
 use Rattle.clap.specs.declared.builder.action.ArgAction.TheVariants.{Count}
@@ -14,8 +14,12 @@ abbrev pub with_plan : App
 with_plan = with_rule (tables_command (codes "tailview")) (required_option (codes "plan"))
 
 -- and one that may be
+abbrev pub with_moved : App
+with_moved = with_rule with_plan (optional (codes "moved"))
+
+-- and one more
 abbrev pub with_curfews : App
-with_curfews = with_rule with_plan (optional (codes "curfews"))
+with_curfews = with_rule with_moved (optional (codes "curfews"))
 
 -- the command: these, and a flag
 abbrev pub command : App
@@ -25,7 +29,13 @@ command = with_rule with_curfews (flag (codes "html"))
 abbrev pub names_in : List Row → Option ViewNamesSeen
 names_in rows =
     option_and_then (λ tables. option_map (λ plan.
-    record { tables = tables; plan = plan; airport = first_of (codes "curfews") rows; html = nat_lt 0 (count_of (codes "html") rows) })
+    record {
+      tables = tables;
+      plan = plan;
+      before = first_of (codes "moved") rows;
+      airport = first_of (codes "curfews") rows;
+      html = nat_lt 0 (count_of (codes "html") rows);
+    })
     (first_of (codes "plan") rows))
     (tables_in rows)
 

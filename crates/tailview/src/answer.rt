@@ -59,6 +59,6 @@ impl Finding for Judged {
     fn write<S: Sink>(&self, alloc: Global, out: &mut S) -> Result<(), ReportFail> {
         let cost = drawn_cost(&self.found);
         let rules = drawn_rules(&self.found);
-        write_picture(alloc, self.view, &self.book, &self.plan, cost, rules, out)
+        write_picture(alloc, &self.view, &self.book, &self.plan, cost, rules, out)
     }
 }

@@ -3,6 +3,7 @@
 #![tactic(auto)]
 
 mod answer;
+mod before;
 mod run;
 mod texts;
 mod usage;

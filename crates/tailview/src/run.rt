@@ -1,7 +1,7 @@
 //! A whole run: the words, the files, the audit of the plan, and the picture that is printed. A step that fails gives
 //! the answer, so the first cause is what is told.
 
-ghost use Rattle.std.specs.Prelude.{◌≡◌, ◌≤◌, None, false};
+ghost use Rattle.std.specs.Prelude.{◌≡◌, ◌≤◌, None, false, IfOk};
 ghost use Rattle.tail_outside.specs.Outside.{OnlyRead, PieceHasFailed, ReadHasFailed};
 ghost use Rattle.plan_picture.specs.inside.Drawable.{IsDrawable};
 ghost use Rattle.run_frame.specs.inside.Answer.{IsAnswerTo, IsPrintable};
@@ -14,6 +14,7 @@ ghost use Rattle.tailview.specs.Words.{names_of};
 ghost use Rattle.tailview.specs.Drawn.{drawn_rules};
 
 use crate::answer::Judged;
+use crate::before::{homes_before, plan_before};
 use crate::texts::{Texts, read_texts};
 use crate::usage::usage_line;
 use crate::words::names_of;
@@ -24,12 +25,13 @@ use plan_report::laws::audits_can_be_written;
 use plan_report::read_plan;
 use run_frame::{Answer, Ran, book_of, print};
 use std::alloc::Global;
-use tail_book::Book;
+use tail_book::{Book, Memory, RawPlan};
 use tail_outside::{Files, ReadFail, Sink};
 use tail_text::Stopped;
 
 /// Draws the plan by the tables that the words name: prints the picture of what is kept of it, with what it costs where
-/// it breaks no rule and else with the rules that it breaks, or why the words, a table or the plan's file are refused.
+/// it breaks no rule and else with the rules that it breaks, or why the words, a table or a plan's file are refused.
+/// Where a plan that was published before is named, what another aircraft flew in it is marked and counted.
 /// The files are handed back as they stand.
 pub fn view_run<F: Files, S: Sink>(alloc: Global, words: &[String], files: F, out: &mut S) -> Ran<F>
     requires { MayRead (spelled words.now) (F.shows files) }
@@ -77,20 +79,26 @@ fn answer_of<F: Files>(alloc: Global, words: &[String], files: &mut F) -> Answer
 }
 
 // What a picture of this book shows beside the plan.
-fn view_in(book: &Book, texts: &Texts<'_>) -> View
-    ensures { result ≡ view_in book.now texts.now }
+fn view_in(
+    alloc: Global,
+    book: &Book,
+    texts: &Texts<'_>,
+    before: &Option<RawPlan>,
+) -> Result<View, Memory>
+    ensures { IfOk result (λ view. view ≡ view_in book.now texts.now before.now) }
 {
     let airport = match texts.airport {
         Some(name) => port_named(book, name.as_bytes()),
         None => None,
     };
-    View {
+    Ok(View {
         airport,
+        homes: homes_before(alloc, book, before)?,
         html: texts.html,
-    }
+    })
 }
 
-// The answer to the three tables and the plan's file.
+// The answer to the three tables and the plans' files.
 fn judged(alloc: Global, texts: &Texts<'_>) -> Answer<Judged>
     ensures answer { IsAnswerTo AreRefused AreJudged texts.now result }
     ensures printable { IsPrintable (λ judged. IsDrawable judged.book judged.plan (drawn_rules judged.found)) result }
@@ -104,6 +112,14 @@ fn judged(alloc: Global, texts: &Texts<'_>) -> Answer<Judged>
         Err(Stopped::Refused(refusal)) => return Answer::Refused(refusal),
         Err(Stopped::Memory) => return Answer::Memory,
     };
+    let before = match plan_before(alloc, &texts.before) {
+        Ok(before) => before,
+        Err(Stopped::Refused(refusal)) => return Answer::Refused(refusal),
+        Err(Stopped::Memory) => return Answer::Memory,
+    };
+    let Ok(view) = view_in(alloc, &book, texts, &before) else {
+        return Answer::Memory;
+    };
     let Ok(plan) = kept(alloc, &book, &raw) else {
         return Answer::Memory;
     };
@@ -112,7 +128,6 @@ fn judged(alloc: Global, texts: &Texts<'_>) -> Answer<Judged>
     };
     audits_can_be_written();
     kept_plans_fly_once();
-    let view = view_in(&book, texts);
     Answer::Found(Judged {
         book,
         plan,

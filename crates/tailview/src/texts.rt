@@ -1,23 +1,27 @@
-//! The files that the words name, read before one of them is judged: the tables first, and then the plan.
+//! The files that the words name, read before one of them is judged: the tables first, then the plan, and last a plan
+//! that was published before.
 
 ghost use Rattle.std.specs.Prelude.{◌≡◌, IfOk, IfSome, IsErrOf};
 ghost use Rattle.tail_outside.specs.Outside.{OnlyRead, ReadHasFailed};
 ghost use Rattle.tailview.specs.Texts.{MayReadTexts, texts_held};
 ghost use Rattle.tailview.specs.inside.Texts.{view_names_seen, text_fronts};
 
+use crate::before::bytes_before;
 use crate::words::ViewNames;
 use run_frame::{READ_LIMIT, Tables, read_tables};
 use std::alloc::Global;
 use std::marker::Model;
 use tail_outside::{Files, ReadFail, read_all};
 
-/// The bytes of the three tables and of the plan's file, beside what the words say of the picture.
+/// The bytes of the three tables and of the plans' files, beside what the words say of the picture.
 #[derive(Debug, Drop)]
 pub struct Texts<'a> {
     /// The three tables.
     pub tables: Tables,
     /// The file of the plan.
     pub plan: Vec<u8>,
+    /// The file of a plan that was published before.
+    pub before: Option<Vec<u8>>,
     /// The airport whose curfews are drawn.
     pub airport: Option<&'a str>,
     /// Whether the picture stands on a page of its own.
@@ -30,10 +34,17 @@ impl<'a> Model for Texts<'a> {
 
     ghost Value = { TextsSeen };
 
-    ghost view = { λ t. record { tables = t.tables; plan = t.plan.items; airport = option_map (λ s. s.now) t.airport; html = t.html } };
+    ghost view = { λ t. record {
+      tables = t.tables;
+      plan = t.plan.items;
+      before = option_map (λ v. v.items) t.before;
+      airport = option_map (λ s. s.now) t.airport;
+      html = t.html;
+    } };
 }
 
-/// The bytes of the three tables, and then those of the plan's file, each up to the limit.
+/// The bytes of the three tables, then those of the plan's file, and last those of the file of a plan that was published
+/// before, each up to the limit.
 pub fn read_texts<'a, F: Files>(
     alloc: Global,
     files: &mut F,
@@ -49,10 +60,15 @@ pub fn read_texts<'a, F: Files>(
         Ok(tables) => tables,
         Err(fail) => return Err(fail),
     };
-    match read_all(alloc, files, names.plan, READ_LIMIT) {
-        Ok(plan) => Ok(Texts {
+    let plan = match read_all(alloc, files, names.plan, READ_LIMIT) {
+        Ok(bytes) => bytes,
+        Err(fail) => return Err(fail),
+    };
+    match bytes_before(alloc, files, names.before) {
+        Ok(before) => Ok(Texts {
             tables,
             plan,
+            before,
             airport: names.airport,
             html: names.html,
         }),

@@ -1,31 +1,33 @@
-//! The reading of the words: which tables and which plan are drawn, and how. The plan's option has to be given; an
-//! airport and a page only add to what is drawn.
+//! The reading of the words: which tables and which plan are drawn, and how. The plan's option has to be given; a
+//! plan that was published before, an airport and a page only add to what is drawn.
 
 ghost use Rattle.std.specs.Prelude.{◌≡◌, IfOk, option_map};
 ghost use Rattle.clap.specs.Words.{app_of, found_of, rows_of};
 ghost use Rattle.run_frame.specs.Spelled.{spelled};
 ghost use Rattle.tailview.specs.inside.Texts.{view_names_seen};
-ghost use Rattle.tailview.specs.Words.{names_of, command, names_in, with_curfews, with_plan};
+ghost use Rattle.tailview.specs.Words.{names_of, command, names_in, with_curfews, with_moved, with_plan};
 
 use clap::{Arg, ArgAction, ArgMatches, Command};
 use run_frame::{TableNames, matched, tables_command, tables_in, value_of};
 use std::alloc::{AllocError, Global};
 use tail_book::Memory;
 
-/// What the words give: the names of the three tables and of the plan's file, and what is shown beside the plan.
+/// What the words give: the names of the three tables and of the plans' files, and what is shown beside the plan.
 #[derive(Clone, Copy, PartialEq, Eq, Debug)]
 pub struct ViewNames<'a> {
     /// The tables.
     pub tables: TableNames<'a>,
     /// The file of the plan.
     pub plan: &'a str,
+    /// The file of a plan that was published before.
+    pub before: Option<&'a str>,
     /// The airport whose curfews are drawn.
     pub airport: Option<&'a str>,
     /// Whether the picture stands on a page of its own.
     pub html: bool,
 }
 
-// The command: three words that have to stand in their places, an option that has to be given, and two that may be.
+// The command: three words that have to stand in their places, an option that has to be given, and three that may be.
 fn command<'a>(alloc: Global) -> Result<Command<'a>, AllocError>
     ensures { IfOk result (λ c. app_of c ≡ command) }
 {
@@ -40,7 +42,13 @@ fn command<'a>(alloc: Global) -> Result<Command<'a>, AllocError>
 fn with_curfews<'a>(alloc: Global) -> Result<Command<'a>, AllocError>
     ensures { IfOk result (λ c. app_of c ≡ with_curfews) }
 {
-    with_plan(alloc)?.arg(Arg::new(alloc, "curfews").long("curfews"))
+    with_moved(alloc)?.arg(Arg::new(alloc, "curfews").long("curfews"))
+}
+
+fn with_moved<'a>(alloc: Global) -> Result<Command<'a>, AllocError>
+    ensures { IfOk result (λ c. app_of c ≡ with_moved) }
+{
+    with_plan(alloc)?.arg(Arg::new(alloc, "moved").long("moved"))
 }
 
 fn with_plan<'a>(alloc: Global) -> Result<Command<'a>, AllocError>
@@ -58,6 +66,7 @@ fn names_in<'a>(matches: &ArgMatches<'a>) -> Option<ViewNames<'a>>
     Some(ViewNames {
         tables,
         plan,
+        before: value_of(matches, "moved"),
         airport: value_of(matches, "curfews"),
         html: matches.get_count("html") > 0,
     })

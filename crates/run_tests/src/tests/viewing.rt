@@ -2,5 +2,6 @@
 
 mod faults;
 mod fixtures;
+mod moved;
 mod pictures;
 mod words;

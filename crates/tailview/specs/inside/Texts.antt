@@ -6,8 +6,20 @@ use Rattle.tailview.specs.declared.words.ViewNames.{ViewNames}
 
 -- the names, as bytes
 abbrev pub view_names_seen : ViewNames → ViewNamesSeen
-view_names_seen names = record { tables = names_seen names.tables; plan = names.plan.now; airport = option_map (λ s. s.now) names.airport; html = names.html }
+view_names_seen names = record {
+  tables = names_seen names.tables;
+  plan = names.plan.now;
+  before = option_map (λ s. s.now) names.before;
+  airport = option_map (λ s. s.now) names.airport;
+  html = names.html;
+}
 
--- as much of the tables and of the plan's file as is read
+-- as much of the tables and of the plans' files as is read
 abbrev pub text_fronts : TextsSeen → TextsSeen
-text_fronts texts = record { tables = fronts texts.tables; plan = front texts.plan; airport = texts.airport; html = texts.html }
+text_fronts texts = record {
+  tables = fronts texts.tables;
+  plan = front texts.plan;
+  before = option_map front texts.before;
+  airport = texts.airport;
+  html = texts.html;
+}

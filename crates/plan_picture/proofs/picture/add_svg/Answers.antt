@@ -2,6 +2,7 @@ use Rattle.std.proofs.Common.{◌≡◌, ◌∙◌, ◌++◌, ◌∷◌, [], Fit
 use Rattle.plan_picture.specs.Curfews.{bands}
 use Rattle.plan_picture.specs.Fixed.{close}
 use Rattle.plan_picture.specs.Layout.{days_shown, first_moment}
+use Rattle.plan_picture.specs.Moved.{marked_by, moves_lines}
 use Rattle.plan_picture.specs.Picture.{day_lines, front_lines, height_of, width_of}
 use Rattle.plan_picture.specs.Rows.{rows_from, uncovered_in, uncovered_rows}
 use Rattle.plan_picture.proofs.Appends.{chain}
@@ -18,21 +19,26 @@ returns c =
     let width : c.width_of-width.result ≡ width_of book = c.width_of-width.ensures.value in
     let list : c.deref.result.now ≡ uncovered_in rules_seen = search rules in
     let height : c.height_of-height.result ≡ height_of book (uncovered_in rules_seen) = c.height_of-height.ensures.value ∙ ap (height_of book) list in
-    let plan : c.deref-2.result.now ≡ c.args.plan.now = search rules in
-    let again : c.deref-3.result.now ≡ uncovered_in rules_seen = search rules in
+    let plan : c.deref-3.result.now ≡ c.args.plan.now = search rules in
+    let again : c.deref-4.result.now ≡ uncovered_in rules_seen = search rules in
     let front : c.add_front.new.lines.items ≡ c.args.lines.now.items ++ front_lines (width_of book) (height_of book (uncovered_in rules_seen)) c.args.cost rules_seen =
     c.in_ok-add_front.ensures ∙ ap₂ (λ w h. c.args.lines.now.items ++ front_lines w h c.args.cost rules_seen) width height in
-    let curfews : c.add_bands.new.lines.items ≡ c.add_front.new.lines.items ++ bands book c.args.view.airport (height_of book (uncovered_in rules_seen)) =
-    c.in_ok-add_bands.ensures ∙ ap (λ h. c.add_front.new.lines.items ++ bands book c.args.view.airport h) height in
+    let shown : c.deref-2.result.now ≡ c.args.plan.now = search rules in
+    let moved : c.add_moves.new.lines.items ≡ c.add_front.new.lines.items ++ moves_lines c.args.view.now.homes c.args.plan.now =
+    c.in_ok-add_moves.ensures ∙ ap (λ p. c.add_front.new.lines.items ++ moves_lines c.args.view.now.homes p) shown in
+    let port : c.view.inside.airport ≡ c.args.view.now.airport = search rules in
+    let curfews : c.add_bands.new.lines.items ≡ c.add_moves.new.lines.items ++ bands book c.args.view.now.airport (height_of book (uncovered_in rules_seen)) =
+    c.in_ok-add_bands.ensures ∙ ap₂ (λ p h. c.add_moves.new.lines.items ++ bands book p h) port height in
     let days : c.add_days.new.lines.items ≡ c.add_bands.new.lines.items ++ day_lines (first_moment book) (days_shown book) =
     c.in_ok-add_days.ensures ∙ ap₂ (λ f d. c.add_bands.new.lines.items ++ day_lines f d) first c.days_shown.ensures.value in
-    let rows : c.add_rows.new.lines.items ≡ c.add_days.new.lines.items ++ rows_from book (first_moment book) (width_of book) rules_seen 0 c.args.plan.now =
-    c.in_ok-add_rows.ensures ∙ ap₂ (λ f w. c.add_days.new.lines.items ++ rows_from book f w rules_seen 0 c.deref-2.result.now) first width
-    ∙ ap (λ p. c.add_days.new.lines.items ++ rows_from book (first_moment book) (width_of book) rules_seen 0 p) plan in
+    let rows : c.add_rows.new.lines.items ≡ c.add_days.new.lines.items ++ rows_from book (marked_by c.args.view.now.homes) (first_moment book) (width_of book) rules_seen 0 c.args.plan.now =
+    c.in_ok-add_rows.ensures ∙ ap₂ (λ f w. c.add_days.new.lines.items ++ rows_from book c.marked_by-homes.result.now f w rules_seen 0 c.deref-3.result.now) first width
+    ∙ ap (λ m. c.add_days.new.lines.items ++ rows_from book m (first_moment book) (width_of book) rules_seen 0 c.deref-3.result.now) c.marked_by-homes.ensures
+    ∙ ap (λ p. c.add_days.new.lines.items ++ rows_from book (marked_by c.args.view.now.homes) (first_moment book) (width_of book) rules_seen 0 p) plan in
     let below : c.add_uncovered.new.lines.items ≡ c.add_rows.new.lines.items ++ uncovered_rows book (first_moment book) (width_of book) (uncovered_in rules_seen) =
-    c.in_ok-add_uncovered.ensures ∙ ap₂ (λ f w. c.add_rows.new.lines.items ++ uncovered_rows book f w c.deref-3.result.now) first width
+    c.in_ok-add_uncovered.ensures ∙ ap₂ (λ f w. c.add_rows.new.lines.items ++ uncovered_rows book f w c.deref-4.result.now) first width
     ∙ ap (λ l. c.add_rows.new.lines.items ++ uncovered_rows book (first_moment book) (width_of book) l) again in
     let end : c.push.new.self.items ≡ c.add_uncovered.new.lines.items ++ close ∷ [] =
     c.in_ok-push.ensures.items ∙ ap (λ z. c.add_uncovered.new.lines.items ++ z ∷ []) (c.in_ok-fixed_line.ensures ∙ c.close.ensures) in
-    chain c.args.lines.now.items c.add_front.new.lines.items c.add_bands.new.lines.items c.add_days.new.lines.items c.add_rows.new.lines.items c.add_uncovered.new.lines.items
-    c.push.new.self.items _ _ _ _ _ _ front curfews days rows below end
+    chain c.args.lines.now.items c.add_front.new.lines.items c.add_moves.new.lines.items c.add_bands.new.lines.items c.add_days.new.lines.items c.add_rows.new.lines.items c.add_uncovered.new.lines.items
+    c.push.new.self.items _ _ _ _ _ _ _ front moved curfews days rows below end

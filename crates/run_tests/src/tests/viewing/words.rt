@@ -22,6 +22,8 @@ fn other_words_are_refused(rt: HostRuntime) -> Result<(), Fail> {
         &["tailview", "t", "f", "r", "--cert", "p"],
         &["tailview", "t", "f", "r", "--plan", "p", "--cert", "p"],
         &["tailview", "t", "f", "r", "--plan", "p", "--curfews"],
+        &["tailview", "t", "f", "r", "--plan", "p", "--moved"],
+        &["tailview", "t", "f", "r", "--moved", "p"],
         &["tailview", "t", "f", "r", "--plan", "p", "--html", "x"],
         &["tailview", "t", "f", "r", "--plan", "p", "--html=x"],
         &["tailview", "t", "f", "r", "--plan", "p", "--plan", "p"],
@@ -32,7 +34,7 @@ fn other_words_are_refused(rt: HostRuntime) -> Result<(), Fail> {
         assert!(rt;
             seen.is(
                 2,
-                "usage: tailview TIMETABLE FLEET RULES --plan FILE [--curfews AIRPORT] [--html]\n"
+                "usage: tailview TIMETABLE FLEET RULES --plan FILE [--moved OLDPLAN] [--curfews AIRPORT] [--html]\n"
             ),
             "{words:?}"
         );
