@@ -29,14 +29,44 @@ use crate::step_start::{keep_fitting, shut_and_tell};
 use crate::{Best, NodePricer, NodeTools, Step, Stop};
 use branch_marks::{Event, Marks, TreeLog};
 use connection_net::Net;
-use node_leaves::{first_duals, note_one, shortage_duals};
+use node_leaves::{demand_duals, first_duals, note_one, shortage_duals};
 use propagator::Closed;
 use restricted_master::Pool;
 use std::alloc::Global;
 use tail_book::laws::every_book_is_sound;
 use tail_book::{Book, CostTable, Duals, Memory};
 
-// The end of the root, where counting shows that aircraft are short. The duals that show it are priced like others.
+// The end of the root, if these duals show it. They are priced like others.
+fn try_duals(
+    alloc: Global,
+    book: &Book,
+    table: &CostTable,
+    net: &Net,
+    marks: &Marks,
+    pool: &Pool,
+    found: &Duals,
+    duals: &mut Duals,
+    best: &mut Best,
+    prices: &mut NodePricer,
+) -> Result<Option<NodeEnd>, Memory>
+    requires ready { IsReady table.now book.now net.now marks.now prices.old }
+    requires duals { AreDuals table.now book.now duals.old.values }
+    requires found { AreDuals table.now book.now found.now.values }
+    requires best { IsBest table.now book.now best.old.plan best.old.target }
+    ensures end { IfOk result (λ end. IfSome end (IsEndFound table.now book.now marks.now.facts duals.new.values best.new.target)) }
+    ensures ready { IsReady table.now book.now net.now marks.now prices.new }
+    ensures duals { AreDuals table.now book.now duals.new.values }
+    ensures best { IsBest table.now book.now best.new.plan best.new.target }
+    ensures falls { best.new.target ≤ best.old.target }
+{
+    duals.values.copy_from_slice(&found.values);
+    match weigh(alloc, book, table, net, marks, pool, duals, best, prices, 0)? {
+        Weighed::Ended(end) => Ok(Some(end)),
+        Weighed::Open(_) => Ok(None),
+    }
+}
+
+// The end of the root, where counting shows that aircraft are short.
 fn try_shortage(
     alloc: Global,
     book: &Book,
@@ -57,14 +87,47 @@ fn try_shortage(
     ensures best { IsBest table.now book.now best.new.plan best.new.target }
     ensures falls { best.new.target ≤ best.old.target }
 {
-    let Some(found) = shortage_duals(alloc, book, table)? else {
-        return Ok(None);
-    };
-    duals.values = found.values;
-    match weigh(alloc, book, table, net, marks, pool, duals, best, prices, 0)? {
-        Weighed::Ended(end) => Ok(Some(end)),
-        Weighed::Open(_) => Ok(None),
+    match shortage_duals(alloc, book, table)? {
+        Some(found) => try_duals(
+            alloc, book, table, net, marks, pool, &found, duals, best, prices,
+        ),
+        None => Ok(None),
     }
+}
+
+// The end of the root, where activities ask for more than types or counters allow. Duals that may show it are tried one after the
+// other.
+fn try_demands(
+    alloc: Global,
+    book: &Book,
+    table: &CostTable,
+    net: &Net,
+    marks: &Marks,
+    pool: &Pool,
+    duals: &mut Duals,
+    best: &mut Best,
+    prices: &mut NodePricer,
+) -> Result<Option<NodeEnd>, Memory>
+    requires ready { IsReady table.now book.now net.now marks.now prices.old }
+    requires duals { AreDuals table.now book.now duals.old.values }
+    requires best { IsBest table.now book.now best.old.plan best.old.target }
+    ensures end { IfOk result (λ end. IfSome end (IsEndFound table.now book.now marks.now.facts duals.new.values best.new.target)) }
+    ensures ready { IsReady table.now book.now net.now marks.now prices.new }
+    ensures duals { AreDuals table.now book.now duals.new.values }
+    ensures best { IsBest table.now book.now best.new.plan best.new.target }
+    ensures falls { best.new.target ≤ best.old.target }
+{
+    let demands = demand_duals(alloc, book, table, marks)?;
+    for i in 0..demands.len() {
+        let found = &demands[i];
+        let end = try_duals(
+            alloc, book, table, net, marks, pool, found, duals, best, prices,
+        )?;
+        if end.is_some() {
+            return Ok(end);
+        }
+    }
+    Ok(None)
 }
 
 // First duals at the root, and a dive from there under them, whose plan lowers the target. The root may end before that.
@@ -89,6 +152,20 @@ fn begin_root(
     ensures falls { best.new.target ≤ best.old.target }
 {
     let end = try_shortage(
+        alloc,
+        book,
+        table,
+        net,
+        marks,
+        pool,
+        duals,
+        best,
+        &mut tools.prices,
+    )?;
+    if end.is_some() {
+        return Ok(end);
+    }
+    let end = try_demands(
         alloc,
         book,
         table,

@@ -20,7 +20,7 @@ use crate::{Best, NodePricer};
 use branch_marks::{Marks, passes};
 use connection_net::Net;
 use dual_ascent::Ascent;
-use node_leaves::add_all_suggestions;
+use node_leaves::{add_all_suggestions, pass_duals};
 use pool_plans::find_plan;
 use restricted_master::Pool;
 use std::alloc::Global;
@@ -32,16 +32,33 @@ const MOST_ROUNDS: u32 = 200;
 
 const ROUNDS_BELOW: u32 = 30;
 
-// Plans are looked for in the pool from this temperature on, in thousandths of a cost unit, and for so many turns.
+// Plans are looked for in the pool from this temperature on, in thousandths of a cost unit, and for so many turns. While there is no
+// plan, that is done again where the ascent has cooled to so many hundredths, and always once it is cold.
 const PLANS_BELOW: i64 = 12_000;
 
-const PLAN_TURNS: u64 = 2000;
+const PLAN_TURNS: u64 = 500;
+
+const COOLED: i64 = 60;
+
+const COLD: i64 = 20;
+
+// The first look at first duals is at such a part of their mean as a temperature, in thousandths of a cost unit, and at no less than
+// the other.
+const LOOK_PART: u64 = 40;
+
+const LOOK_MILDEST: u64 = 1000;
 
 // Suggestions are looked for so many temperatures above the least weights.
 const SUGGESTED: i64 = 4;
 
 // The same while the pool is empty.
 const SUGGESTED_FIRST: i64 = 27;
+
+// Whether it is time to look in the pool again, which was done last at another temperature.
+fn is_due(temperature: i64, tried: i64) -> bool {
+    let cooled = (tried / 100).saturating_mul(COOLED);
+    temperature <= cooled || temperature <= COLD
+}
 
 // Looks in the pool for a plan, once the ascent has cooled so far that light routes fit together.
 fn try_pool(
@@ -52,12 +69,17 @@ fn try_pool(
     duals: &Duals,
     best: &mut Best,
     temperature: i64,
+    tried: &mut i64,
 ) -> Result<(), Memory>
     requires table { IsTableFor book.now table.now }
     requires best { IsBest table.now book.now best.old.plan best.old.target }
     ensures best { IsBest table.now book.now best.new.plan best.new.target }
     ensures falls { best.new.target ≤ best.old.target }
 {
+    if best.plan.is_none() && !is_due(temperature, *tried) {
+        return Ok(());
+    }
+    *tried = temperature;
     if temperature > PLANS_BELOW {
         return Ok(());
     }
@@ -86,6 +108,7 @@ fn look(
     best: &mut Best,
     prices: &mut NodePricer,
     temperature: i64,
+    tried: &mut i64,
 ) -> Result<Weighed, Memory>
     requires ready { IsReady table.now book.now net.now marks.now prices.old }
     requires duals { AreDuals table.now book.now duals.now.values }
@@ -117,7 +140,7 @@ fn look(
         &prices.suggested,
         &mut prices.search,
     )?;
-    try_pool(alloc, book, table, pool, duals, best, temperature)?;
+    try_pool(alloc, book, table, pool, duals, best, temperature, tried)?;
     if passes(found.sum, best.target) {
         return Ok(Weighed::Ended(NodeEnd::Bounded(found.values)));
     }
@@ -136,6 +159,7 @@ fn round(
     best: &mut Best,
     prices: &mut NodePricer,
     ascent: &mut Ascent,
+    tried: &mut i64,
 ) -> Result<Option<NodeEnd>, Memory>
     requires ready { IsReady table.now book.now net.now marks.now prices.old }
     requires duals { AreDuals table.now book.now duals.old.values }
@@ -162,6 +186,7 @@ fn round(
         best,
         prices,
         temperature,
+        tried,
     )?;
     match looked {
         Weighed::Ended(end) => Ok(Some(end)),
@@ -198,6 +223,97 @@ fn is_over(book: &Book, ascent: &Ascent, target: u64, is_below: bool) -> bool {
     ascent.is_over() || (is_below && ascent.falls_short(goal, book.tails.len()))
 }
 
+// The temperature of the first look at first duals.
+fn look_temperature(first: &Duals) -> i64 {
+    let mut sum = 0u64;
+    for dual in first.values.iter() {
+        sum = sum.saturating_add(dual.unsigned_abs());
+    }
+    let mean = sum / (first.values.len() as u64).max(1);
+    (mean / LOOK_PART).clamp(LOOK_MILDEST, 1 << 31) as i64
+}
+
+// The beginning where the pool is empty, as at the root: first duals are priced, which may end the node, and gives the pool its
+// first routes. Then passes make them better, and the next pricing looks further step by step, since the pool tells little of
+// them.
+fn first_look(
+    alloc: Global,
+    book: &Book,
+    table: &CostTable,
+    net: &Net,
+    marks: &Marks,
+    pool: &mut Pool,
+    duals: &mut Duals,
+    best: &mut Best,
+    prices: &mut NodePricer,
+) -> Result<Option<NodeEnd>, Memory>
+    requires ready { IsReady table.now book.now net.now marks.now prices.old }
+    requires duals { AreDuals table.now book.now duals.old.values }
+    requires pool { IsFittingPool table.now book.now marks.now.facts pool.old }
+    requires best { IsBest table.now book.now best.old.plan best.old.target }
+    ensures end { IfOk result (λ end. IfSome end (IsEndFound table.now book.now marks.now.facts duals.new.values best.new.target)) }
+    ensures ready { IsReady table.now book.now net.now marks.now prices.new }
+    ensures duals { AreDuals table.now book.now duals.new.values }
+    ensures pool { IsFittingPool table.now book.now marks.now.facts pool.new }
+    ensures best { IsBest table.now book.now best.new.plan best.new.target }
+    ensures falls { best.new.target ≤ best.old.target }
+{
+    let temperature = look_temperature(duals);
+    let mut tried = i64::MAX;
+    let looked = look(
+        alloc,
+        book,
+        table,
+        net,
+        marks,
+        pool,
+        duals,
+        best,
+        prices,
+        temperature,
+        &mut tried,
+    )?;
+    match looked {
+        Weighed::Ended(end) => Ok(Some(end)),
+        Weighed::Open(_) => {
+            pass_duals(alloc, book, table, net, marks, duals)?;
+            prices.search.is_wary = true;
+            Ok(None)
+        }
+    }
+}
+
+// What the rounds of a node begin with. Only the root has something of its own.
+fn begin(
+    alloc: Global,
+    book: &Book,
+    table: &CostTable,
+    net: &Net,
+    marks: &Marks,
+    pool: &mut Pool,
+    duals: &mut Duals,
+    best: &mut Best,
+    prices: &mut NodePricer,
+    is_below: bool,
+) -> Result<Option<NodeEnd>, Memory>
+    requires ready { IsReady table.now book.now net.now marks.now prices.old }
+    requires duals { AreDuals table.now book.now duals.old.values }
+    requires pool { IsFittingPool table.now book.now marks.now.facts pool.old }
+    requires best { IsBest table.now book.now best.old.plan best.old.target }
+    ensures end { IfOk result (λ end. IfSome end (IsEndFound table.now book.now marks.now.facts duals.new.values best.new.target)) }
+    ensures ready { IsReady table.now book.now net.now marks.now prices.new }
+    ensures duals { AreDuals table.now book.now duals.new.values }
+    ensures pool { IsFittingPool table.now book.now marks.now.facts pool.new }
+    ensures best { IsBest table.now book.now best.new.plan best.new.target }
+    ensures falls { best.new.target ≤ best.old.target }
+{
+    if is_below {
+        Ok(None)
+    } else {
+        first_look(alloc, book, table, net, marks, pool, duals, best, prices)
+    }
+}
+
 /// Ascends from duals, round by round. Without an end the duals are then the best that were priced.
 pub fn ascend(
     alloc: Global,
@@ -222,8 +338,15 @@ pub fn ascend(
     ensures falls { best.new.target ≤ best.old.target }
 {
     let is_below = pool.count() > 0;
+    let begun = begin(
+        alloc, book, table, net, marks, pool, duals, best, prices, is_below,
+    )?;
+    if begun.is_some() {
+        return Ok(begun);
+    }
     let mut ascent = begin_ascent(alloc, table, duals, is_below)?;
     let most = if is_below { ROUNDS_BELOW } else { MOST_ROUNDS };
+    let mut tried = i64::MAX;
     for _round in 0..most {
         if is_over(book, &ascent, best.target, is_below) {
             break;
@@ -239,7 +362,9 @@ pub fn ascend(
             best,
             prices,
             &mut ascent,
+            &mut tried,
         )?;
+        prices.search.is_wary = false;
         if end.is_some() {
             return Ok(end);
         }
