@@ -16,3 +16,4 @@ pub mod FewPlaces
 pub mod LeastLeft
 pub mod OneMore
 pub mod Starts
+pub mod Rising

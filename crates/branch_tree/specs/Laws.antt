@@ -1,6 +1,6 @@
 -- The laws of search trees: what such a tree ends with is true, and its nodes are a proof tree of what the outcome
 -- claims. Both hold of every tree that was grown from the root, whichever of its places was taken first.
-use Rattle.std.specs.Prelude.{◌≡◌, ◌≤◌, ◌+◌, ℕ, List, [], ◌∷◌, length, All}
+use Rattle.std.specs.Prelude.{◌≡◌, ◌≤◌, ◌+◌, ℕ, ℤ, List, [], ◌∷◌, ◌++◌, length, All}
 use Rattle.tail_book.specs.Seen.{BookSeen}
 use Rattle.tail_book.specs.TableSeen.{CostTableSeen}
 use Rattle.tail_book.specs.CostTable.{IsCostTable, IsTableFor}
@@ -8,6 +8,7 @@ use Rattle.tail_book.specs.inside.Sound.{IsBook}
 use Rattle.tail_book.specs.Truth.{IsTrueOutcomeIn}
 use Rattle.tail_book.specs.declared.outcome.Outcome.{Outcome}
 use Rattle.tail_book.specs.declared.outcome.Outcome.TheVariants.{Optimal, Infeasible, Between, Above}
+use Rattle.branch_marks.specs.declared.fact.Fact.{Fact}
 use Rattle.branch_marks.specs.ProofTree.{Tree, IsShown, BoundsAtLeast}
 use Rattle.branch_marks.specs.inside.BranchTests.{undecided}
 use Rattle.branch_tree.specs.declared.limit.Limit.{Limit}
@@ -19,6 +20,7 @@ use Rattle.branch_marks.specs.TreeEvents.{tree_events}
 use Rattle.node_leaves.specs.NodeEvents.{events_of}
 use Rattle.node_leaves.specs.Target.{no_target, HasUsedDive}
 use Rattle.branch_tree.specs.SearchTree.{SearchTree, nodes_of, IsSearchTree}
+use Rattle.branch_tree.specs.Step.{IsLagrangianBound, ReachesBoundOf}
 
 -- the bound that an outcome claims of every legal plan; where it claims that there is none, one more than any costs
 abbrev pub claimed : CostTableSeen → Outcome → ℕ
@@ -72,3 +74,10 @@ ShownNodesAreTrees = (table : CostTableSeen) (book : BookSeen) (low : ℕ) (node
 abbrev pub OpenPlacesAreFew : Type 0
 OpenPlacesAreFew = (table : CostTableSeen) (book : BookSeen) (nodes : List Node) (left : List Open)
     → Grows (IsShownNode table book) (root book ∷ []) nodes left → length left ≤ undecided book [] + 1
+
+-- at a branch of a split, whose marks are those of the split and one fact more, the duals of the split bound no lower than at the
+-- split. A split's bound reaches that of its place (RisesFrom in Step.antt), so bounds never fall along a branch, nor does the least
+-- bound of the places that are open as more nodes are counted
+abbrev pub BranchesBoundNoLower : Type 0
+BranchesBoundNoLower = (table : CostTableSeen) (book : BookSeen) (marks : List Fact) (fact : Fact) (duals : List ℤ) (bound : ℤ)
+    → IsLagrangianBound table book (marks ++ fact ∷ []) duals bound → ReachesBoundOf table book marks duals bound

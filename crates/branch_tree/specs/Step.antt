@@ -1,5 +1,5 @@
 -- What a step on a node answers: what is true of each answer, and the node that the step visits.
-use Rattle.std.specs.Prelude.{◌≡◌, ℕ, ℤ, pos, ◌<◌, List, All}
+use Rattle.std.specs.Prelude.{◌≡◌, ℕ, ℤ, pos, ◌<◌, ◌≤ℤ◌, ⊤, List, All}
 use Rattle.tail_book.specs.Seen.{BookSeen}
 use Rattle.tail_book.specs.TableSeen.{CostTableSeen}
 use Rattle.tail_book.specs.Lookup.{aircraft}
@@ -32,6 +32,10 @@ pub record IsLegalPool (table : CostTableSeen) (book : BookSeen) (pool : PoolSee
 abbrev pub IsLagrangianBound : CostTableSeen → BookSeen → List Fact → List ℤ → ℤ → Type 0
 IsLagrangianBound table book marks duals bound = (sum : ℤ) × IsSum table book marks duals sum × (bound ≡ pos (bound_of sum))
 
+-- a bound is at least the Lagrangian bound of these duals under these marks, which they have unless an aircraft is stuck
+abbrev pub ReachesBoundOf : CostTableSeen → BookSeen → List Fact → List ℤ → ℤ → Type 0
+ReachesBoundOf table book marks duals bound = (low : ℤ) → IsLagrangianBound table book marks duals low → low ≤ℤ bound
+
 -- a split that may be answered: the bound is that of its duals and leaves room below the target, and its pair is undecided
 pub record IsTrueSplit (table : CostTableSeen) (book : BookSeen) (marks : List Fact) (duals : List ℤ) (target : ℕ) (pair : Pair) (bound : ℤ)
     (routes : List (List ℕ)) (dive : Dive) : Type 0 where
@@ -47,6 +51,14 @@ IsTrueStep table book marks duals target (step.Stuck k) = (k < aircraft book) ×
 IsTrueStep table book marks duals target (step.Bounded bound) = IsLagrangianBound table book marks duals bound × Passes (bound_of bound) target
 IsTrueStep table book marks duals target (step.Split pair bound routes dive) =
     IsTrueSplit table book marks duals target pair bound routes.items dive
+
+-- where the step splits the node, its bound is at least that of these duals under these marks; where both are those of the node's
+-- place, bounds never fall on the way down
+abbrev pub RisesFrom : CostTableSeen → BookSeen → List Fact → List ℤ → Step → Type 0
+RisesFrom table book marks duals (step.Hole a) = ⊤
+RisesFrom table book marks duals (step.Stuck k) = ⊤
+RisesFrom table book marks duals (step.Bounded bound) = ⊤
+RisesFrom table book marks duals (step.Split pair bound routes dive) = ReachesBoundOf table book marks duals bound
 
 -- the answer names the end of the node; the duals of a bound and of a split are those that are returned
 abbrev pub AnswersNode : List ℤ → Ending → Step → Type 0

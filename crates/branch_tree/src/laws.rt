@@ -1,9 +1,11 @@
 //! Laws of search trees: the contract of each function is the law.
 
 ghost use Rattle.branch_tree.specs.Laws.{GrownTreesAreBounded, GrownTreesAreTrue, SearchTreesAreGrown, SearchTreesAreTrue, SearchTreesAreShown, SearchTreesAreBounded, DivesAreUsed, ShownNodesAreTrees, OpenPlacesAreFew};
+ghost use Rattle.branch_tree.specs.Laws.{BranchesBoundNoLower};
 
 use branch_marks::laws::{
     branches_leave_fewer, facts_leave_no_more, following_facts_are_new, shown_roots_bound,
+    sums_never_fall,
 };
 use tail_book::laws::legal_plans_cost_at_most_in;
 
@@ -66,4 +68,11 @@ pub fn open_places_are_few()
 {
     facts_leave_no_more();
     branches_leave_fewer();
+}
+
+/// The duals of a split bound no lower at its branches than at the split.
+pub fn branches_bound_no_lower()
+    ensures { BranchesBoundNoLower }
+{
+    sums_never_fall();
 }

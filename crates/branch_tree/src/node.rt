@@ -2,7 +2,7 @@
 //!
 //! Nothing is told of an end before it is certain. What was told before a stop is a front of a begun tree at the node.
 
-ghost use Rattle.std.specs.Prelude.{◌≡◌, ◌≤◌, [], ◌∷◌, IfOk, IfSome, OnErr, IsErrOf};
+ghost use Rattle.std.specs.Prelude.{◌≡◌, ◌≤◌, [], ◌∷◌, Some, IfOk, IfSome, OnErr, IsErrOf};
 ghost use Rattle.tail_book.specs.CostTable.{IsTableFor};
 ghost use Rattle.connection_net.specs.Net.{net_of};
 ghost use Rattle.branch_marks.specs.Settled.{AreDuals};
@@ -10,12 +10,12 @@ ghost use Rattle.branch_marks.specs.TreeLog.{IsLater, WriteHasFailed};
 ghost use Rattle.branch_marks.specs.inside.MarkTables.{AreMarksOf};
 ghost use Rattle.dive_heuristic.specs.Dive.{HasNoHole};
 ghost use Rattle.dive_heuristic.specs.Divers.{IsDiverOf};
-ghost use Rattle.branch_tree.specs.Step.{IsLegalPool, IsTrueStep, IsVisit};
+ghost use Rattle.branch_tree.specs.Step.{IsLegalPool, IsTrueStep, IsVisit, RisesFrom};
 ghost use Rattle.node_leaves.specs.Place.{open_place};
 ghost use Rattle.node_leaves.specs.Stops.{StopsIn};
 ghost use Rattle.node_leaves.specs.Target.{IsBest};
 ghost use Rattle.node_leaves.specs.inside.Leaf.{IsReady};
-ghost use Rattle.branch_tree.specs.inside.StepParts.{AreToolsFor, IsEndFound, IsFollowed};
+ghost use Rattle.branch_tree.specs.inside.StepParts.{AreToolsFor, EndRisesFrom, IsEndFound, IsFollowed, IsLeaf};
 ghost use Rattle.node_leaves.specs.inside.FittingPool.{IsFittingPool};
 
 use crate::cheaper_plans::{exchange_near, seek_plan};
@@ -27,6 +27,7 @@ use crate::step::NodeEnd;
 use crate::step_end::note_end;
 use crate::step_start::{keep_fitting, shut_and_tell};
 use crate::{Best, NodePricer, NodeTools, Step, Stop};
+use branch_marks::laws::{sums_exist, sums_never_fall};
 use branch_marks::{Event, Marks, TreeLog};
 use connection_net::Net;
 use node_leaves::{demand_duals, first_duals, note_one, shortage_duals};
@@ -216,6 +217,18 @@ fn begin(
     }
 }
 
+// An end that is no split: before duals are settled a node ends in no other way.
+fn leaf_of(end: Option<NodeEnd>) -> Option<NodeEnd>
+    ensures end { IfSome result (λ leaf. end ≡ Some leaf) }
+    ensures leaf { IfSome result IsLeaf }
+{
+    match end {
+        Some(NodeEnd::Stuck(k)) => Some(NodeEnd::Stuck(k)),
+        Some(NodeEnd::Bounded(values)) => Some(NodeEnd::Bounded(values)),
+        Some(NodeEnd::Split { .. }) | None => None,
+    }
+}
+
 // The end of a node whose marks are shut, and in which no activity is a hole.
 fn find_end(
     alloc: Global,
@@ -235,6 +248,7 @@ fn find_end(
     requires pool { IsFittingPool table.now book.now marks.now.facts pool.old }
     requires best { IsBest table.now book.now best.old.plan best.old.target }
     ensures end { IfOk result (IsEndFound table.now book.now marks.now.facts duals.new.values best.new.target) }
+    ensures rises { IfOk result (EndRisesFrom table.now book.now marks.now.facts duals.old.values) }
     ensures ready { IsReady table.now book.now net.now marks.now tools.new.prices }
     ensures diver { IsDiverOf book.now table.now tools.new.diver }
     ensures duals { AreDuals table.now book.now duals.new.values }
@@ -242,10 +256,13 @@ fn find_end(
     ensures best { IsBest table.now book.now best.new.plan best.new.target }
     ensures falls { best.new.target ≤ best.old.target }
 {
+    let from = Duals {
+        values: duals.values.clone()?,
+    };
     let begun = begin(
         alloc, book, table, net, marks, pool, duals, best, tools, is_root,
     )?;
-    if let Some(end) = begun {
+    if let Some(end) = leaf_of(begun) {
         return Ok(end);
     }
     let target = best.target;
@@ -260,7 +277,7 @@ fn find_end(
         best,
         &mut tools.prices,
     )?;
-    if let Some(end) = ascended {
+    if let Some(end) = leaf_of(ascended) {
         return Ok(end);
     }
     if is_root {
@@ -268,7 +285,9 @@ fn find_end(
     } else if best.target < target {
         exchange_near(alloc, book, table, net, marks, duals, best)?;
     }
-    settle_node(alloc, book, table, net, marks, pool, duals, best, tools)
+    settle_node(
+        alloc, book, table, net, marks, pool, &from, duals, best, tools,
+    )
 }
 
 /// A step on a node with tools that are kept from node to node.
@@ -291,6 +310,7 @@ pub fn node_step_with<L: TreeLog>(
     ensures visit { IfOk result (IsVisit table.now book.now (open_place marks.old.facts duals.old.values) marks.new.facts duals.new.values best.new.target
         (L.shows log.old) (L.shows log.new)) }
     ensures truth { IfOk result (IsTrueStep table.now book.now marks.new.facts duals.new.values best.new.target) }
+    ensures rises { IfOk result (RisesFrom table.now book.now marks.old.facts duals.old.values) }
     ensures stopped { OnErr result (StopsIn (L.shows log.old) (L.shows log.new) table.now book.now (open_place marks.old.facts duals.old.values ∷ [])) }
     ensures followed { IsFollowed book.now marks.old.facts marks.new.facts }
     ensures marks { AreMarksOf book.now marks.new }
@@ -305,6 +325,8 @@ pub fn node_step_with<L: TreeLog>(
     ensures diver { IsDiverOf book.now table.now tools.new.diver }
 {
     every_book_is_sound(book);
+    sums_exist();
+    sums_never_fall();
     let is_root = marks.mark() == 0;
     let closed = match shut_and_tell(alloc, book, net, marks, &mut tools.diver.propagator, log) {
         Ok(closed) => closed,
@@ -361,6 +383,7 @@ pub fn node_step<L: TreeLog>(
     ensures visit { IfOk result (IsVisit table.now book.now (open_place marks.old.facts duals.old.values) marks.new.facts duals.new.values best.new.target
         (L.shows log.old) (L.shows log.new)) }
     ensures truth { IfOk result (IsTrueStep table.now book.now marks.new.facts duals.new.values best.new.target) }
+    ensures rises { IfOk result (RisesFrom table.now book.now marks.old.facts duals.old.values) }
     ensures stopped { OnErr result (StopsIn (L.shows log.old) (L.shows log.new) table.now book.now (open_place marks.old.facts duals.old.values ∷ [])) }
     ensures followed { IsFollowed book.now marks.old.facts marks.new.facts }
     ensures marks { AreMarksOf book.now marks.new }

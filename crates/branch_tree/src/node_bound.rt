@@ -7,7 +7,7 @@ ghost use Rattle.std.specs.Prelude.{◌≤◌, IfOk};
 ghost use Rattle.branch_marks.specs.Settled.{AreDuals};
 ghost use Rattle.node_leaves.specs.Target.{IsBest};
 ghost use Rattle.node_leaves.specs.inside.Leaf.{IsReady};
-ghost use Rattle.branch_tree.specs.inside.NodeBound.{IsWeighedNode};
+ghost use Rattle.branch_tree.specs.inside.NodeBound.{EndsInLeaf, IsWeighedNode};
 
 use crate::step::NodeEnd;
 use crate::{Best, NodePricer, PricedAll};
@@ -54,6 +54,7 @@ pub fn weigh(
     requires duals { AreDuals table.now book.now duals.now.values }
     requires best { IsBest table.now book.now best.old.plan best.old.target }
     ensures weighed { IfOk result (IsWeighedNode table.now book.now marks.now.facts duals.now.values best.new.target) }
+    ensures leaf { IfOk result EndsInLeaf }
     ensures ready { IsReady table.now book.now net.now marks.now prices.new }
     ensures best { IsBest table.now book.now best.new.plan best.new.target }
     ensures falls { best.new.target ≤ best.old.target }

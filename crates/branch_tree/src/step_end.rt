@@ -1,12 +1,12 @@
 //! The last part of a step: the end that was found is told, with what shows it. A split is one event. For a bound or a
 //! stuck aircraft the labels come from pricing again, one aircraft at a time, and only where the log wants events.
 
-ghost use Rattle.std.specs.Prelude.{IfOk, OnErr, IsErrOf};
+ghost use Rattle.std.specs.Prelude.{ℤ, List, IfOk, OnErr, IsErrOf};
 ghost use Rattle.branch_marks.specs.Settled.{AreDuals};
 ghost use Rattle.branch_marks.specs.TreeLog.{IsLater, WriteHasFailed};
-ghost use Rattle.branch_tree.specs.Step.{IsTrueStep};
+ghost use Rattle.branch_tree.specs.Step.{IsTrueStep, RisesFrom};
 ghost use Rattle.node_leaves.specs.inside.Leaf.{IsReady, IsCutAtLeaf};
-ghost use Rattle.branch_tree.specs.inside.StepParts.{IsEndFound, IsEndNoted};
+ghost use Rattle.branch_tree.specs.inside.StepParts.{EndRisesFrom, IsEndFound, IsEndNoted};
 
 use crate::step::NodeEnd;
 use crate::{NodePricer, Step, Stop};
@@ -36,6 +36,8 @@ pub fn note_end<L: TreeLog>(
     requires found { IsEndFound table.now book.now marks.now.facts duals.now.values target end }
     ensures noted { IfOk result (IsEndNoted table.now book.now marks.now.facts duals.now.values target (L.shows log.old) (L.shows log.new)) }
     ensures truth { IfOk result (IsTrueStep table.now book.now marks.now.facts duals.now.values target) }
+    ensures rises { (from : List ℤ) → EndRisesFrom table.now book.now marks.now.facts from end
+        → IfOk result (RisesFrom table.now book.now marks.now.facts from) }
     ensures cut { OnErr result (IsCutAtLeaf table.now book.now marks.now.facts (L.shows log.old) (L.shows log.new)) }
     ensures later { IsLater (L.shows log.old) (L.shows log.new) }
     ensures beside { L.beside log.old log.new }

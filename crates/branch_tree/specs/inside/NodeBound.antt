@@ -1,5 +1,5 @@
 -- What a look at a node under duals comes to: its end, or least routes whose sum leaves room below the target.
-use Rattle.std.specs.Prelude.{◌≡◌, ℕ, ℤ, ◌≤◌, List}
+use Rattle.std.specs.Prelude.{◌≡◌, ℕ, ℤ, ◌≤◌, ⊤, List}
 use Rattle.tail_book.specs.Seen.{BookSeen}
 use Rattle.tail_book.specs.TableSeen.{CostTableSeen}
 use Rattle.tail_book.specs.CostTable.{plan_cost_in}
@@ -10,7 +10,7 @@ use Rattle.branch_marks.specs.Settled.{AreRoutesOfWeights}
 use Rattle.branch_tree.specs.declared.node_bound.LeastRoutes.{LeastRoutes}
 use Rattle.branch_tree.specs.declared.node_bound.Weighed.{Weighed}
 use Rattle.branch_tree.specs.declared.node_bound.Weighed.TheVariants as weighed
-use Rattle.branch_tree.specs.inside.StepParts.{IsEndFound}
+use Rattle.branch_tree.specs.inside.StepParts.{IsEndFound, IsLeaf}
 
 -- where the routes are a legal plan, the target is at most its cost
 abbrev pub IsUsedPlan : CostTableSeen → BookSeen → ℕ → List (List ℕ) → Type 0
@@ -27,3 +27,8 @@ pub record LeavesRoom (table : CostTableSeen) (book : BookSeen) (marks : List Fa
 abbrev pub IsWeighedNode : CostTableSeen → BookSeen → List Fact → List ℤ → ℕ → Weighed → Type 0
 IsWeighedNode table book marks duals target (weighed.Ended end) = IsEndFound table book marks duals target end
 IsWeighedNode table book marks duals target (weighed.Open found) = LeavesRoom table book marks duals target found
+
+-- where the node ends, it ends in a leaf
+abbrev pub EndsInLeaf : Weighed → Type 0
+EndsInLeaf (weighed.Ended end) = IsLeaf end
+EndsInLeaf (weighed.Open found) = ⊤

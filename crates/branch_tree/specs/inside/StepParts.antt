@@ -1,6 +1,6 @@
 -- Inside a step on a node: its tools, its pool, the end that is found, and what was told when it stopped.
 -- For src/node.rt, src/step_start.rt and others.
-use Rattle.std.specs.Prelude.{◌≡◌, ℕ, ℤ, ◌<◌, List, ◌++◌}
+use Rattle.std.specs.Prelude.{◌≡◌, ℕ, ℤ, ◌<◌, ⊤, List, ◌++◌}
 use Rattle.tail_book.specs.Seen.{BookSeen}
 use Rattle.tail_book.specs.TableSeen.{CostTableSeen}
 use Rattle.tail_book.specs.Lookup.{aircraft}
@@ -20,7 +20,7 @@ use Rattle.branch_tree.specs.declared.tools.NodeTools.{NodeTools}
 use Rattle.branch_tree.specs.Counted.{IsEndOf}
 use Rattle.node_leaves.specs.Node.{Ending, IsShownEnding}
 use Rattle.node_leaves.specs.NodeEvents.{step_events, ending_events}
-use Rattle.branch_tree.specs.Step.{IsTrueSplit, AnswersNode}
+use Rattle.branch_tree.specs.Step.{IsTrueSplit, ReachesBoundOf, AnswersNode}
 use Rattle.node_leaves.specs.inside.Leaf.{IsReady}
 
 -- the tools are of the book, and right for these marks
@@ -34,6 +34,18 @@ IsEndFound table book marks duals target (end.Stuck k) = (k < aircraft book) × 
 IsEndFound table book marks duals target (end.Bounded values) =
     AreLeastWeights table book marks duals values.items × Passes (bound_of (lagrangian duals values.items)) target
 IsEndFound table book marks duals target (end.Split pair bound routes dive) = IsTrueSplit table book marks duals target pair bound routes.items dive
+
+-- the end is no split
+abbrev pub IsLeaf : NodeEnd → Type 0
+IsLeaf (end.Stuck k) = ⊤
+IsLeaf (end.Bounded values) = ⊤
+IsLeaf (end.Split pair bound routes dive) = ⊥
+
+-- where the end is a split, its bound reaches the Lagrangian bound that these duals give under the marks
+abbrev pub EndRisesFrom : CostTableSeen → BookSeen → List Fact → List ℤ → NodeEnd → Type 0
+EndRisesFrom table book marks duals (end.Stuck k) = ⊤
+EndRisesFrom table book marks duals (end.Bounded values) = ⊤
+EndRisesFrom table book marks duals (end.Split pair bound routes dive) = ReachesBoundOf table book marks duals bound
 
 -- the marks grew by facts that follow in their turn, which were told
 pub record IsShutAndTold (book : BookSeen) (before after : List Fact) (old new : LogShown) : Type 0 where

@@ -7,6 +7,7 @@ use Rattle.branch_tree.specs.declared.step.Step.TheVariants as step
 use Rattle.node_leaves.specs.inside.Leaf.{Whole}
 use Rattle.branch_tree.proofs.Holes.{hole_is, no_hole_unless}
 use Rattle.branch_tree.proofs.NodeStops.{end_stops, shut_stops, steps_stop}
+use Rattle.branch_tree.proofs.Rising.{rises_before}
 use Rattle.branch_tree.proofs.Visits.{visited}
 use Rattle.branch_tree.proofs.node.node_step_with.Goals as goal
 
@@ -73,3 +74,11 @@ returns-in-Ok-note_end-clause-visit g c =
     let old = g.L.TreeLog.shows c.args.log.now in let between = g.L.TreeLog.shows c.shut_and_tell.new.log in
     visited table book here after c.find_end.new.duals.values c.find_end.new.best.plan c.find_end.new.best.target old between (g.L.TreeLog.shows c.note_end.new.log)
     c.in-Ok-note_end.ensures.later c.find_end.ensures.best c.in-Ok.ensures.shut c.in-Ok.ensures.told c.in-Ok-note_end.step c.in-Ok-note_end.ensures.noted
+
+-- a split bounds no lower than its place: so it is under the marks that are shut, which hold those of the place
+pub returns-in-Ok-note_end-clause-rises : goal.returns-in-Ok-note_end-clause-rises
+returns-in-Ok-note_end-clause-rises g c =
+    let from = c.args.duals.now.values in
+    rises_before c.sums_exist.ensures c.sums_never_fall.ensures c.args.table.now c.args.book.now c.every_book_is_sound.ensures
+    c.args.marks.now.facts c.shut_and_tell.new.marks.facts from c.find_end.new.duals.values c.find_end.new.best.target c.shut_and_tell.ensures.followed
+    c.in-Ok-note_end.step c.in-Ok-note_end.ensures.truth (c.in-Ok-note_end.ensures.rises from c.in-Ok-find_end.ensures.rises)

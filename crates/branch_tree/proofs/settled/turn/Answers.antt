@@ -2,6 +2,7 @@ use Rattle.std.proofs.Common.{◌≡◌, rules, subst, length}
 use Rattle.restricted_master.specs.Seen.{PoolSeen}
 use Rattle.branch_tree.specs.inside.NewRoutes.{HasAll}
 use Rattle.branch_tree.proofs.Pools.{all_routes, open_attained, open_counts, open_fits, open_found, settled_by_pool}
+use Rattle.branch_tree.proofs.Rising.{end_rises}
 use Rattle.branch_tree.proofs.settled.turn.Goals as goal
 
 -- what was added fits
@@ -38,3 +39,15 @@ split-requires-clause-settled c =
     (open_found table book marks duals target c.in_ok-end.field-0 found c.in_ok-end.ensures.weighed c.in-Open.is routes c.deref.ensures.value).least
     (open_attained table book marks duals target c.in_ok-end.field-0 found c.in_ok-end.ensures.weighed c.in-Open.is routes c.deref.ensures.value)
     (subst (λ (p : PoolSeen). HasAll p routes (length routes)) same all)
+
+-- and so a split bounds no lower than duals that come to no more over the pool
+pub returns-in_ok-end-in-Open-clause-rises : goal.returns-in_ok-end-in-Open-clause-rises
+returns-in_ok-end-in-Open-clause-rises c = λ from over.
+    let table = c.args.table.now in let book = c.args.book.now in let marks = c.args.marks.now.facts in let duals = c.args.duals.now.values in
+    let routes = c.deref.result.now in let target = c.weigh.new.best.target in let found = c.in-Open.found in
+    let same : c.add_routes.new.pool ≡ c.args.pool.now = search rules in
+    let all : HasAll c.add_routes.new.pool routes (length routes) = search rules in
+    end_rises c.least_in_is_least.ensures table book marks from duals c.split.new.best.target c.args.pool.now c.requires.pool.fitting found.values.items routes
+    (open_found table book marks duals target c.in_ok-end.field-0 found c.in_ok-end.ensures.weighed c.in-Open.is routes c.deref.ensures.value).least
+    (open_attained table book marks duals target c.in_ok-end.field-0 found c.in_ok-end.ensures.weighed c.in-Open.is routes c.deref.ensures.value)
+    (subst (λ (p : PoolSeen). HasAll p routes (length routes)) same all) over c.in_ok-end-in-Open.end c.in_ok-end-in-Open.ensures.end
