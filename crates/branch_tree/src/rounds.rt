@@ -32,8 +32,8 @@ const MOST_ROUNDS: u32 = 200;
 
 const ROUNDS_BELOW: u32 = 30;
 
-// Plans are looked for in the pool from this temperature on, in thousandths of a cost unit, and for so many turns. While there is no
-// plan, that is done again where the ascent has cooled to so many hundredths, and always once it is cold.
+// Plans are looked for in the pool from this temperature on, in thousandths of a cost unit, and for so many turns. While there is
+// no plan, that is done again once the ascent has cooled to so many hundredths of where it was then, and always once it is cold.
 const PLANS_BELOW: i64 = 12_000;
 
 const PLAN_TURNS: u64 = 500;
@@ -42,7 +42,7 @@ const COOLED: i64 = 60;
 
 const COLD: i64 = 20;
 
-// The first look at first duals is at such a part of their mean as a temperature, in thousandths of a cost unit, and at no less than
+// The temperature of the first look at first duals is such a part of their mean, in thousandths of a cost unit, and no less than
 // the other.
 const LOOK_PART: u64 = 40;
 
@@ -96,7 +96,8 @@ fn slack_at(temperature: i64, is_first: bool) -> u32 {
     temperature.saturating_mul(times).clamp(0, 1 << 31) as u32
 }
 
-// Prices the node, adds to the pool a route of each aircraft and what else is suggested, and looks there for a plan that lowers the target.
+// Prices the node, adds to the pool a route of each aircraft and what else is suggested, and looks there for a plan that lowers the
+// target.
 fn look(
     alloc: Global,
     book: &Book,

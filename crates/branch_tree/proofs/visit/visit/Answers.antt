@@ -1,4 +1,4 @@
-use Rattle.std.proofs.Common.{◌≡◌, ◌∙◌, ◌++◌, List, refl, ap}
+use Rattle.std.proofs.Common.{◌∙◌, ◌++◌, List, refl, ap}
 use Rattle.node_leaves.specs.Node.{branches}
 use Rattle.node_leaves.specs.Place.{Open}
 use Rattle.branch_tree.specs.declared.open_places.OpenPlaces.{OpenPlaces}
