@@ -79,12 +79,11 @@ module _ (table : CostTableSeen) (book : BookSeen) (duals : List ℤ) (pool : Li
         subst (λ (z : ℤ). value_of values k ≤ℤ z) (sym (value_over k below))
         (low_over k (value_of values k) (least.each k below).least (some k below) (least_in table book duals k pool) (lowest table book duals k pool)))))
 
-    -- and where the pool has routes of the least weights, no less
-    pub pool_below_sum : (values : List ℤ) (routes : List (List ℕ)) → AreLeastWeights table book marks duals values
-        → AreRoutesOfWeights table book marks duals values routes
+    -- and where the pool has the least weights, no less
+    pub pool_below_sum : (values : List ℤ) → AreLeastWeights table book marks duals values
         → ((k : ℕ) → k < aircraft book → least_in table book duals k pool ≡ Some (value_of values k)) → (sum : ℤ) → IsSum table book marks duals sum
         → sum_in table book duals pool ≤ℤ sum
-    pool_below_sum values routes least are pooled sum is =
+    pool_below_sum values least pooled sum is =
         let (others, also, same) = is in
         subst (λ (z : ℤ). sum_in table book duals pool ≤ℤ z) (sym same)
         (more_below (total duals) (total (values_in table book duals pool)) (total others)
@@ -116,7 +115,7 @@ module _ (lowest : LeastInIsLeast) (table : CostTableSeen) (book : BookSeen) (ma
       let (first, is_first, low_is) = is in
       let (sum, is_sum, bound_is) = found.bounds in
       let one = sum_below_pool table book from pool.entries lowest marks fitting some_route first is_first in
-      let two = pool_below_sum table book duals pool.entries lowest marks fitting values routes least are pooled sum is_sum in
+      let two = pool_below_sum table book duals pool.entries lowest marks fitting values least pooled sum is_sum in
       let order = bounds_in_order first sum (omega (arith, ints, one, over, two)) in
       omega (arith, ints, order, low_is, bound_is)
 

@@ -89,7 +89,8 @@ fn settle_above(
     requires from { AreDuals table.now book.now from.now.values }
     requires duals { AreDuals table.now book.now duals.old.values }
     ensures settled { IfOk result (λ _. IsSettledOver table.now book.now pool.now.entries duals.new.values) }
-    ensures rises { IfOk result (λ _. sum_in table.now book.now from.now.values pool.now.entries ≤ℤ sum_in table.now book.now duals.new.values pool.now.entries) }
+    ensures rises { IfOk result (λ _. sum_in table.now book.now from.now.values pool.now.entries
+        ≤ℤ sum_in table.now book.now duals.new.values pool.now.entries) }
     ensures duals { AreDuals table.now book.now duals.new.values }
 {
     let sum = settle(alloc, pool, book, table, duals)?;
