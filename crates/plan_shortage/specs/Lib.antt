@@ -1,0 +1,2 @@
+pub mod Shortage
+pub mod inside
