@@ -5,7 +5,7 @@ use super::fixtures::{WORDS, run_failing};
 use crate::tests::runs::{Program, seen_over};
 use small_texts::{
     AT_ONCE, FLEET, LEGAL, RULES, Seen, TIMETABLE, TWO_AT_ARLANDA, Typed, file_of, files_of,
-    text_of,
+    table_files, text_of,
 };
 use std::alloc::Global;
 use std::test::Fail;
@@ -55,14 +55,12 @@ fn homes_are_those_of_the_kept_plan(rt: HostRuntime) -> Result<(), Fail> {
     for &(old, told) in &[
         ("optimal 180\nA1: F1\nA2: F2\n", ">2 moved<"),
         ("optimal 180\nA1: F2\nA2: F1\n", ">0 moved<"),
-        ("infeasible\n", "refused 3 plan 1\n"),
         ("optimal 1\nA9: F1 F2\n", ">0 moved<"),
         ("optimal 1\nA1: F1 F1 F9\nA2: F1 F2\n", ">2 moved<"),
         ("optimal 1\nA2: F1\nA2: F2\n", ">0 moved<"),
     ] {
         let seen = run_crossed(rt.alloc(), old)?;
-        let status = if told.as_bytes()[0] == b'>' { 0 } else { 3 };
-        assert!(rt; seen.has(status, told), "{old}");
+        assert!(rt; seen.has(0, told), "{old}");
     }
     Ok(())
 }
@@ -110,6 +108,7 @@ fn the_old_plan_is_refused_last(rt: HostRuntime) -> Result<(), Fail> {
     for &(timetable, judged, old, printed) in &[
         (TIMETABLE, good, "optimal\n", "refused 3 plan 1\n"),
         (TIMETABLE, good, "", "refused 3 plan 1\n"),
+        (TIMETABLE, good, "infeasible\n", "refused 3 plan 1\n"),
         (TIMETABLE, no_colon, "optimal\n", "refused 4 plan 2\n"),
         ("id\n", no_colon, "optimal\n", "refused 3 timetable 1\n"),
     ] {
@@ -147,6 +146,14 @@ fn the_old_plan_has_to_be_read(rt: HostRuntime) -> Result<(), Fail> {
     Ok(())
 }
 
+// The plan that a repair of an old one prints.
+fn repair_of(alloc: Global, old: &str) -> Result<Seen, Fail> {
+    let mut files = table_files(alloc, CROSSED.timetable, CROSSED.fleet, CROSSED.rules)?;
+    files.push(file_of(alloc, "p", text_of(alloc, &[old])?)?)?;
+    let words = ["tailplan", "repair", "t", "f", "r", "p"];
+    seen_over(alloc, Program::Planner, &words, files, &[], &[])
+}
+
 // A repair says how many activities it moves, and so does its picture.
 #[test]
 fn a_repair_moves_what_is_outlined(rt: HostRuntime) -> Result<(), Fail> {
@@ -162,18 +169,11 @@ fn a_repair_moves_what_is_outlined(rt: HostRuntime) -> Result<(), Fail> {
             ">0 moved<",
         ),
     ] {
-        let published: &[&str] = &[old];
-        let typed = Typed {
-            judged: published,
-            ..CROSSED
-        };
-        let words = ["tailplan", "repair", "t", "f", "r", "p"];
-        let files = files_of(rt.alloc(), typed)?;
-        let repair = seen_over(rt.alloc(), Program::Planner, &words, files, &[], &[])?;
+        let repair = repair_of(rt.alloc(), old)?;
         assert!(rt; repair.has(0, repaired), "{old}");
-
-        let mut files = files_and_old(rt.alloc(), typed, old)?;
-        files[3] = file_of(rt.alloc(), "p", repair.printed)?;
+        let mut files = table_files(rt.alloc(), CROSSED.timetable, CROSSED.fleet, CROSSED.rules)?;
+        files.push(file_of(rt.alloc(), "p", repair.printed)?)?;
+        files.push(file_of(rt.alloc(), "o", text_of(rt.alloc(), &[old])?)?)?;
         let seen = run_failing(rt.alloc(), &WITH_OLD, files, &[], &[])?;
         assert!(rt; seen.has(0, told), "{old}");
     }
