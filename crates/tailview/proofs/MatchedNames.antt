@@ -1,5 +1,5 @@
 -- The names among what a command matched are the names that the words give.
-use Rattle.std.proofs.Common.{◌≡◌, ◌∙◌, List, Option, Some, ap, option_map, refl, sym}
+use Rattle.std.proofs.Common.{◌≡◌, ◌∙◌, Option, Some, ap, option_map, sym}
 use Rattle.std.specs.Prelude.{option_and_then}
 
 -- where this was found, and its rows are what is due, what is read of its rows is what is read of those

@@ -1,4 +1,4 @@
-use Rattle.std.proofs.Common.{◌≡◌, ◌∙◌, Option, ap, option_map}
+use Rattle.std.proofs.Common.{◌∙◌, ap}
 use Rattle.clap.specs.Words.{App, found_of, rows_of}
 use Rattle.run_frame.specs.Spelled.{spelled}
 use Rattle.run_frame.specs.Words.{matched}
