@@ -42,7 +42,7 @@ bound_up (pos a) (negsuc b) not = absurd (not (omega (arith, ints)))
 bound_up (negsuc a) (pos b) not = omega arith
 bound_up (negsuc a) (negsuc b) not = omega arith
 
-passes_up : (low high target : ℕ) → low ≤ high → Passes low target → Passes high target
+pub passes_up : (low high target : ℕ) → low ≤ high → Passes low target → Passes high target
 passes_up low high target less passes = omega (arith, less, passes)
 
 full_pruned : (target : ℕ) (rank : Rank) (kept : Option Kept) → ¬ (kept ≡ None) → IsPruned target rank (kept_count kept)

@@ -8,6 +8,10 @@ module _ {S : Type 0} (Stands : Owed → S → List Owed → Type 0) where
   unfolding Laid
   laid_none owed = refl
 
+  pub laid_end : (owed left : List Owed) → Laid Stands owed [] left → owed ≡ left
+  unfolding Laid
+  laid_end owed left is = is
+
   pub laid_one : (here : Owed) (rest : List Owed) (slot : S) (opened : List Owed) → Stands here slot opened → Laid Stands (here ∷ rest) (slot ∷ []) (opened ++ rest)
   unfolding Laid
   laid_one here rest slot opened stands = (opened, stands, refl)

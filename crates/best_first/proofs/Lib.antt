@@ -7,3 +7,7 @@ pub mod NodesKept
 pub mod SlotPlaces
 pub mod TreesGrown
 pub mod Endings
+pub mod EndsTold
+pub mod SlotsTold
+pub mod TreesTold
+pub mod LeavesExist

@@ -1,5 +1,5 @@
 -- The tree of a search by least bound, with the order in which its nodes were counted, and what its outcome has to do with them.
--- For Laws.antt, inside/Slots.antt and inside/BestParts.antt.
+-- For Laws.antt, inside/Slots.antt and inside/BestParts.antt, src/closing.rt, src/tree_telling.rt and others.
 use Rattle.std.specs.Prelude.{◌≡◌, ◌⊎◌, ◌+◌, ◌<◌, ◌≤◌, ⊤, ℕ, ℤ, pos, true, false, List, [], ◌∷◌, ◌++◌, All, Contains, length, map, Option, Some, None}
 use Rattle.tail_book.specs.Seen.{BookSeen}
 use Rattle.tail_book.specs.TableSeen.{CostTableSeen}

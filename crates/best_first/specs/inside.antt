@@ -3,3 +3,4 @@ pub mod Links
 pub mod Slots
 pub mod BestParts
 pub mod Visits
+pub mod Tellings

@@ -53,7 +53,8 @@ pub record IsShutAt (table : CostTableSeen) (book : BookSeen) (before marks : Li
   pub is_target : IsTarget table book target
 
 -- one node more is counted, and what is open can grow to less
-pub record IsOneMore (table : CostTableSeen) (book : BookSeen) (links : List Link) (slots : List Slot) (more : List Link) (after : List Slot) (n target : ℕ) : Type 0 where
+pub record IsOneMore (table : CostTableSeen) (book : BookSeen) (links : List Link) (slots : List Slot) (more : List Link) (after : List Slot)
+    (n target : ℕ) : Type 0 where
   pub grown : AreSlots table book more after (n + 1) target
   pub less : room_of book more after < room_of book links slots
 

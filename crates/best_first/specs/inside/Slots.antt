@@ -67,7 +67,8 @@ opened_from marks duals (Stuck k) since = []
 opened_from marks duals Bounded since = []
 
 -- a counted node as it is kept, at a place of these marks: its steps lie behind them, and its end is right under its target
-pub record IsKeptAt (table : CostTableSeen) (book : BookSeen) (links : List Link) (before : List Fact) (duals : List ℤ) (kept : Kept) (opened : List Owed) : Type 0 where
+pub record IsKeptAt (table : CostTableSeen) (book : BookSeen) (links : List Link) (before : List Fact) (duals : List ℤ) (kept : Kept)
+    (opened : List Owed) : Type 0 where
   pub steps : List Fact
   pub closed : facts_at links kept.last ≡ before ++ steps
   pub within : kept.last ≤ length links
