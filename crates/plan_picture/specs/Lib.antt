@@ -1,5 +1,4 @@
 pub mod View
-pub mod Homes
 pub mod Layout
 pub mod Calendar
 pub mod Fixed

@@ -9,8 +9,8 @@ use Rattle.plan_audit.specs.declared.broken.Broken.{Broken}
 use Rattle.plan_audit.specs.declared.broken.Broken.TheVariants.{Unknown, Twice, Uncovered, NotAllowed, Curfew, NoLink, Counter}
 use Rattle.plan_report.specs.Lines.{newline}
 use Rattle.plan_picture.specs.Bars.{bar_lines, rules_at}
-use Rattle.plan_picture.specs.Homes.{moved_from}
 use Rattle.plan_picture.specs.Layout.{y_of}
+use Rattle.plan_picture.specs.Moved.{moved_from}
 use Rattle.plan_picture.specs.Shares.{greatest, share_texts}
 use Rattle.plan_picture.specs.Stops.{stop_lines}
 

@@ -2,7 +2,6 @@
 //! what another aircraft flew before in an outline.
 #![tactic(auto)]
 
-mod at_home;
 mod bars;
 mod calendar;
 mod curfews;
@@ -17,6 +16,5 @@ mod stops;
 mod stretches;
 mod view;
 
-pub use at_home::homes;
 pub use picture::write_picture;
 pub use view::{View, port_named};

@@ -1,8 +1,8 @@
 //! The activities that another aircraft flies than their home, and how many they are, as it is told below the title.
 
 ghost use Rattle.std.specs.Prelude.{◌≡◌, ◌<◌, ◌+◌, ◌^◌, ◌++◌, IfOk, OnOk, length};
-ghost use Rattle.plan_picture.specs.Homes.{home_of, is_moved, moved_from, moves, moves_in};
-ghost use Rattle.plan_picture.specs.Moved.{marked_by, moves_line, moves_lines};
+ghost use Rattle.plan_homes.specs.Moves.{home_of, is_moved, moves, moves_in};
+ghost use Rattle.plan_picture.specs.Moved.{marked_by, moved_from, moves_line, moves_lines};
 
 use crate::fixed::{fixed_line, moved_style};
 use crate::view::View;

@@ -9,7 +9,7 @@ use Rattle.tail_book.specs.CostTable.{IsCostTable, costs_of, plan_cost_in}
 use Rattle.tail_book.specs.Plan.{IsLegalPlan}
 use Rattle.tail_book.specs.inside.Sound.{IsBook}
 use Rattle.tail_book.specs.inside.TableLaws.{LegalPlansCostAtMostIn, OwnCostsAreForBook, OwnCostsOfLegalPlans}
-use Rattle.plan_repair.specs.Moves.{moves}
+use Rattle.plan_homes.specs.Moves.{moves}
 use Rattle.plan_repair.specs.declared.least_plans.LeastPlan.{LeastPlan}
 use Rattle.plan_repair.specs.inside.Found.{IsFewest, IsLeastPlan}
 use Rattle.plan_repair.specs.inside.Raised.{RaisedPlansCost, no_costs, raised}

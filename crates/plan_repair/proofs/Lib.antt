@@ -1,4 +1,3 @@
-pub mod HomeLemmas
 pub mod RaisedCosts
 pub mod LeastPlans
 pub mod RungLemmas

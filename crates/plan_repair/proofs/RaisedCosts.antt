@@ -25,7 +25,7 @@ use Rattle.tail_book.specs.inside.Partition.{LegalPlansFlyTheBook}
 use Rattle.tail_book.specs.inside.Sound.{IsBook}
 use Rattle.tail_book.proofs.Rows.{entry, rows_length}
 use Rattle.tail_book.proofs.Timed.{everywhere}
-use Rattle.plan_repair.specs.Moves.{is_moved, moves_in, moves_of_routes}
+use Rattle.plan_homes.specs.Moves.{is_moved, moves_in, moves_of_routes}
 use Rattle.plan_repair.specs.inside.Raised.{RaisedPlansCost, no_costs, raised, raised_cost, raised_costs}
 
 -- a move costs the raise once

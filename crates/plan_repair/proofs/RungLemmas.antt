@@ -11,8 +11,8 @@ use Rattle.tail_book.specs.Cost.{plan_cost}
 use Rattle.tail_book.specs.declared.limits.TheConstants.{LEG_COST_LIMIT}
 use Rattle.tail_book.specs.Lookup.{activities}
 use Rattle.tail_book.specs.inside.Bounds.{LegalPlansCostAtMost}
-use Rattle.plan_repair.specs.Moves.{moves}
 use Rattle.tail_book.specs.inside.Sound.{IsBook}
+use Rattle.plan_homes.specs.Moves.{moves}
 use Rattle.plan_repair.specs.declared.least_plans.LeastPlan.{LeastPlan}
 use Rattle.plan_repair.specs.declared.rungs.Priced.{Priced}
 use Rattle.plan_repair.specs.inside.Found.{IsFewest}

@@ -5,9 +5,9 @@ use Rattle.tail_book.specs.Seen.{BookSeen}
 use Rattle.tail_book.specs.Plan.{IsLegalPlan}
 use Rattle.tail_book.specs.Cost.{plan_cost}
 use Rattle.tail_book.specs.Truth.{HasNoPlan}
+use Rattle.plan_homes.specs.Moves.{moves}
 use Rattle.plan_repair.specs.declared.answer.Repair.{Repair}
 use Rattle.plan_repair.specs.declared.answer.Repair.TheVariants.{Done, Infeasible}
-use Rattle.plan_repair.specs.Moves.{moves}
 
 -- the other plan has more moves, or as many and costs at least as much
 abbrev pub IsNoBetter : BookSeen → List (Option ℕ) → List (List ℕ) → List (List ℕ) → Type 0

@@ -1,19 +1,11 @@
 //! Laws over the definitions alone: the contract of each function is the law.
 
-ghost use Rattle.plan_repair.specs.inside.Laws.{HomesAreForTheBook, RepairIsReadBack, TrueRepairsCanBeWritten};
+ghost use Rattle.plan_repair.specs.inside.Laws.{RepairIsReadBack, TrueRepairsCanBeWritten};
 ghost use Rattle.plan_repair.specs.inside.Raised.{RaisedPlansCost};
 ghost use Rattle.plan_repair.specs.inside.Rungs.{HighestIsFewest, LeastOfFewestIsRepair};
 
-use plan_audit::laws::kept_plans_fly_once;
 use plan_report::laws::repaired_is_read_back;
 use tail_book::laws::{legal_plans_cost_at_most, legal_plans_fly_the_book};
-
-/// The homes in a published plan are a home for each activity of the book, each nobody or an aircraft of the book.
-pub fn homes_are_for_the_book()
-    ensures { HomesAreForTheBook }
-{
-    kept_plans_fly_once();
-}
 
 /// By a table with its moves raised a legal plan costs what it cost, and the raise for each move.
 pub fn raised_plans_cost()

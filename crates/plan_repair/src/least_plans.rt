@@ -5,8 +5,8 @@ ghost use Rattle.std.specs.Prelude.{◌≡◌, ◌≤◌, IfOk, IfSome};
 ghost use Rattle.tail_book.specs.Lookup.{activities};
 ghost use Rattle.tail_book.specs.Plan.{IsLegalPlan};
 ghost use Rattle.tail_book.specs.CostTable.{IsTableFor};
+ghost use Rattle.plan_homes.specs.Moves.{moves};
 ghost use Rattle.plan_repair.specs.declared.raised.TheConstants.{REPAIR_LIMIT};
-ghost use Rattle.plan_repair.specs.Moves.{moves};
 ghost use Rattle.plan_repair.specs.inside.Found.{IsFewest, IsLeastOrNone};
 
 use crate::laws::raised_plans_cost;

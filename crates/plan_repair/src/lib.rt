@@ -2,7 +2,6 @@
 #![tactic(auto)]
 
 mod answer;
-mod at_home;
 pub mod laws;
 mod least_plans;
 mod moved;
@@ -12,8 +11,8 @@ mod report;
 mod rungs;
 
 pub use answer::Repair;
-pub use at_home::homes;
 pub use moved::moves;
+pub use plan_homes::homes;
 pub use raised::REPAIR_LIMIT;
 pub use repairing::repair;
 pub use report::write_repair;

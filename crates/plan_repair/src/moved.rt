@@ -1,7 +1,7 @@
 //! How many activities a plan moves. A home is one read, so it takes a pass over the plan.
 
 ghost use Rattle.std.specs.Prelude.{◌≡◌, ◌<◌, ◌^◌, length};
-ghost use Rattle.plan_repair.specs.Moves.{is_moved, moves, moves_in};
+ghost use Rattle.plan_homes.specs.Moves.{is_moved, moves, moves_in};
 
 use tail_book::{Plan, Route};
 

@@ -7,9 +7,9 @@ ghost use Rattle.std.specs.Prelude.{◌≡◌, ◌≤◌, IfOk, IfSome, length};
 ghost use Rattle.tail_book.specs.Lookup.{activities};
 ghost use Rattle.tail_book.specs.Plan.{IsLegalPlan};
 ghost use Rattle.tail_book.specs.CostTable.{costs_of};
+ghost use Rattle.plan_homes.specs.Moves.{AreHomesFor};
 ghost use Rattle.plan_repair.specs.declared.raised.TheConstants.{REPAIR_LIMIT};
 ghost use Rattle.plan_repair.specs.LeastRepair.{IsTrueRepair};
-ghost use Rattle.plan_repair.specs.Moves.{AreHomesFor};
 
 use crate::answer::Repair;
 use crate::rungs::{first_raise, highest, least_at, settled};

@@ -11,9 +11,9 @@ use Rattle.tail_outside.specs.Shown.{FilesShown, SinkShown}
 use Rattle.tail_text.specs.Checks.{look, must}
 use Rattle.tail_text.specs.declared.refusal.Refusal.{Refusal}
 use Rattle.book_maker.specs.Made.{book_of}
-use Rattle.plan_repair.specs.Homes.{homes}
+use Rattle.plan_homes.specs.Homes.{homes}
+use Rattle.plan_homes.specs.Moves.{moves}
 use Rattle.plan_repair.specs.LeastRepair.{IsTrueRepair}
-use Rattle.plan_repair.specs.Moves.{moves}
 use Rattle.plan_repair.specs.RepairText.{repair_lines, repair_text}
 use Rattle.plan_repair.specs.inside.Report.{HasPlanFor}
 use Rattle.plan_repair.specs.declared.raised.TheConstants.{REPAIR_LIMIT}

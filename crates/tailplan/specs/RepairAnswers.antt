@@ -3,7 +3,7 @@ use Rattle.std.specs.Prelude.{ℕ, ◌≡◌, List, Ok, Err, IfSome}
 use Rattle.tail_book.specs.Seen.{RawPlanSeen}
 use Rattle.tail_outside.specs.Shown.{FilesShown}
 use Rattle.tail_text.specs.declared.refusal.Refusal.{Refusal}
-use Rattle.plan_repair.specs.Homes.{homes}
+use Rattle.plan_homes.specs.Homes.{homes}
 use Rattle.plan_repair.specs.LeastRepair.{IsTrueRepair}
 use Rattle.plan_repair.specs.RepairText.{repair_lines}
 use Rattle.plan_report.specs.Lines.{text_of}

@@ -4,9 +4,9 @@ use Rattle.tail_book.specs.Cost.{plan_cost}
 use Rattle.tail_book.specs.Truth.{HasNoPlan}
 use Rattle.tail_outside.specs.Outside.{Takes}
 use Rattle.tail_outside.specs.Shown.{FilesShown, SinkShown}
-use Rattle.plan_repair.specs.Homes.{homes}
+use Rattle.plan_homes.specs.Homes.{homes}
+use Rattle.plan_homes.specs.Moves.{moves}
 use Rattle.plan_repair.specs.LeastRepair.{IsLeastRepair}
-use Rattle.plan_repair.specs.Moves.{moves}
 use Rattle.plan_repair.specs.RepairText.{repair_text}
 use Rattle.plan_repair.specs.declared.answer.Repair.TheVariants.{Done, Infeasible}
 use Rattle.run_frame.specs.Promise.{ElsePromise, Judges, Refuses}

@@ -5,7 +5,7 @@ use Rattle.tail_outside.specs.Shown.{FilesShown}
 use Rattle.tail_text.specs.declared.refusal.Refusal.{Refusal}
 use Rattle.plan_audit.specs.Broken.{IsAuditOf}
 use Rattle.plan_audit.specs.Kept.{kept}
-use Rattle.plan_picture.specs.Homes.{homes}
+use Rattle.plan_homes.specs.Homes.{homes}
 use Rattle.plan_picture.specs.Picture.{page_lines}
 use Rattle.plan_picture.specs.Ports.{port_named}
 use Rattle.plan_picture.specs.View.{ViewSeen}

@@ -4,12 +4,12 @@
 ghost use Rattle.std.specs.Prelude.{◌≡◌, IfOk, IfSome, IsErrOf, option_map};
 ghost use Rattle.tail_outside.specs.Outside.{OnlyRead, ReadHasFailed};
 ghost use Rattle.tail_text.specs.inside.Reading.{Answers};
-ghost use Rattle.plan_picture.specs.Homes.{homes};
+ghost use Rattle.plan_homes.specs.Homes.{homes};
 ghost use Rattle.run_frame.specs.inside.TableFiles.{front};
 ghost use Rattle.tailview.specs.Cases.{before_in};
 ghost use Rattle.tailview.specs.Texts.{MayReadBefore, before_held};
 
-use plan_picture::homes;
+use plan_homes::homes;
 use plan_report::read_plan;
 use run_frame::READ_LIMIT;
 use std::alloc::Global;

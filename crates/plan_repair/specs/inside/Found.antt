@@ -4,8 +4,8 @@ use Rattle.tail_book.specs.Seen.{BookSeen}
 use Rattle.tail_book.specs.TableSeen.{CostTableSeen}
 use Rattle.tail_book.specs.Plan.{IsLegalPlan}
 use Rattle.tail_book.specs.Truth.{CostsAtLeastIn, HasNoPlan, IsPlanIn}
+use Rattle.plan_homes.specs.Moves.{moves}
 use Rattle.plan_repair.specs.declared.least_plans.LeastPlan.{LeastPlan}
-use Rattle.plan_repair.specs.Moves.{moves}
 
 -- the plan is legal and costs this by the table, and no legal plan costs less
 pub record IsLeastPlan (table : CostTableSeen) (book : BookSeen) (found : LeastPlan) : Type 0 where

@@ -1,7 +1,6 @@
--- The laws of homes and of reports: the homes in a published plan are homes for the book, a true repair can be printed, and what
--- is printed of it is read back. For src/laws.rt.
+-- The laws of reports: a true repair can be printed, and what is printed of it is read back. For src/laws.rt.
 use Rattle.std.specs.Prelude.{ℕ, ◌≡◌, ◌<◌, ◌^◌, ⊤, List, Ok, Option}
-use Rattle.tail_book.specs.Seen.{BookSeen, RawPlanSeen}
+use Rattle.tail_book.specs.Seen.{BookSeen}
 use Rattle.tail_book.specs.inside.Sound.{IsBook}
 use Rattle.plan_report.specs.PlanText.{plan_in}
 use Rattle.plan_report.specs.inside.Laws.{HasNoRepeats, names_of_plan}
@@ -10,12 +9,6 @@ use Rattle.plan_repair.specs.RepairText.{repair_text}
 use Rattle.plan_repair.specs.declared.answer.Repair.{Repair}
 use Rattle.plan_repair.specs.declared.answer.Repair.TheVariants.{Done, Infeasible}
 use Rattle.plan_repair.specs.inside.Report.{HasPlanFor}
-use Rattle.plan_repair.specs.Homes.{homes}
-use Rattle.plan_repair.specs.Moves.{AreHomesFor}
-
--- one for each activity of the book, each nobody or an aircraft of the book
-abbrev pub HomesAreForTheBook : Type 0
-HomesAreForTheBook = (book : BookSeen) (raw : RawPlanSeen) → AreHomesFor book (homes book raw)
 
 -- the law of true repairs: their plan has one route for each aircraft, of activities of the book
 abbrev pub TrueRepairsCanBeWritten : Type 0

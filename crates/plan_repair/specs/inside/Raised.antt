@@ -6,7 +6,7 @@ use Rattle.tail_book.specs.TableSeen.{CostTableSeen}
 use Rattle.tail_book.specs.Lookup.{activities, aircraft}
 use Rattle.tail_book.specs.Plan.{IsLegalPlan}
 use Rattle.tail_book.specs.CostTable.{IsTableFor, activity_cost_in, plan_cost_in}
-use Rattle.plan_repair.specs.Moves.{is_moved, moves}
+use Rattle.plan_homes.specs.Moves.{is_moved, moves}
 
 -- what an activity costs aircraft k where each move costs so much beside
 abbrev pub raised_cost : CostTableSeen → List (Option ℕ) → ℕ → ℕ → ℕ → ℕ

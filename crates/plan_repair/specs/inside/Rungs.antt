@@ -7,7 +7,7 @@ use Rattle.tail_book.specs.Plan.{IsLegalPlan}
 use Rattle.tail_book.specs.Cost.{plan_cost}
 use Rattle.tail_book.specs.Truth.{HasNoPlan}
 use Rattle.tail_book.specs.inside.Sound.{IsBook}
-use Rattle.plan_repair.specs.Moves.{moves}
+use Rattle.plan_homes.specs.Moves.{moves}
 use Rattle.plan_repair.specs.LeastRepair.{IsLeastRepair}
 use Rattle.plan_repair.specs.declared.rungs.Priced.{Priced}
 use Rattle.plan_repair.specs.inside.Found.{MovesAtLeast}

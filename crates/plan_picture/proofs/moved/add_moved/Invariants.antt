@@ -1,5 +1,5 @@
 use Rattle.std.proofs.Common.{◌≡◌, ◌+◌, drop, length}
-use Rattle.plan_picture.specs.Homes.{moves_in}
+use Rattle.plan_homes.specs.Moves.{moves_in}
 use Rattle.plan_picture.proofs.moved.add_moved.Given as goal
 
 -- the moves so far, and those of the activities that are left

@@ -1,5 +1,5 @@
 use Rattle.std.proofs.Common.{◌≡◌, ◌+◌, drop, length}
-use Rattle.plan_picture.specs.Homes.{moves, moves_of_routes}
+use Rattle.plan_homes.specs.Moves.{moves, moves_of_routes}
 use Rattle.plan_picture.proofs.moved.moved.Given as goal
 
 -- the moves so far, and those of the routes that are left

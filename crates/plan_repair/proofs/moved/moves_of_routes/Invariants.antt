@@ -1,5 +1,5 @@
 use Rattle.std.proofs.Common.{◌≡◌, ◌+◌, drop}
-use Rattle.plan_repair.specs.Moves.{moves, moves_of_routes}
+use Rattle.plan_homes.specs.Moves.{moves, moves_of_routes}
 use Rattle.plan_repair.proofs.moved.moves_of_routes.Given as goal
 
 -- the moves so far, and those of the routes that are left

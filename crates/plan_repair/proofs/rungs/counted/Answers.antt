@@ -1,6 +1,6 @@
 use Rattle.std.proofs.Common.{◌*◌, ◌^◌, ◌<◌}
 use Rattle.tail_book.specs.Cost.{plan_cost}
-use Rattle.plan_repair.specs.Moves.{moves}
+use Rattle.plan_homes.specs.Moves.{moves}
 use Rattle.plan_repair.specs.declared.least_plans.LeastPlan.{LeastPlan}
 use Rattle.plan_repair.proofs.LeastPlans.{below_sum, cost_of_least, few_moves, least_of, part_of, rest_of}
 use Rattle.plan_repair.proofs.rungs.counted.Goals as goal

@@ -1,4 +1,5 @@
--- The moves of a plan: the activities that another aircraft flies than their home. For src/moved.rt.
+-- The moves of a plan: the activities that another aircraft flies than their home. For plan_repair/src/moved.rt and
+-- plan_picture/src/moved.rt.
 use Rattle.std.specs.Prelude.{ℕ, ◌+◌, ◌≡◌, Bool, not, List, [], ◌∷◌, All, IsTrue, length, count_by, slice_index_or, Option, None}
 use Rattle.tail_book.specs.Seen.{BookSeen}
 use Rattle.tail_book.specs.Numbers.{is_none_or}

@@ -10,8 +10,8 @@ use Rattle.tail_book.specs.Lookup.{activities, aircraft}
 use Rattle.tail_book.specs.inside.Sound.{is_none_or_below}
 use Rattle.plan_audit.specs.Kept.{kept}
 use Rattle.plan_audit.specs.inside.Laws.{KeptPlansFlyOnce}
-use Rattle.plan_repair.specs.Homes.{home, home_in, homes}
-use Rattle.plan_repair.specs.inside.Laws.{HomesAreForTheBook}
+use Rattle.plan_homes.specs.Homes.{home, home_in, homes}
+use Rattle.plan_homes.specs.inside.Laws.{HomesAreForTheBook}
 
 -- it is the number of one of the routes, or nobody
 below_by : (b : Bool) (at n m : ℕ) → nat_lt at n ≡ b → n ≡ m → IsTrue (is_none_or_below (cond b (Some at) None) m)

@@ -1,22 +1,28 @@
-//! The homes of a book's activities: who flies each of them in a plan that was published before, whatever else that plan
-//! holds. The home of each is looked up once, route by route, and a bar then looks at one number.
+//! The homes of a book's activities: who flies each of them in a published plan, whatever else that plan holds.
+//!
+//! The plan may be one of an older timetable. Names that the book does not have, or that stand twice, are left out as they
+//! are by an audit, so each activity has one home or none. A home is looked up route by route.
 
 ghost use Rattle.std.specs.Prelude.{◌≡◌, ◌<◌, ◌^◌, IfOk, IfSome, length};
 ghost use Rattle.tail_book.specs.Numbers.{contains};
-ghost use Rattle.plan_picture.specs.Homes.{home_in, homes};
+ghost use Rattle.plan_homes.specs.Homes.{home_in, homes};
+ghost use Rattle.plan_homes.specs.Moves.{AreHomesFor};
 
+use crate::laws::homes_are_for_the_book;
 use plan_audit::kept;
 use plan_audit::laws::kept_plans_fly_once;
 use std::alloc::Global;
 use tail_book::laws::every_book_is_sound;
 use tail_book::{Book, Memory, RawPlan, Route};
 
-/// The home of each activity of the book, by number: the aircraft whose route in what is kept of the plan has it, or nobody.
+/// The home of each activity of the book, by number: the aircraft whose route in the published plan has it, or nobody.
 pub fn homes(alloc: Global, book: &Book, raw: &RawPlan) -> Result<Vec<Option<u32>>, Memory>
-    ensures { IfOk result (λ list. list.items ≡ homes book.now raw.now) }
+    ensures homes { IfOk result (λ list. list.items ≡ homes book.now raw.now) }
+    ensures each { IfOk result (λ list. AreHomesFor book.now list.items) }
 {
     every_book_is_sound(book);
     kept_plans_fly_once();
+    homes_are_for_the_book();
     let plan = kept(alloc, book, raw)?;
     let mut homes = Vec::with_capacity(alloc, book.activities.len())?;
     for a in 0..book.activities.len() {

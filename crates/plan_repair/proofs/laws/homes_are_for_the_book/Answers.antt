@@ -1,5 +1,0 @@
-use Rattle.plan_repair.proofs.HomeLemmas.{homes_for}
-use Rattle.plan_repair.proofs.laws.homes_are_for_the_book.Goals as goal
-
-pub returns : goal.returns
-returns c = homes_for c.kept_plans_fly_once.ensures
