@@ -1,17 +1,42 @@
-//! Limits of nodes: each number of them up to the size of the tree, on books that make the search branch and on books by
-//! chance.
+//! Limits of nodes: each number of them up to the size of the tree, depth first and by least bound, on books that make the search
+//! branch and on books by chance.
 
 ghost use Rattle.tail_book.specs.CostTable.{IsTableFor};
 
 use super::branching::branching_books;
 use super::{book_by_chance, book_of, nodes_in};
+use best_first::search_best;
 use branch_marks::MemTree;
-use branch_tree::{Limit, search};
+use branch_tree::{Limit, Stop, search};
 use dice::Dice;
 use plan_audit::audit_plan;
 use small_books::costs;
 use std::alloc::Global;
 use tail_book::*;
+
+// The order in which nodes are counted.
+#[derive(Clone, Copy)]
+enum Order {
+    DepthFirst,
+    LeastBound,
+}
+
+// A search in an order, told to this log.
+fn searched(
+    alloc: Global,
+    book: &Book,
+    table: &CostTable,
+    order: Order,
+    limit: Limit,
+    log: &mut MemTree,
+) -> Result<Outcome, Stop>
+    requires { IsTableFor book.now table.now }
+{
+    match order {
+        Order::DepthFirst => search(alloc, book, table, limit, log),
+        Order::LeastBound => search_best(alloc, book, table, limit, log),
+    }
+}
 
 // What is known of the least cost at a limit: a number that it reaches, and what a plan costs if there is one. No plan reaches
 // the greatest number.
@@ -101,33 +126,34 @@ fn known_with(
     alloc: Global,
     book: &Book,
     table: &CostTable,
+    order: Order,
     most: u64,
     log: &mut MemTree,
 ) -> Option<Known>
     requires { IsTableFor book.now table.now }
 {
-    match search(alloc, book, table, Limit::Nodes(most), log) {
+    match searched(alloc, book, table, order, Limit::Nodes(most), log) {
         Ok(outcome) => known_by(alloc, book, table, &outcome, most),
         Err(_) => None,
     }
 }
 
-fn known_at(alloc: Global, book: &Book, table: &CostTable, most: u64) -> Option<Known>
+fn known_at(alloc: Global, book: &Book, table: &CostTable, order: Order, most: u64) -> Option<Known>
     requires { IsTableFor book.now table.now }
 {
     match MemTree::new(alloc) {
-        Ok(mut log) => known_with(alloc, book, table, most, &mut log),
+        Ok(mut log) => known_with(alloc, book, table, order, most, &mut log),
         Err(_) => None,
     }
 }
 
 // How many nodes the tree has, without a limit; nothing where no search ends.
-fn size_of(alloc: Global, book: &Book, table: &CostTable) -> Option<u64>
+fn size_of(alloc: Global, book: &Book, table: &CostTable, order: Order) -> Option<u64>
     requires { IsTableFor book.now table.now }
 {
     match MemTree::new(alloc) {
         Ok(mut log) => {
-            if search(alloc, book, table, Limit::Free, &mut log).is_ok() {
+            if searched(alloc, book, table, order, Limit::Free, &mut log).is_ok() {
                 Some(nodes_in(log.events()))
             } else {
                 None
@@ -143,6 +169,7 @@ fn first_wrong(
     alloc: Global,
     book: &Book,
     table: &CostTable,
+    order: Order,
     size: u64,
     least: Option<u64>,
 ) -> Option<u64>
@@ -150,7 +177,7 @@ fn first_wrong(
 {
     let mut before = Known { low: 0, high: None };
     for most in 0..size.saturating_add(1) {
-        match known_at(alloc, book, table, most) {
+        match known_at(alloc, book, table, order, most) {
             Some(known) if before.grows_to(known) && known.grows_to(Known::all(least)) => {
                 before = known
             }
@@ -177,29 +204,35 @@ const WRONG: Judgment = Judgment {
     wrong: Some(0),
 };
 
-fn judged_by(alloc: Global, book: &Book, table: &CostTable, least: Option<u64>) -> Judgment
+fn judged_by(
+    alloc: Global,
+    book: &Book,
+    table: &CostTable,
+    order: Order,
+    least: Option<u64>,
+) -> Judgment
     requires { IsTableFor book.now table.now }
 {
-    match size_of(alloc, book, table) {
+    match size_of(alloc, book, table, order) {
         Some(size) => Judgment {
             size,
-            wrong: first_wrong(alloc, book, table, size, least),
+            wrong: first_wrong(alloc, book, table, order, size, least),
         },
         None => WRONG,
     }
 }
 
 // The same by the book's own costs.
-fn judged(alloc: Global, book: &Book, least: Option<u64>) -> Judgment {
+fn judged(alloc: Global, book: &Book, order: Order, least: Option<u64>) -> Judgment {
     match costs(alloc, book) {
-        Ok(table) => judged_by(alloc, book, &table, least),
+        Ok(table) => judged_by(alloc, book, &table, order, least),
         Err(_) => WRONG,
     }
 }
 
-fn judged_texts(alloc: Global, texts: &[&str; 3], least: Option<u64>) -> Judgment {
+fn judged_texts(alloc: Global, texts: &[&str; 3], order: Order, least: Option<u64>) -> Judgment {
     match book_of(alloc, texts) {
-        Some(book) => judged(alloc, &book, least),
+        Some(book) => judged(alloc, &book, order, least),
         None => WRONG,
     }
 }
@@ -208,7 +241,16 @@ fn judged_texts(alloc: Global, texts: &[&str; 3], least: Option<u64>) -> Judgmen
 #[test]
 fn bounds_rise_to_the_least_cost(rt: HostRuntime) {
     for (number, (texts, least)) in branching_books().iter().enumerate() {
-        let Judgment { size, wrong } = judged_texts(rt.alloc(), texts, *least);
+        let Judgment { size, wrong } = judged_texts(rt.alloc(), texts, Order::DepthFirst, *least);
+        assert!(rt; size >= 3, "book {number}");
+        assert!(rt; wrong.is_none(), "book {number}, limit {wrong:?}");
+    }
+}
+
+#[test]
+fn least_bounds_rise_to_the_least_cost(rt: HostRuntime) {
+    for (number, (texts, least)) in branching_books().iter().enumerate() {
+        let Judgment { size, wrong } = judged_texts(rt.alloc(), texts, Order::LeastBound, *least);
         assert!(rt; size >= 3, "book {number}");
         assert!(rt; wrong.is_none(), "book {number}, limit {wrong:?}");
     }
@@ -224,17 +266,17 @@ fn least_cost(alloc: Global, book: &Book) -> Option<Option<u64>> {
 }
 
 // The first limit at which something is wrong of a book, if there is one.
-fn wrong_of(alloc: Global, book: &Book) -> Option<u64> {
+fn wrong_of(alloc: Global, book: &Book, order: Order) -> Option<u64> {
     match least_cost(alloc, book) {
-        Some(least) => judged(alloc, book, least).wrong,
+        Some(least) => judged(alloc, book, order, least).wrong,
         None => Some(0),
     }
 }
 
 // The same of the next book.
-fn next_wrong(alloc: Global, dice: &mut Dice) -> Option<u64> {
+fn next_wrong(alloc: Global, dice: &mut Dice, order: Order) -> Option<u64> {
     match book_by_chance(alloc, dice) {
-        Some(book) => wrong_of(alloc, &book),
+        Some(book) => wrong_of(alloc, &book, order),
         None => Some(0),
     }
 }
@@ -243,7 +285,16 @@ fn next_wrong(alloc: Global, dice: &mut Dice) -> Option<u64> {
 fn limits_of_books_by_chance_are_right(rt: HostRuntime) {
     let mut dice = Dice::new(27);
     for turn in 0..100u32 {
-        let wrong = next_wrong(rt.alloc(), &mut dice);
+        let wrong = next_wrong(rt.alloc(), &mut dice, Order::DepthFirst);
+        assert!(rt; wrong.is_none(), "book {turn}, limit {wrong:?}");
+    }
+}
+
+#[test]
+fn limits_by_least_bound_of_books_by_chance_are_right(rt: HostRuntime) {
+    let mut dice = Dice::new(54);
+    for turn in 0..100u32 {
+        let wrong = next_wrong(rt.alloc(), &mut dice, Order::LeastBound);
         assert!(rt; wrong.is_none(), "book {turn}, limit {wrong:?}");
     }
 }
