@@ -18,6 +18,14 @@ grid_patterns = codes "<defs><pattern id='hours' patternUnits='userSpaceOnUse' w
 abbrev pub clock : List ℕ
 clock = codes "<defs><pattern id='clock' patternUnits='userSpaceOnUse' x='340' y='90' width='1440' height='30'><g class='hour'><text x='4' y='24'>00</text><text x='64' y='24'>01</text><text x='124' y='24'>02</text><text x='184' y='24'>03</text><text x='244' y='24'>04</text><text x='304' y='24'>05</text><text x='364' y='24'>06</text><text x='424' y='24'>07</text><text x='484' y='24'>08</text><text x='544' y='24'>09</text><text x='604' y='24'>10</text><text x='664' y='24'>11</text><text x='724' y='24'>12</text><text x='784' y='24'>13</text><text x='844' y='24'>14</text><text x='904' y='24'>15</text><text x='964' y='24'>16</text><text x='1024' y='24'>17</text><text x='1084' y='24'>18</text><text x='1144' y='24'>19</text><text x='1204' y='24'>20</text><text x='1264' y='24'>21</text><text x='1324' y='24'>22</text><text x='1384' y='24'>23</text></g></pattern></defs><text class='hour' x='296' y='114'>UTC</text>" ++ newline
 
+-- around what strips show parts of: it is drawn where they refer to it
+abbrev pub whole_open : List ℕ
+whole_open = codes "<defs><g id='all'>" ++ newline
+
+-- and its end
+abbrev pub whole_close : List ℕ
+whole_close = codes "</g></defs>" ++ newline
+
 -- the end of a picture
 abbrev pub close : List ℕ
 close = codes "</svg>" ++ newline

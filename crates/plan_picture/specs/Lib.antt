@@ -10,5 +10,6 @@ pub mod Shares
 pub mod Stretches
 pub mod Curfews
 pub mod Rows
+pub mod Strips
 pub mod Picture
 pub mod inside

@@ -1,4 +1,5 @@
--- The picture of a plan, as the text of an SVG: its front with the title, moves, curfews, dates, rows, and what no route has.
+-- The picture of a plan, as the text of an SVG: its front with the title, moves, curfews, dates, rows, and what no route has,
+-- in one strip of all days, or in a strip for each day.
 use Rattle.std.specs.Prelude.{ℕ, ℤ, zero, suc, ◌+◌, ◌*◌, ◌/◌, List, [], ◌∷◌, ◌++◌, codes, decimal, length, min, ◌==◌, unsigned_abs, if◌then◌else◌}
 use Rattle.tail_book.specs.Seen.{BookSeen, RawPlanSeen}
 use Rattle.tail_book.specs.Cost.{plan_cost}
@@ -10,10 +11,11 @@ use Rattle.plan_audit.specs.declared.broken.Broken.TheVariants.{Unknown, Twice, 
 use Rattle.plan_report.specs.Lines.{newline, text_of}
 use Rattle.plan_picture.specs.Calendar.{date_text}
 use Rattle.plan_picture.specs.Curfews.{bands}
-use Rattle.plan_picture.specs.Fixed.{clock, close, grid_patterns, html_close, html_open, style}
+use Rattle.plan_picture.specs.Fixed.{clock, close, grid_patterns, html_close, html_open, style, whole_open}
 use Rattle.plan_picture.specs.Layout.{days_shown, first_moment, y_of}
 use Rattle.plan_picture.specs.Moved.{marked_by, moves_lines}
 use Rattle.plan_picture.specs.Rows.{rows_from, uncovered_in, uncovered_rows}
+use Rattle.plan_picture.specs.Strips.{strip_lines, strip_top}
 use Rattle.plan_picture.specs.View.{ViewSeen}
 use Rattle.plan_picture.specs.declared.layout.TheConstants.{LEFT, DAY_WIDTH}
 
@@ -80,16 +82,45 @@ abbrev pub front_lines : ℕ → ℕ → ℕ → List Broken → List (List ℕ)
 front_lines width height cost rules =
     open_line width height ∷ style ∷ grid_patterns ∷ clock ∷ title_line cost rules ∷ grid_line width height ∷ []
 
+-- the same where each day has a strip of its own, as wide as the names and a day
+abbrev pub strips_front : ℕ → ℕ → ℕ → List Broken → List (List ℕ)
+strips_front height days cost rules =
+    open_line (LEFT + DAY_WIDTH) (strip_top height days) ∷ style ∷ grid_patterns ∷ title_line cost rules ∷ []
+
+-- and what stands before the rows in what the strips show parts of
+abbrev pub whole_front : ℕ → ℕ → List (List ℕ)
+whole_front width height = whole_open ∷ clock ∷ grid_line width height ∷ []
+
+-- what stands at its minutes: the curfews, the dates, the rows, and what no route has
+abbrev pub body_lines : ViewSeen → BookSeen → List (List ℕ) → List Broken → List ℕ → List (List ℕ)
+body_lines view book plan rules uncovered =
+    bands book view.airport (height_of book uncovered)
+    ++ day_lines (first_moment book) (days_shown book)
+    ++ rows_from book (marked_by view.homes) (first_moment book) (width_of book) rules 0 plan
+    ++ uncovered_rows book (first_moment book) (width_of book) uncovered
+
+-- the picture as one strip of all days
+abbrev pub in_one : ViewSeen → BookSeen → List (List ℕ) → ℕ → List Broken → List ℕ → List (List ℕ)
+in_one view book plan cost rules uncovered =
+    front_lines (width_of book) (height_of book uncovered) cost rules
+    ++ moves_lines view.homes plan
+    ++ body_lines view book plan rules uncovered
+    ++ close ∷ []
+
+-- and as a strip for each day
+abbrev pub by_day : ViewSeen → BookSeen → List (List ℕ) → ℕ → List Broken → List ℕ → List (List ℕ)
+by_day view book plan cost rules uncovered =
+    strips_front (height_of book uncovered) (days_shown book) cost rules
+    ++ moves_lines view.homes plan
+    ++ whole_front (width_of book) (height_of book uncovered)
+    ++ body_lines view book plan rules uncovered
+    ++ strip_lines (height_of book uncovered) (days_shown book)
+    ++ close ∷ []
+
 -- the lines of the picture of a plan that costs so much, or breaks these rules
 abbrev pub svg_lines : ViewSeen → BookSeen → List (List ℕ) → ℕ → List Broken → List (List ℕ)
 svg_lines view book plan cost rules =
-    front_lines (width_of book) (height_of book (uncovered_in rules)) cost rules
-    ++ moves_lines view.homes plan
-    ++ bands book view.airport (height_of book (uncovered_in rules))
-    ++ day_lines (first_moment book) (days_shown book)
-    ++ rows_from book (marked_by view.homes) (first_moment book) (width_of book) rules 0 plan
-    ++ uncovered_rows book (first_moment book) (width_of book) (uncovered_in rules)
-    ++ close ∷ []
+    if view.by_day then by_day view book plan cost rules (uncovered_in rules) else in_one view book plan cost rules (uncovered_in rules)
 
 -- the same, as a page of its own where one is asked for
 abbrev pub page_lines : ViewSeen → BookSeen → List (List ℕ) → ℕ → List Broken → List (List ℕ)

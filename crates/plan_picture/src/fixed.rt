@@ -1,7 +1,7 @@
 //! The lines of a picture that are always the same: its colours and letters, its grid, and the page around it.
 
 ghost use Rattle.std.specs.Prelude.{◌≡◌, IfOk};
-ghost use Rattle.plan_picture.specs.Fixed.{clock, close, grid_patterns, html_close, html_open, moved_style, style};
+ghost use Rattle.plan_picture.specs.Fixed.{clock, close, grid_patterns, html_close, html_open, moved_style, style, whole_close, whole_open};
 
 use std::alloc::Global;
 use tail_book::Memory;
@@ -42,6 +42,20 @@ pub fn clock() -> &'static [u8]
     ensures { result.now ≡ clock }
 {
     b"<defs><pattern id='clock' patternUnits='userSpaceOnUse' x='340' y='90' width='1440' height='30'><g class='hour'><text x='4' y='24'>00</text><text x='64' y='24'>01</text><text x='124' y='24'>02</text><text x='184' y='24'>03</text><text x='244' y='24'>04</text><text x='304' y='24'>05</text><text x='364' y='24'>06</text><text x='424' y='24'>07</text><text x='484' y='24'>08</text><text x='544' y='24'>09</text><text x='604' y='24'>10</text><text x='664' y='24'>11</text><text x='724' y='24'>12</text><text x='784' y='24'>13</text><text x='844' y='24'>14</text><text x='904' y='24'>15</text><text x='964' y='24'>16</text><text x='1024' y='24'>17</text><text x='1084' y='24'>18</text><text x='1144' y='24'>19</text><text x='1204' y='24'>20</text><text x='1264' y='24'>21</text><text x='1324' y='24'>22</text><text x='1384' y='24'>23</text></g></pattern></defs><text class='hour' x='296' y='114'>UTC</text>\n"
+}
+
+/// Around what strips show parts of: it is drawn where they refer to it.
+pub fn whole_open() -> &'static [u8]
+    ensures { result.now ≡ whole_open }
+{
+    b"<defs><g id='all'>\n"
+}
+
+/// And its end.
+pub fn whole_close() -> &'static [u8]
+    ensures { result.now ≡ whole_close }
+{
+    b"</g></defs>\n"
 }
 
 /// The end of a picture.

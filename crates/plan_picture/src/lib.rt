@@ -14,6 +14,7 @@ mod rows;
 mod shares;
 mod stops;
 mod stretches;
+mod strips;
 mod view;
 
 pub use picture::write_picture;

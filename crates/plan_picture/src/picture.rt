@@ -3,19 +3,22 @@
 //! All lines are made before the first is put. The kept plan and the broken rules are handed in, as an audit found them:
 //! so a picture is drawn of what was judged, and nothing is judged twice.
 
-ghost use Rattle.std.specs.Prelude.{◌≡◌, ◌<◌, ◌≤◌, ◌++◌, false, IfOk, OnErr, OnOk, IsErrOf};
-ghost use Rattle.tail_book.specs.Lookup.{aircraft};
+ghost use Rattle.std.specs.Prelude.{◌≡◌, ◌<◌, ◌≤◌, ◌++◌, false, All, IfOk, OnErr, OnOk, IsErrOf};
+ghost use Rattle.tail_book.specs.Lookup.{activities, aircraft};
 ghost use Rattle.tail_outside.specs.Outside.{PieceHasFailed, Takes, TakesFront};
 ghost use Rattle.plan_report.specs.Lines.{text_of};
-ghost use Rattle.plan_picture.specs.Picture.{colour, day_line, day_lines, front_lines, grid_line, height_of, name_rule, name_rules, open_line, page_lines, svg_lines, title, title_line, width_of};
+ghost use Rattle.plan_picture.specs.Picture.{body_lines, by_day, colour, day_line, day_lines, front_lines, grid_line, height_of, in_one, name_rule, name_rules, open_line, page_lines, strips_front, svg_lines, title, title_line, whole_front, width_of};
 ghost use Rattle.plan_picture.specs.inside.Drawable.{IsDrawable, IsNear};
 
 use crate::calendar::add_date;
 use crate::curfews::add_bands;
-use crate::fixed::{clock, close, fixed_line, grid_patterns, html_close, html_open, style};
+use crate::fixed::{
+    clock, close, fixed_line, grid_patterns, html_close, html_open, style, whole_open,
+};
 use crate::layout::{DAY_WIDTH, LEFT, days_shown, first_moment, y_of};
 use crate::moved::{add_moves, marked_by};
 use crate::rows::{add_rows, add_uncovered, uncovered_in};
+use crate::strips::{add_strip_lines, strip_top};
 use crate::view::View;
 use plan_audit::Broken;
 use plan_report::{ReportFail, write_lines};
@@ -85,16 +88,84 @@ fn add_svg(
 {
     every_book_is_sound(book);
     let uncovered = uncovered_in(alloc, book, rules)?;
-    let (first, width) = (first_moment(book), width_of(book));
-    let height = height_of(book, &uncovered);
+    if view.by_day {
+        add_by_day(alloc, view, book, plan, cost, rules, &uncovered, lines)
+    } else {
+        add_in_one(alloc, view, book, plan, cost, rules, &uncovered, lines)
+    }
+}
+
+// Adds the picture as one strip of all days.
+fn add_in_one(
+    alloc: Global,
+    view: &View,
+    book: &Book,
+    plan: &Plan,
+    cost: u64,
+    rules: &[Broken],
+    uncovered: &[u32],
+    lines: &mut Vec<Line>,
+) -> Result<(), Memory>
+    requires few { aircraft book.now < 900 }
+    requires drawable { IsDrawable book.now plan.now rules.now }
+    requires activities { All (λ a. a < activities book.now) uncovered.now }
+    ensures { OnOk result (lines.new.items ≡ lines.old.items ++ in_one view.now book.now plan.now cost rules.now uncovered.now) }
+{
+    let (width, height) = (width_of(book), height_of(book, uncovered));
     add_front(alloc, width, height, cost, rules, lines)?;
     add_moves(alloc, view, &plan.0, lines)?;
-    add_bands(alloc, book, view.airport, height, lines)?;
+    add_body(alloc, view, book, plan, rules, uncovered, lines)?;
+    lines.push(fixed_line(alloc, close())?)?;
+    Ok(())
+}
+
+// Adds the picture as a strip for each day.
+fn add_by_day(
+    alloc: Global,
+    view: &View,
+    book: &Book,
+    plan: &Plan,
+    cost: u64,
+    rules: &[Broken],
+    uncovered: &[u32],
+    lines: &mut Vec<Line>,
+) -> Result<(), Memory>
+    requires few { aircraft book.now < 900 }
+    requires drawable { IsDrawable book.now plan.now rules.now }
+    requires activities { All (λ a. a < activities book.now) uncovered.now }
+    ensures { OnOk result (lines.new.items ≡ lines.old.items ++ by_day view.now book.now plan.now cost rules.now uncovered.now) }
+{
+    let (height, days) = (height_of(book, uncovered), days_shown(book));
+    add_strips_front(alloc, height, days, cost, rules, lines)?;
+    add_moves(alloc, view, &plan.0, lines)?;
+    add_whole_front(alloc, width_of(book), height, lines)?;
+    add_body(alloc, view, book, plan, rules, uncovered, lines)?;
+    add_strip_lines(alloc, height, days, lines)?;
+    lines.push(fixed_line(alloc, close())?)?;
+    Ok(())
+}
+
+// Adds what stands at its minutes: the curfews, the dates, the rows, and what no route has.
+fn add_body(
+    alloc: Global,
+    view: &View,
+    book: &Book,
+    plan: &Plan,
+    rules: &[Broken],
+    uncovered: &[u32],
+    lines: &mut Vec<Line>,
+) -> Result<(), Memory>
+    requires few { aircraft book.now < 900 }
+    requires drawable { IsDrawable book.now plan.now rules.now }
+    requires activities { All (λ a. a < activities book.now) uncovered.now }
+    ensures { OnOk result (lines.new.items ≡ lines.old.items ++ body_lines view.now book.now plan.now rules.now uncovered.now) }
+{
+    let (first, width) = (first_moment(book), width_of(book));
+    add_bands(alloc, book, view.airport, height_of(book, uncovered), lines)?;
     add_days(alloc, first, days_shown(book), lines)?;
     let homes = marked_by(view);
     add_rows(alloc, book, homes, first, width, rules, &plan.0, lines)?;
-    add_uncovered(alloc, book, first, width, &uncovered, lines)?;
-    lines.push(fixed_line(alloc, close())?)?;
+    add_uncovered(alloc, book, first, width, uncovered, lines)?;
     Ok(())
 }
 
@@ -136,9 +207,44 @@ fn add_front(
     Ok(())
 }
 
+// Adds what stands before what the strips show parts of.
+fn add_strips_front(
+    alloc: Global,
+    height: u64,
+    days: u64,
+    cost: u64,
+    rules: &[Broken],
+    lines: &mut Vec<Line>,
+) -> Result<(), Memory>
+    requires height { height < 10_000_000 }
+    requires few { days < 100_000 }
+    ensures { OnOk result (lines.new.items ≡ lines.old.items ++ strips_front height days cost rules.now) }
+{
+    lines.push(open_line(alloc, LEFT + DAY_WIDTH, strip_top(height, days))?)?;
+    lines.push(fixed_line(alloc, style())?)?;
+    lines.push(fixed_line(alloc, grid_patterns())?)?;
+    lines.push(title_line(alloc, cost, rules)?)?;
+    Ok(())
+}
+
+// Adds what stands before the rows in what the strips show parts of.
+fn add_whole_front(
+    alloc: Global,
+    width: u64,
+    height: u64,
+    lines: &mut Vec<Line>,
+) -> Result<(), Memory>
+    ensures { OnOk result (lines.new.items ≡ lines.old.items ++ whole_front width height) }
+{
+    lines.push(fixed_line(alloc, whole_open())?)?;
+    lines.push(fixed_line(alloc, clock())?)?;
+    lines.push(grid_line(alloc, width, height)?)?;
+    Ok(())
+}
+
 fn open_line(alloc: Global, width: u64, height: u64) -> Result<Line, Memory>
     requires width { width < 10_000_000_000 }
-    requires height { height < 10_000_000 }
+    requires height { height < 10_000_000_000_000 }
     ensures { IfOk result (λ line. line ≡ open_line width height) }
 {
     let mut line = Line::new(alloc)?;

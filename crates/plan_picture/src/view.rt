@@ -1,5 +1,5 @@
 //! What a picture shows beside the plan, where asked for: the curfews of one airport, what left its home in a plan that was
-//! published before, and a page around the picture.
+//! published before, a strip for each day, and a page around the picture.
 
 ghost use Rattle.std.specs.Prelude.{◌≡◌};
 ghost use Rattle.plan_picture.specs.Ports.{port_named};
@@ -14,6 +14,8 @@ pub struct View {
     pub airport: Option<u32>,
     /// The homes of activities, by number, where a plan was published before: what has left its home is marked.
     pub homes: Option<Vec<Option<u32>>>,
+    /// Whether each day has a strip of its own.
+    pub by_day: bool,
     /// Whether the picture stands on a page of its own.
     pub html: bool,
 }
@@ -24,7 +26,7 @@ impl Model for View {
 
     ghost Value = { ViewSeen };
 
-    ghost view = { λ v. record { airport = v.airport; homes = option_map (λ list. list.items) v.homes; html = v.html } };
+    ghost view = { λ v. record { airport = v.airport; homes = option_map (λ list. list.items) v.homes; by_day = v.by_day; html = v.html } };
 }
 
 /// The number of the airport of a name, where the book has one.

@@ -1,7 +1,7 @@
 -- What the words mean, at command lines that are written out. The rows show a plan's name in each way to write it, as
--- every program takes it, then a plan before, an airport and a page on request, and that an option twice, without its value or unknown
+-- every program takes it, then a plan before, an airport, strips by day and a page on request, and that an option twice, without its value or unknown
 -- is refused.
-use Rattle.std.proofs.Common.{◌≡◌, ℕ, true, false, List, [], ◌∷◌, Option, Some, None, codes, refl}
+use Rattle.std.proofs.Common.{◌≡◌, ℕ, Bool, true, false, List, [], ◌∷◌, Option, Some, None, codes, refl}
 use Rattle.clap.proofs.OnLiterals.{clap_on_literals}
 use Rattle.run_frame.specs.inside.PlanWords.{ReadsPlans}
 use Rattle.tailview.specs.Texts.{ViewNamesSeen}
@@ -38,7 +38,7 @@ no_other_options = (refl, refl, refl, refl)
 
 -- the words name these tables, this plan and an airport, and ask for a page
 abbrev with_more : Option ViewNamesSeen
-with_more = Some (record { tables = record { timetable = codes "t"; fleet = codes "f"; rules = codes "r" }; plan = codes "p"; before = None; airport = Some (codes "ARN"); html = true })
+with_more = Some (record { tables = record { timetable = codes "t"; fleet = codes "f"; rules = codes "r" }; plan = codes "p"; before = None; airport = Some (codes "ARN"); by_day = false; html = true })
 
 -- an airport and a page can be asked for anywhere; an airport once and with a value, and a page without one
 more_on_request : (after_name (codes "t" ∷ codes "f" ∷ codes "r" ∷ codes "--plan" ∷ codes "p" ∷ codes "--curfews" ∷ codes "ARN" ∷ codes "--html" ∷ []) ≡ with_more)
@@ -49,6 +49,26 @@ more_on_request : (after_name (codes "t" ∷ codes "f" ∷ codes "r" ∷ codes "
 unfolding clap_on_literals names_of
 more_on_request = (refl, refl, refl, refl, refl)
 
+-- the words name these tables and this plan, and ask for a strip for each day
+abbrev with_strips : Bool → Option ViewNamesSeen
+with_strips html = Some (record {
+  tables = record { timetable = codes "t"; fleet = codes "f"; rules = codes "r" };
+  plan = codes "p";
+  before = None;
+  airport = None;
+  by_day = true;
+  html = html;
+})
+
+-- a strip for each day can be asked for anywhere, and more than once, without a value
+strips_on_request : (after_name (codes "t" ∷ codes "f" ∷ codes "r" ∷ codes "--plan" ∷ codes "p" ∷ codes "--by-day" ∷ []) ≡ with_strips false)
+    × (after_name (codes "--by-day" ∷ codes "t" ∷ codes "f" ∷ codes "r" ∷ codes "--plan" ∷ codes "p" ∷ codes "--html" ∷ []) ≡ with_strips true)
+    × (after_name (codes "--by-day" ∷ codes "t" ∷ codes "f" ∷ codes "r" ∷ codes "--by-day" ∷ codes "--plan" ∷ codes "p" ∷ []) ≡ with_strips false)
+    × (after_name (codes "t" ∷ codes "f" ∷ codes "r" ∷ codes "--plan" ∷ codes "p" ∷ codes "--by-day=1" ∷ []) ≡ None)
+    × (after_name (codes "t" ∷ codes "f" ∷ codes "r" ∷ codes "--plan" ∷ codes "p" ∷ codes "--by-days" ∷ []) ≡ None)
+unfolding clap_on_literals names_of
+strips_on_request = (refl, refl, refl, refl, refl)
+
 -- the words name these tables, this plan and one that was published before
 abbrev with_before : List ℕ → Option ViewNamesSeen
 with_before name = Some (record {
@@ -56,6 +76,7 @@ with_before name = Some (record {
   plan = codes "p";
   before = Some name;
   airport = None;
+  by_day = false;
   html = false;
 })
 

@@ -29,11 +29,11 @@ before-later one other before read same h =
 pub texts-read : (files : FilesShown) (names : ViewNamesSeen) (tables : TablesSeen) (plan : List ℕ) (before : Option (List ℕ))
     → IfSome (tables_held files names.tables) (λ whole. tables ≡ fronts whole) → IfSome (files.holds names.plan) (λ bytes. plan ≡ front bytes)
     → IfSome (before_held files names.before) (λ whole. before ≡ option_map front whole)
-    → IfSome (texts_held files names) (λ whole. record { tables = tables; plan = plan; before = before; airport = names.airport; html = names.html } ≡ text_fronts whole)
+    → IfSome (texts_held files names) (λ whole. record { tables = tables; plan = plan; before = before; airport = names.airport; by_day = names.by_day; html = names.html } ≡ text_fronts whole)
 texts-read files names tables plan before h k l = each (tables_held files names.tables) (files.holds names.plan) (before_held files names.before) h k l
   where
     text : TablesSeen → List ℕ → Option (List ℕ) → TextsSeen
-    text t p b = record { tables = t; plan = p; before = b; airport = names.airport; html = names.html }
+    text t p b = record { tables = t; plan = p; before = b; airport = names.airport; by_day = names.by_day; html = names.html }
 
     alike : {t x : TablesSeen} {p y : List ℕ} {b z : Option (List ℕ)} → t ≡ x → p ≡ y → b ≡ z → text t p b ≡ text x y z
     alike same_t same_p same_b = rw (same_t, same_p, same_b) refl

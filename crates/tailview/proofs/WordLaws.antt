@@ -8,7 +8,7 @@ use Rattle.tailview.specs.Words.{names_of}
 
 -- the words name these files
 abbrev pub named : List ℕ → List ℕ → List ℕ → List ℕ → Option ViewNamesSeen
-named timetable fleet rules plan = Some (record { tables = record { timetable = timetable; fleet = fleet; rules = rules }; plan = plan; before = None; airport = None; html = false })
+named timetable fleet rules plan = Some (record { tables = record { timetable = timetable; fleet = fleet; rules = rules }; plan = plan; before = None; airport = None; by_day = false; html = false })
 
 -- a plan is named as by each program that judges one
 plans : ReadsAnyNames names_of named

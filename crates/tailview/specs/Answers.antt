@@ -37,11 +37,12 @@ abbrev pub AreRefused : TextsSeen → Refusal → Type 0
 AreRefused texts refusal = case_of texts ≡ Err refusal
 
 -- what a picture of this book shows beside the plan: the airport's curfews, what has left its home in the plan that was
--- published before, and a page, each where it is asked for
+-- published before, a strip for each day, and a page, each where it is asked for
 abbrev pub view_in : BookSeen → TextsSeen → Option RawPlanSeen → ViewSeen
 view_in book texts before = record {
   airport = option_and_then (port_named book) texts.airport;
   homes = option_map (homes book) before;
+  by_day = texts.by_day;
   html = texts.html;
 }
 

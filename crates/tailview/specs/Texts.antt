@@ -5,20 +5,23 @@ use Rattle.run_frame.specs.TableFiles.{MayReadTables, tables_held}
 use Rattle.run_frame.specs.Tables.{NamesSeen, TablesSeen}
 
 -- the names of the three tables and of the plan's file, that of a plan that was published before, the airport whose curfews
--- are shown, and whether a page is asked for
+-- are shown, and whether a strip for each day and a page are asked for
 pub record ViewNamesSeen : Type 0 where
   pub tables : NamesSeen
   pub plan : List ℕ
   pub before : Option (List ℕ)
   pub airport : Option (List ℕ)
+  pub by_day : Bool
   pub html : Bool
 
--- the bytes of the three tables and of the plans' files, beside the airport and whether a page is asked for
+-- the bytes of the three tables and of the plans' files, beside the airport, and whether a strip for each day and a page are
+-- asked for
 pub record TextsSeen : Type 0 where
   pub tables : TablesSeen
   pub plan : List ℕ
   pub before : Option (List ℕ)
   pub airport : Option (List ℕ)
+  pub by_day : Bool
   pub html : Bool
 
 -- the file of a plan that was published before may be read, where one is named
@@ -38,7 +41,7 @@ before_held files (Some name) = option_map (λ bytes. Some bytes) (files.holds n
 abbrev pub texts_held : FilesShown → ViewNamesSeen → Option TextsSeen
 texts_held files names =
     option_and_then (λ tables. option_and_then (λ plan. option_map (λ before.
-    record { tables = tables; plan = plan; before = before; airport = names.airport; html = names.html })
+    record { tables = tables; plan = plan; before = before; airport = names.airport; by_day = names.by_day; html = names.html })
     (before_held files names.before))
     (files.holds names.plan))
     (tables_held files names.tables)

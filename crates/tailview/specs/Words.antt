@@ -21,9 +21,13 @@ with_moved = with_rule with_plan (optional (codes "moved"))
 abbrev pub with_curfews : App
 with_curfews = with_rule with_moved (optional (codes "curfews"))
 
--- the command: these, and a flag
+-- these, and a flag
+abbrev pub with_by_day : App
+with_by_day = with_rule with_curfews (flag (codes "by-day"))
+
+-- the command: these, and one more
 abbrev pub command : App
-command = with_rule with_curfews (flag (codes "html"))
+command = with_rule with_by_day (flag (codes "html"))
 
 -- the names among what the command matched
 abbrev pub names_in : List Row → Option ViewNamesSeen
@@ -34,6 +38,7 @@ names_in rows =
       plan = plan;
       before = first_of (codes "moved") rows;
       airport = first_of (codes "curfews") rows;
+      by_day = nat_lt 0 (count_of (codes "by-day") rows);
       html = nat_lt 0 (count_of (codes "html") rows);
     })
     (first_of (codes "plan") rows))

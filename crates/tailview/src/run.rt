@@ -94,6 +94,7 @@ fn view_in(
     Ok(View {
         airport,
         homes: homes_before(alloc, book, before)?,
+        by_day: texts.by_day,
         html: texts.html,
     })
 }

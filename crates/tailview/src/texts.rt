@@ -24,6 +24,8 @@ pub struct Texts<'a> {
     pub before: Option<Vec<u8>>,
     /// The airport whose curfews are drawn.
     pub airport: Option<&'a str>,
+    /// Whether each day has a strip of its own.
+    pub by_day: bool,
     /// Whether the picture stands on a page of its own.
     pub html: bool,
 }
@@ -39,6 +41,7 @@ impl<'a> Model for Texts<'a> {
       plan = t.plan.items;
       before = option_map (λ v. v.items) t.before;
       airport = option_map (λ s. s.now) t.airport;
+      by_day = t.by_day;
       html = t.html;
     } };
 }
@@ -70,6 +73,7 @@ pub fn read_texts<'a, F: Files>(
             plan,
             before,
             airport: names.airport,
+            by_day: names.by_day,
             html: names.html,
         }),
         Err(fail) => Err(fail),

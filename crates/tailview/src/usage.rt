@@ -8,5 +8,5 @@ ghost use Rattle.tailview.specs.Usage.{usage_line};
 pub fn usage_line() -> &'static [u8]
     ensures { result.now ≡ usage_line }
 {
-    b"usage: tailview TIMETABLE FLEET RULES --plan FILE [--moved OLDPLAN] [--curfews AIRPORT] [--html]\n"
+    b"usage: tailview TIMETABLE FLEET RULES --plan FILE [--moved OLDPLAN] [--curfews AIRPORT] [--by-day] [--html]\n"
 }

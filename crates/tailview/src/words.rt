@@ -1,11 +1,11 @@
 //! The reading of the words: which tables and which plan are drawn, and how. The plan's option has to be given; a
-//! plan that was published before, an airport and a page only add to what is drawn.
+//! plan that was published before, an airport, strips by day and a page are as wanted.
 
 ghost use Rattle.std.specs.Prelude.{◌≡◌, IfOk, option_map};
 ghost use Rattle.clap.specs.Words.{app_of, found_of, rows_of};
 ghost use Rattle.run_frame.specs.Spelled.{spelled};
 ghost use Rattle.tailview.specs.inside.Texts.{view_names_seen};
-ghost use Rattle.tailview.specs.Words.{names_of, command, names_in, with_curfews, with_moved, with_plan};
+ghost use Rattle.tailview.specs.Words.{names_of, command, names_in, with_by_day, with_curfews, with_moved, with_plan};
 
 use clap::{Arg, ArgAction, ArgMatches, Command};
 use run_frame::{TableNames, matched, tables_command, tables_in, value_of};
@@ -23,18 +23,31 @@ pub struct ViewNames<'a> {
     pub before: Option<&'a str>,
     /// The airport whose curfews are drawn.
     pub airport: Option<&'a str>,
+    /// Whether each day has a strip of its own.
+    pub by_day: bool,
     /// Whether the picture stands on a page of its own.
     pub html: bool,
 }
 
-// The command: three words that have to stand in their places, an option that has to be given, and three that may be.
+// The command: three words that have to stand in their places, an option that has to be given, and four that may be.
 fn command<'a>(alloc: Global) -> Result<Command<'a>, AllocError>
     ensures { IfOk result (λ c. app_of c ≡ command) }
 {
-    let command = with_curfews(alloc)?;
+    let command = with_by_day(alloc)?;
     command.arg(
         Arg::new(alloc, "html")
             .long("html")
+            .action(ArgAction::Count),
+    )
+}
+
+fn with_by_day<'a>(alloc: Global) -> Result<Command<'a>, AllocError>
+    ensures { IfOk result (λ c. app_of c ≡ with_by_day) }
+{
+    let command = with_curfews(alloc)?;
+    command.arg(
+        Arg::new(alloc, "by-day")
+            .long("by-day")
             .action(ArgAction::Count),
     )
 }
@@ -68,6 +81,7 @@ fn names_in<'a>(matches: &ArgMatches<'a>) -> Option<ViewNames<'a>>
         plan,
         before: value_of(matches, "moved"),
         airport: value_of(matches, "curfews"),
+        by_day: matches.get_count("by-day") > 0,
         html: matches.get_count("html") > 0,
     })
 }

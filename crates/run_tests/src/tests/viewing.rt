@@ -4,4 +4,5 @@ mod faults;
 mod fixtures;
 mod moved;
 mod pictures;
+mod strips;
 mod words;

@@ -11,6 +11,7 @@ view_names_seen names = record {
   plan = names.plan.now;
   before = option_map (λ s. s.now) names.before;
   airport = option_map (λ s. s.now) names.airport;
+  by_day = names.by_day;
   html = names.html;
 }
 
@@ -21,5 +22,6 @@ text_fronts texts = record {
   plan = front texts.plan;
   before = option_map front texts.before;
   airport = texts.airport;
+  by_day = texts.by_day;
   html = texts.html;
 }

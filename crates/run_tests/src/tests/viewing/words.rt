@@ -26,6 +26,8 @@ fn other_words_are_refused(rt: HostRuntime) -> Result<(), Fail> {
         &["tailview", "t", "f", "r", "--moved", "p"],
         &["tailview", "t", "f", "r", "--plan", "p", "--html", "x"],
         &["tailview", "t", "f", "r", "--plan", "p", "--html=x"],
+        &["tailview", "t", "f", "r", "--plan", "p", "--by-day", "x"],
+        &["tailview", "t", "f", "r", "--plan", "p", "--by-day=1"],
         &["tailview", "t", "f", "r", "--plan", "p", "--plan", "p"],
         &["tailview", "t", "f", "r", "--plan", "p", "--help"],
     ];
@@ -34,7 +36,7 @@ fn other_words_are_refused(rt: HostRuntime) -> Result<(), Fail> {
         assert!(rt;
             seen.is(
                 2,
-                "usage: tailview TIMETABLE FLEET RULES --plan FILE [--moved OLDPLAN] [--curfews AIRPORT] [--html]\n"
+                "usage: tailview TIMETABLE FLEET RULES --plan FILE [--moved OLDPLAN] [--curfews AIRPORT] [--by-day] [--html]\n"
             ),
             "{words:?}"
         );
