@@ -9,4 +9,5 @@ mod lines;
 mod pieces;
 mod plans_in_pools;
 mod pools;
+mod quotas;
 mod reports;

@@ -3,5 +3,6 @@
 mod books;
 mod counters;
 mod curfews;
+mod quotas;
 mod rows;
 mod turns;

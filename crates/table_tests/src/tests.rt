@@ -3,6 +3,7 @@
 mod books;
 mod fleets;
 mod outside;
+mod quotas;
 mod record_texts;
 mod records;
 mod rules_files;

@@ -20,6 +20,7 @@ use tail_book::laws::every_book_is_sound;
 use tail_book::*;
 
 mod chance;
+mod fees;
 mod memory;
 
 // A store for the book.

@@ -7,6 +7,7 @@ ghost use Rattle.maint_counters.specs.inside.StepTable.{IsStepTableOf};
 
 use branch_marks::Marks;
 use maint_counters::{StepTable, is_legal_route};
+use quota_rows::Quota;
 use std::alloc::Global;
 use tail_book::*;
 
@@ -77,6 +78,37 @@ fn weight(book: &Book, duals: &[i64], k: u32, route: &[u32]) -> i64 {
         free = Some(activity.end);
     }
     weight
+}
+
+// Whether an activity that follows another one so belongs to a quota.
+fn is_short(quota: &Quota, activity: &Activity, free: i64) -> bool {
+    activity.from == quota.airport
+        && activity.start.div_euclid(1440) == quota.day
+        && activity.start.saturating_sub(free) < quota.below
+}
+
+// What an activity that follows another one so pays.
+fn paid(quotas: &[Quota], fees: &[i64], activity: &Activity, free: Option<i64>) -> i64 {
+    let mut sum = 0i64;
+    let Some(free) = free else { return sum };
+    for (quota, fee) in quotas.iter().zip(fees) {
+        if is_short(quota, activity, free) {
+            sum = sum.saturating_add(*fee);
+        }
+    }
+    sum
+}
+
+// What the connections of six activities pay, those whose bits a number has.
+fn all_paid(book: &Book, quotas: &[Quota], fees: &[i64], number: u32) -> i64 {
+    let (mut sum, mut free) = (0i64, None);
+    for (a, activity) in (0..6u32).zip(&book.activities) {
+        if number >> a & 1 == 1 {
+            sum = sum.saturating_add(paid(quotas, fees, activity, free));
+            free = Some(activity.end);
+        }
+    }
+    sum
 }
 
 // Those of six activities whose bits a number has.
@@ -186,6 +218,13 @@ impl Weights {
             }
         }
         least
+    }
+
+    /// Adds to each weight the fees of the route's connections.
+    pub fn add_fees(&mut self, book: &Book, quotas: &[Quota], fees: &[i64]) {
+        for row in self.routes.iter_mut() {
+            row.1 = row.1.saturating_add(all_paid(book, quotas, fees, row.0));
+        }
     }
 
     /// The weight of a route.

@@ -1,0 +1,11 @@
+mod ArcSums
+mod Fees
+mod FairSums
+mod FamilyBound
+mod Routes
+mod Truths
+mod Families
+mod Growing
+mod Predecessors
+mod Filling
+mod Prices
