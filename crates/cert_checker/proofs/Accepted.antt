@@ -12,12 +12,12 @@ use Rattle.tail_book.specs.declared.claim.Claim.{Claim}
 use Rattle.tail_book.specs.declared.claim.Claim.TheVariants.{Optimal, Infeasible, Limit}
 use Rattle.tail_book.specs.CostTable.{costs_of, greatest_cost_in}
 use Rattle.tail_book.specs.Fliers.{plan_by}
-use Rattle.branch_marks.specs.ProofTree.{Tree}
 use Rattle.cert_lines.specs.declared.cert_line.CertLine.{CertLine}
 use Rattle.cert_lines.specs.declared.cert_line.CertLine.TheVariants as line
 use Rattle.cert_lines.specs.Grammar.{IsLine, IsLineClaim}
 use Rattle.cert_lines.specs.PlanLines.{plan_lines}
-use Rattle.cert_checker.specs.Certificate.{HasClaimedPlan, asked_of, certificate_lines, claimed_cost, header_of, tree_lines}
+use Rattle.cert_checker.specs.Certificate.{HasClaimedPlan, asked_of, certificate_lines, claimed_cost, header_of}
+use Rattle.cert_checker.specs.LeanTree.{LeanTree, tree_lines}
 
 at_end : {A : Type 0} (xs : List A) (x : A) → get_or (xs ++ x ∷ []) (length xs) x ≡ x
 at_end [] x = refl
@@ -27,11 +27,11 @@ last_of_all : {A : Type 0} (P : A → Type 0) (xs : List A) (x : A) → All P (x
 last_of_all P xs x h = subst P (at_end xs x) (h (length xs) x (omega (arith, length-append xs (x ∷ []))))
 
 -- the claim is a line
-pub claim_is_line : (book : BookSeen) (tree : Tree) (fliers : Option (List ℕ)) (claim : Claim) → All IsLine (certificate_lines book tree fliers claim) → IsLineClaim claim
-claim_is_line book tree fliers claim lines =
-    let ends : certificate_lines book tree fliers claim ≡ (header_of book ∷ (tree_lines tree ++ plan_lines fliers)) ++ line.Claim claim ∷ [] =
+pub claim_is_line : (version : ℕ) (book : BookSeen) (tree : LeanTree) (fliers : Option (List ℕ)) (claim : Claim) → All IsLine (certificate_lines version book tree fliers claim) → IsLineClaim claim
+claim_is_line version book tree fliers claim lines =
+    let ends : certificate_lines version book tree fliers claim ≡ (header_of version book ∷ (tree_lines tree ++ plan_lines fliers)) ++ line.Claim claim ∷ [] =
     rw (append_assoc (tree_lines tree) (plan_lines fliers) (line.Claim claim ∷ [])) refl in
-    last_of_all IsLine (header_of book ∷ (tree_lines tree ++ plan_lines fliers)) (line.Claim claim) (subst (λ (all : List CertLine). All IsLine all) ends lines)
+    last_of_all IsLine (header_of version book ∷ (tree_lines tree ++ plan_lines fliers)) (line.Claim claim) (subst (λ (all : List CertLine). All IsLine all) ends lines)
 
 -- the claimed plan costs what is claimed
 some_plan : (book : BookSeen) (fliers : Option (List ℕ)) (cost : ℕ) → HasClaimedPlan book fliers (Some cost) → SomePlanCostsBy (plan_cost book) book cost

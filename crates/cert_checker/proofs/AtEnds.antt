@@ -12,7 +12,7 @@ use Rattle.cert_checker.specs.Reasons.{has_claimed_plan}
 use Rattle.cert_checker.specs.State.{State}
 use Rattle.cert_checker.specs.declared.state.Judging.{Judging}
 use Rattle.cert_checker.specs.declared.state.Part.{Part}
-use Rattle.cert_checker.specs.declared.state.Part.TheVariants.{Start, InTree, InBound, InPlan, Claimed}
+use Rattle.cert_checker.specs.declared.state.Part.TheVariants.{Start, InTree, InBound, InLean, InPlan, Claimed}
 use Rattle.cert_checker.specs.declared.verdict.Reason.TheVariants.{OutOfPlace}
 use Rattle.cert_checker.specs.inside.Kept.{section_in, state_of}
 use Rattle.cert_checker.proofs.AtNodes.{passed, stopped}
@@ -39,6 +39,7 @@ module _ (book : BookSeen) (judging : Judging) where
       by_part Start e = refl
       by_part InTree e = refl
       by_part InBound e = refl
+      by_part InLean e = refl
       by_part InPlan e = absurd (other e)
       by_part (Claimed claim) e = refl
 

@@ -32,13 +32,13 @@ pub stopped : {A E : Type 0} (test : Bool) (why : E) (next : Result A E) → tes
 stopped test why next e = ap (λ (t : Bool). must t why next) e
 
 -- in a tree, with no open leaf
-abbrev pub in_tree : ℕ → List (List Fact) → Option ℕ → State
-in_tree lines owed low = record { lines = lines; section = InTree; owed = owed; leaf = None; low = low }
+abbrev pub in_tree : ℕ → ℕ → List (List Fact) → Option ℕ → State
+in_tree version lines owed low = record { lines = lines; version = version; section = InTree; owed = owed; leaf = None; low = low }
 
-pub in_tree_is : (judging : Judging) → judging.part ≡ PartInTree → judging.leaf ≡ None → state_of judging ≡ in_tree judging.lines (owed_of judging.branches) judging.low
+pub in_tree_is : (judging : Judging) → judging.part ≡ PartInTree → judging.leaf ≡ None → state_of judging ≡ in_tree judging.version judging.lines (owed_of judging.branches) judging.low
 in_tree_is judging part leaf =
-    ap (λ (s : Section). record { lines = judging.lines; section = s; owed = owed_of judging.branches; leaf = leaf_in judging judging.leaf; low = judging.low }) (ap (section_in judging) part)
-    ∙ ap (λ (l : Option OpenLeaf). record { lines = judging.lines; section = InTree; owed = owed_of judging.branches; leaf = l; low = judging.low }) (ap (leaf_in judging) leaf)
+    ap (λ (s : Section). record { lines = judging.lines; version = judging.version; section = s; owed = owed_of judging.branches; leaf = leaf_in judging judging.leaf; low = judging.low }) (ap (section_in judging) part)
+    ∙ ap (λ (l : Option OpenLeaf). record { lines = judging.lines; version = judging.version; section = InTree; owed = owed_of judging.branches; leaf = l; low = judging.low }) (ap (leaf_in judging) leaf)
 
 module _ (book : BookSeen) (state : State) (mid : Judging) (node : IsAtNode book state mid) where
   abbrev marks : List Fact
@@ -48,7 +48,7 @@ module _ (book : BookSeen) (state : State) (mid : Judging) (node : IsAtNode book
   behind = behind_of mid.branches
 
   abbrev with_owed : List (List Fact) → State
-  with_owed owed = in_tree mid.lines owed mid.low
+  with_owed owed = in_tree mid.version mid.lines owed mid.low
 
   goes : (go : State → List Fact → List (List Fact) → Step) → at_node book state go ≡ go (with_owed (marks ∷ behind)) marks behind
   goes go =
@@ -105,8 +105,8 @@ no_node_before book state e go = ap (λ (after : Step). look after (λ here. nex
 
 -- what is kept at a node is what is owed
 pub kept_at_node : (judging : Judging) (owed : List (List Fact)) → judging.part ≡ PartInTree → judging.leaf ≡ None → owed_of judging.branches ≡ owed
-    → in_tree judging.lines owed judging.low ≡ state_of judging
-kept_at_node judging owed part leaf is = ap (λ (o : List (List Fact)). in_tree judging.lines o judging.low) (sym is) ∙ sym (in_tree_is judging part leaf)
+    → in_tree judging.version judging.lines owed judging.low ≡ state_of judging
+kept_at_node judging owed part leaf is = ap (λ (o : List (List Fact)). in_tree judging.version judging.lines o judging.low) (sym is) ∙ sym (in_tree_is judging part leaf)
 
 -- a node is owed before what is behind it
 pub owed_here : (branches : Branches) (here : List Fact) (more : List (List Fact)) → branches.owes ≡ true → branches.marks.facts ≡ here → behind_of branches ≡ more

@@ -21,7 +21,7 @@ use Rattle.cert_checker.specs.Judged.{Begun, FailuresAreNo, FailuresStay, Verdic
 use Rattle.cert_checker.specs.Reasons.{number_of_reason}
 use Rattle.cert_checker.specs.State.{State}
 use Rattle.cert_checker.specs.Step.{take_line}
-use Rattle.cert_checker.specs.Verdict.{and_on, at_line, end_with, failed, first_state, is_label, judge_line, leaf_fails, take_read, take_text, verdict, verdict_from}
+use Rattle.cert_checker.specs.Verdict.{and_on, at_line, end_with, failed, first_state, is_label, is_of_version, judge_line, judge_of_version, leaf_fails, ready_for, take_read, take_text, verdict, verdict_from}
 use Rattle.cert_checker.specs.declared.verdict.Reason.{Reason}
 use Rattle.cert_checker.specs.declared.verdict.Reason.TheVariants.{BadLine}
 use Rattle.cert_checker.specs.declared.verdict.Verdict.{Verdict}
@@ -248,12 +248,16 @@ no_at n (Ok next) failure e = absurd (cc e)
 no_at n (Err why) failure e = (n, number_of_reason why, cc e)
 
 no_in : (book : BookSeen) (state : State) (line : CertLine) (opened : Option ℕ) (failure : Verdict) → judge_line book state line opened ≡ Err failure → IsNo failure
-no_in book state line None failure e = no_at (state.lines + 1) (take_line book state line) failure e
+no_in book state line None failure e = no_at (state.lines + 1) (take_line book (ready_for book state line) line) failure e
 no_in book state line (Some opened) failure e = (opened, 6, cc e)
+
+no_of_version : (book : BookSeen) (state : State) (line : CertLine) (test : Bool) (failure : Verdict) → judge_of_version book state line test ≡ Err failure → IsNo failure
+no_of_version book state line true failure e = no_in book state line (if is_label line then None else leaf_fails book state.leaf) failure e
+no_of_version book state line false failure e = (state.lines + 1, 1, cc e)
 
 no_read : (book : BookSeen) (state : State) (line : Option CertLine) (failure : Verdict) → take_read book state line ≡ Err failure → IsNo failure
 no_read book state None failure e = (state.lines + 1, 1, cc e)
-no_read book state (Some line) failure e = no_in book state line (if is_label line then None else leaf_fails book state.leaf) failure e
+no_read book state (Some line) failure e = no_of_version book state line (is_of_version state.version line) failure e
 
 no_begun : (long : Bool) (state : State) (rest : List ℕ) (failure : Verdict) → begun_unless long state rest ≡ Err failure → IsNo failure
 no_begun true state rest failure e = (state.lines + 1, 1, cc e)

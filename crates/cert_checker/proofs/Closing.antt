@@ -15,7 +15,7 @@ use Rattle.cert_checker.specs.State.{State}
 use Rattle.cert_checker.specs.State as section
 use Rattle.cert_checker.specs.declared.state.Judging.{Judging}
 use Rattle.cert_checker.specs.declared.state.Part.{Part}
-use Rattle.cert_checker.specs.declared.state.Part.TheVariants.{Start, InTree, InBound, InPlan, Claimed}
+use Rattle.cert_checker.specs.declared.state.Part.TheVariants.{Start, InTree, InBound, InLean, InPlan, Claimed}
 use Rattle.cert_checker.specs.declared.verdict.Reason.TheVariants.{OutOfPlace}
 use Rattle.cert_checker.specs.inside.Kept.{section_in, state_of}
 use Rattle.cert_checker.proofs.AtNodes.{passed, stopped}
@@ -48,6 +48,7 @@ module _ (book : BookSeen) (judging : Judging) where
       by_part Start e = refl
       by_part InTree e = absurd (no_tree e)
       by_part InBound e = absurd (no_bound e)
+      by_part InLean e = refl
       by_part InPlan e = refl
       by_part (Claimed claim) e = refl
 
@@ -61,6 +62,8 @@ no_start judging InTree other [] = refl
 no_start judging InTree other (m ∷ more) = some_left m more
 no_start judging InBound other [] = refl
 no_start judging InBound other (m ∷ more) = some_left m more
+no_start judging InLean other [] = refl
+no_start judging InLean other (m ∷ more) = some_left m more
 no_start judging InPlan other [] = refl
 no_start judging InPlan other (m ∷ more) = some_left m more
 no_start judging (Claimed claim) other [] = refl

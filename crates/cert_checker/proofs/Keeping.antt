@@ -19,7 +19,7 @@ use Rattle.cert_checker.specs.declared.kept_floors.KeptRows.{KeptRows}
 use Rattle.cert_checker.specs.declared.state.Judging.{Judging}
 use Rattle.cert_checker.specs.declared.state.OpenLeaf.{OpenLeaf as KeptLeaf}
 use Rattle.cert_checker.specs.declared.state.Part.{Part}
-use Rattle.cert_checker.specs.declared.state.Part.TheVariants.{Start, InTree, InBound, InPlan, Claimed}
+use Rattle.cert_checker.specs.declared.state.Part.TheVariants.{Start, InTree, InBound, InLean, InPlan, Claimed}
 use Rattle.cert_checker.specs.inside.KeptFloors.{AreAllUnder}
 use Rattle.cert_checker.specs.inside.Kept.{IsJudging, IsLeafIn, IsLeafOf, IsPartIn}
 use Rattle.open_branches.specs.declared.branches.Branches.{Branches}
@@ -107,6 +107,7 @@ at_node_still book mid branches floors is part leaf of under = record {
   starts = is.starts;
   floors = under;
   width = is.width;
+  pricer = is.pricer;
 }
 
 -- what the tests of places say
@@ -115,6 +116,9 @@ dual_place covers next a n e =
     let first = and_parts _ _ e in
     let second = and_parts _ _ first.1 in
     (eqb-true covers 0 first.0, ltb-true a n second.1)
+
+pub lean_dual_place : (next a n : ℕ) → (nat_le next a && nat_lt a n) ≡ true → a < n
+lean_dual_place next a n e = ltb-true a n (and_parts _ _ e).1
 
 pub cover_place : (k covers m : ℕ) → (k == covers && nat_lt k m) ≡ true → (k ≡ covers) × (k < m)
 cover_place k covers m e = let both = and_parts _ _ e in (eqb-true k covers both.0, ltb-true k m both.1)
@@ -144,5 +148,6 @@ label_part book old new leaf is some part branches covers = subst (λ (p : Part)
       ap (λ (b : Branches). b.owes) branches ∙ owes ∙ ap (λ (n : ℕ). not (n == aircraft book)) (sym covers),
       λ z. let clash = sym some ∙ none (sym covers ∙ z) in absurd (cc clash),
     )
+    by_part InLean (duals, none) = (let clash = sym some ∙ none in absurd (cc clash))
     by_part InPlan held = tt
     by_part (Claimed claim) held = tt

@@ -13,6 +13,9 @@ pub mod InLeaf
 pub mod Keeping
 pub mod KeptFloors
 pub mod LeafRuns
+pub mod LeanBounds
+pub mod LeanTests
+pub mod LeastFound
 pub mod LineByLine
 pub mod MetWays
 pub mod Opening

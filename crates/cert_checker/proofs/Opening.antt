@@ -1,7 +1,7 @@
 -- Which leaf is open behind a line. A label leaves the open leaf the same but for its labels. Behind any other line no leaf is
 -- open, or it was opened by that line: a node closes the leaf before it, and so do a plan and a claim, while a dual, a header and
 -- a flier stand where no leaf is open.
-use Rattle.std.specs.Prelude.{⊤, not, nat_lt, nat_le, slice_set, ◌+ℤ◌, ◌==◌, ◌&&◌}
+use Rattle.std.specs.Prelude.{⊤, if◌then◌else◌, not, nat_lt, nat_le, slice_set, ◌+ℤ◌, ◌==◌, ◌&&◌}
 use Rattle.std.proofs.Common.{◌≡◌, ◌+◌, ℕ, Bool, true, false, List, [], ◌∷◌, ◌++◌, Option, Some, None, Result, Ok, length, refl, sym, ap, subst, arith}
 use Rattle.std.proofs.lemmas.Bool.{eqb-true}
 use Rattle.tail_book.specs.Lookup.{activities, aircraft}
@@ -23,10 +23,10 @@ use Rattle.cert_lines.specs.declared.cert_line.CertLine.{CertLine}
 use Rattle.cert_lines.specs.declared.cert_line.CertLine.TheVariants as lines
 use Rattle.cert_checker.specs.Certificate.{asked_of, claimed_cost}
 use Rattle.cert_checker.specs.Reasons.{has_claimed_plan, reaches}
-use Rattle.cert_checker.specs.Step.{after_leaf, at_node, done_section, is_pair_of, judge_claim, next_owed, owed_with, owes, rest_owed}
+use Rattle.cert_checker.specs.Step.{after_leaf, at_node, done_section, is_pair_of, judge_claim, next_owed, owed_with, owes, priced_section, rest_owed}
 use Rattle.cert_checker.specs.Step.{take_claim_in, take_cover_in, take_dual_in, take_event, take_fly_in, take_header_in, take_line}
-use Rattle.cert_checker.specs.State.{OpenLeaf, State, Section, Start, InTree, InBound, InPlan, Claimed}
-use Rattle.cert_checker.specs.Verdict.{is_label}
+use Rattle.cert_checker.specs.State.{OpenLeaf, State, Section, Start, InTree, InBound, InLean, InPlan, Claimed}
+use Rattle.cert_checker.specs.Verdict.{is_dual, is_label, ready_for}
 use Rattle.cert_checker.specs.declared.verdict.Reason.{Reason}
 use Rattle.cert_checker.specs.declared.verdict.Reason.TheVariants.{BadPlan, KnownFact, NotAlive, NotFollowing, OutOfBox, OutOfPlace, Unfinished, WeakBound}
 use Rattle.cert_checker.proofs.Standing.{through_look, through_must, through_ok}
@@ -36,6 +36,7 @@ abbrev pub IsQuiet : Section → Option OpenLeaf → Type 0
 IsQuiet Start leaf = leaf ≡ None
 IsQuiet InTree leaf = ⊤
 IsQuiet (InBound bound) leaf = bound.covers ≡ 0 → leaf ≡ None
+IsQuiet (InLean lean) leaf = leaf ≡ None
 IsQuiet (InPlan fliers) leaf = leaf ≡ None
 IsQuiet (Claimed claim) leaf = ⊤
 
@@ -86,6 +87,7 @@ module _ (book : BookSeen) where
       by_section (InBound bound) e =
           through_must (bound.covers == aircraft book) OutOfPlace _ (IsClosed state.lines) here
           (λ all given. through_ok _ here (IsClosed state.lines) (record { lines = refl; section = refl; leaf = refl }) given) e
+      by_section (InLean lean) e = absurd (cc e)
       by_section (InPlan fliers) e = absurd (cc e)
       by_section (Claimed claim) e = absurd (cc e)
 
@@ -158,6 +160,10 @@ module _ (book : BookSeen) where
             let none = calm (eqb-true bound.covers 0 (and_left (bound.covers == 0) placed first)) in
             subst P (one_test (is_in_box (costs_of book) dual) OutOfBox kept next given)
             (record { quiet = λ zero. none; opened = none_of n state.leaf none })) e
+        by_section (InLean lean) calm e =
+            let kept : State = record state { section = InLean (record lean { duals = slice_set lean.duals a dual; next = a + 1 }) } in
+            subst P (two_tests (nat_le lean.next a && nat_lt a (activities book)) (is_in_box (costs_of book) dual) OutOfPlace OutOfBox kept next e)
+            (record { quiet = calm; opened = none_of n state.leaf calm })
         by_section (InPlan fliers) calm e = absurd (cc e)
         by_section (Claimed claim) calm e = absurd (cc e)
     event_behind (events.Cover k value) other e = by_section state.section e
@@ -173,6 +179,7 @@ module _ (book : BookSeen) where
             } in
             subst P (one_test (k == bound.covers && nat_lt k (aircraft book)) OutOfPlace kept next e)
             (record { quiet = λ zero. absurd (omega (arith, zero)); opened = refl })
+        by_section (InLean lean) e = absurd (cc e)
         by_section (InPlan fliers) e = absurd (cc e)
         by_section (Claimed claim) e = absurd (cc e)
     event_behind (events.Label at weight counters) other e = absurd (cc other)
@@ -186,15 +193,20 @@ module _ (book : BookSeen) where
     pub line_behind : (line : CertLine) → is_label line ≡ false → take_line book state line ≡ Ok next → P next
     line_behind (lines.Header version a m c) other e = by_section state.section quiet e
       where
-        by_section : (section : Section) → IsQuiet section state.leaf → take_header_in book state a m c section ≡ Ok next → P next
+        by_section : (section : Section) → IsQuiet section state.leaf → take_header_in book state version a m c section ≡ Ok next → P next
         by_section Start calm e =
-            let kept : State = record state { section = InTree; owed = [] ∷ [] } in
+            let kept : State = record state { version = version; section = InTree; owed = [] ∷ [] } in
             subst P (one_test (a == activities book && (m == aircraft book && c == length book.rules.counters)) OutOfPlace kept next e)
             (record { quiet = tt; opened = none_of n state.leaf calm })
         by_section InTree calm e = absurd (cc e)
         by_section (InBound bound) calm e = absurd (cc e)
+        by_section (InLean lean) calm e = absurd (cc e)
         by_section (InPlan fliers) calm e = absurd (cc e)
         by_section (Claimed claim) calm e = absurd (cc e)
+    line_behind lines.Lean other e =
+        at_closed state.lines P state next _ refl
+        (λ here marks owed done given.
+        through_ok _ next P (record { quiet = done.leaf; opened = none_of n here.leaf done.leaf }) given) e
     line_behind (lines.Event event) other e = event_behind event other e
     line_behind lines.Plan other e =
         let go : State → Result State Reason = λ here. Ok (record here { section = InPlan [] }) in
@@ -208,6 +220,7 @@ module _ (book : BookSeen) where
         by_section Start calm e = absurd (cc e)
         by_section InTree calm e = absurd (cc e)
         by_section (InBound bound) calm e = absurd (cc e)
+        by_section (InLean lean) calm e = absurd (cc e)
         by_section (InPlan fliers) calm e =
             let kept : State = record state { section = InPlan (fliers ++ k ∷ []) } in
             subst P (one_test (a == length fliers && (nat_lt a (activities book) && nat_lt k (aircraft book))) OutOfPlace kept next e)
@@ -226,7 +239,28 @@ module _ (book : BookSeen) where
         by_section Start calm e = alone e
         by_section InTree calm e = alone e
         by_section (InBound bound) calm e = alone e
+        by_section (InLean lean) calm e = alone e
         by_section (InPlan fliers) calm e =
             through_must (length fliers == activities book) OutOfPlace (judge_claim book state (Some fliers) claim) P next
             (λ many given. judged_behind state (Some fliers) claim calm given) e
         by_section (Claimed earlier) calm e = alone e
+
+-- where a lean leaf is priced no leaf is opened
+priced_quiet : (book : BookSeen) (state : State) (section : Section) → state.section ≡ section → IsQuiet section state.leaf
+    → IsQuiet (priced_section book state section).section (priced_section book state section).leaf
+priced_quiet book state Start is quiet = rw is quiet
+priced_quiet book state InTree is quiet = rw is quiet
+priced_quiet book state (InBound bound) is quiet = rw is quiet
+priced_quiet book state (InLean lean) is quiet = tt
+priced_quiet book state (InPlan fliers) is quiet = rw is quiet
+priced_quiet book state (Claimed claim) is quiet = rw is quiet
+
+pub ready_quiet : (book : BookSeen) (state : State) (line : CertLine) → IsQuiet state.section state.leaf → IsQuiet (ready_for book state line).section (ready_for book state line).leaf
+ready_quiet book state line quiet = by_dual (is_dual line)
+  where
+    here : Bool → State
+    here dual = if dual then state else priced_section book state state.section
+
+    by_dual : (dual : Bool) → IsQuiet (here dual).section (here dual).leaf
+    by_dual true = quiet
+    by_dual false = priced_quiet book state state.section refl quiet

@@ -10,9 +10,9 @@ use Rattle.cert_lines.specs.Grammar.{IsLine}
 use Rattle.cert_lines.specs.OneSpelling.{SpelledLinesAreRead}
 use Rattle.cert_lines.specs.Reading.{line_of}
 use Rattle.cert_lines.specs.Spelling.{spelling}
-use Rattle.cert_checker.specs.Step.{after_leaf, owes, take_line}
+use Rattle.cert_checker.specs.Step.{after_leaf, owes, priced, take_line}
 use Rattle.cert_checker.specs.State.{State, InTree}
-use Rattle.cert_checker.specs.Verdict.{at_line, end_with, is_label, leaf_fails, take_read, verdict_from}
+use Rattle.cert_checker.specs.Verdict.{at_line, end_with, is_label, is_of_version, leaf_fails, ready_for, take_read, verdict_from}
 use Rattle.cert_checker.specs.declared.verdict.Reason.{Reason}
 use Rattle.cert_checker.specs.declared.verdict.Verdict.{Verdict}
 use Rattle.cert_checker.proofs.Standing.{plain}
@@ -34,26 +34,27 @@ passes_then book [] more state middle after one other = subst (λ (state : State
 passes_then book (line ∷ some) more state middle after (next, taken, one) other = (next, taken, passes_then book some more next middle after one other)
 
 -- a line that is taken where the leaf before it does not fail
-pub one_passes : (book : BookSeen) (state kept : State) (line : CertLine) → is_label line ≡ false → leaf_fails book state.leaf ≡ None → IsKept (take_line book state line) kept
-    → Passes book state (line ∷ []) (record kept { lines = state.lines + 1 })
-one_passes book state kept line other fine taken =
-    let read : take_read book state (Some line) ≡ at_line (state.lines + 1) (take_line book state line) = rw (other, fine) refl in
+pub one_passes : (book : BookSeen) (state kept : State) (line : CertLine) → is_label line ≡ false → is_of_version state.version line ≡ true → leaf_fails book state.leaf ≡ None
+    → IsKept (take_line book (ready_for book state line) line) kept → Passes book state (line ∷ []) (record kept { lines = state.lines + 1 })
+one_passes book state kept line other told fine taken =
+    let read : take_read book state (Some line) ≡ at_line (state.lines + 1) (take_line book (ready_for book state line) line) = rw (told, other, fine) refl in
     (record kept { lines = state.lines + 1 }, read ∙ ap (λ (step : Result State Reason). at_line (state.lines + 1) step) taken, refl)
 
-pub label_passes : (book : BookSeen) (state kept : State) (line : CertLine) → is_label line ≡ true → IsKept (take_line book state line) kept
-    → Passes book state (line ∷ []) (record kept { lines = state.lines + 1 })
-label_passes book state kept line label taken =
-    let read : take_read book state (Some line) ≡ at_line (state.lines + 1) (take_line book state line) = rw label refl in
+pub label_passes : (book : BookSeen) (state kept : State) (line : CertLine) → is_label line ≡ true → is_of_version state.version line ≡ true
+    → IsKept (take_line book (ready_for book state line) line) kept → Passes book state (line ∷ []) (record kept { lines = state.lines + 1 })
+label_passes book state kept line label told taken =
+    let read : take_read book state (Some line) ≡ at_line (state.lines + 1) (take_line book (ready_for book state line) line) = rw (told, label) refl in
     (record kept { lines = state.lines + 1 }, read ∙ ap (λ (step : Result State Reason). at_line (state.lines + 1) step) taken, refl)
 
 -- between nodes: the leaf before the next line does not fail, and behind it this is owed, with this least bound
-pub record IsBetween (book : BookSeen) (state : State) (owed : List (List Fact)) (least : Option ℕ) : Type 0 where
+pub record IsBetween (version : ℕ) (book : BookSeen) (state : State) (owed : List (List Fact)) (least : Option ℕ) : Type 0 where
+  pub told : state.version ≡ version
   pub fine : leaf_fails book state.leaf ≡ None
-  pub done : IsKept (after_leaf book state) (plain state.lines owed least)
-  pub owing : owes state.section state.owed ≡ owes InTree owed
+  pub done : IsKept (after_leaf book (priced book state)) (plain version state.lines owed least)
+  pub owing : owes (priced book state).section (priced book state).owed ≡ owes InTree owed
 
-pub plain_between : (book : BookSeen) (n : ℕ) (owed : List (List Fact)) (least : Option ℕ) → IsBetween book (plain n owed least) owed least
-plain_between book n owed least = record { fine = refl; done = refl; owing = refl }
+pub plain_between : (version : ℕ) (book : BookSeen) (n : ℕ) (owed : List (List Fact)) (least : Option ℕ) → IsBetween version book (plain version n owed least) owed least
+plain_between version book n owed least = record { told = refl; fine = refl; done = refl; owing = refl }
 
 -- the verdict on lines that pass is what is said at their end
 step_on : (book : BookSeen) (state next : State) (text other : List ℕ) (texts : List (List ℕ)) (line : CertLine) → line_of text ≡ Some line → IsTaken (take_read book state (Some line)) next

@@ -16,17 +16,18 @@ use Rattle.cert_lines.specs.declared.cert_line.CertLine.{CertLine}
 use Rattle.cert_lines.specs.declared.cert_line.CertLine.TheVariants as lines
 use Rattle.cert_lines.specs.Reading.{line_of}
 use Rattle.cert_checker.specs.Reasons.{is_shown_leaf, number_of_reason}
-use Rattle.cert_checker.specs.State.{OpenLeaf, State, Section, Start, InTree, InBound, InPlan, Claimed}
+use Rattle.cert_checker.specs.State.{OpenLeaf, State, Section, Start, InTree, InBound, InLean, InPlan, Claimed}
 use Rattle.cert_checker.specs.Step.{take_label_in, take_line}
-use Rattle.cert_checker.specs.Verdict.{at_line, claimed_at, end_with, failed, first_state, is_label}
-use Rattle.cert_checker.specs.Verdict.{judge_line, leaf_fails, take_read, take_text, verdict, verdict_from}
+use Rattle.cert_checker.specs.Verdict.{at_line, claimed_at, end_with, failed, first_state, is_label, is_of_version}
+use Rattle.cert_checker.specs.Verdict.{judge_line, judge_of_version, leaf_fails, ready_for, take_read, take_text, verdict, verdict_from}
 use Rattle.cert_checker.specs.declared.verdict.Reason.{Reason}
 use Rattle.cert_checker.specs.declared.verdict.Reason.TheVariants.{NotAlive, OpenCover, OutOfPlace}
 use Rattle.cert_checker.specs.declared.verdict.Verdict.{Verdict}
 use Rattle.cert_checker.specs.declared.verdict.Verdict.TheVariants.{No}
 use Rattle.cert_checker.specs.inside.ToldLines.{HaveSameLines, labels_first, told_with}
 use Rattle.cert_checker.proofs.LineByLine.{last_line, line_fails, line_taken, no_line}
-use Rattle.cert_checker.proofs.Opening.{IsOf, IsQuiet, line_behind, two_tests}
+use Rattle.cert_checker.proofs.Opening.{IsOf, IsQuiet, line_behind, ready_quiet, two_tests}
+use Rattle.cert_checker.proofs.Standing.{ready_leaf, ready_lines}
 
 -- lists that are the same for long are so for less
 shorter : {A : Type 0} (r m : ℕ) (xs ys : List A) → r ≤ m → take m xs ≡ take m ys → take r xs ≡ take r ys
@@ -73,6 +74,7 @@ ends_at state rest n reason e = by_rest (length rest == 0) _ state.section e
     by_rest true why Start e = cc e
     by_rest true why InTree e = cc e
     by_rest true why (InBound bound) e = cc e
+    by_rest true why (InLean lean) e = cc e
     by_rest true why (InPlan fliers) e = cc e
     by_rest true why (Claimed claim) e = absurd (cc e)
 
@@ -88,6 +90,7 @@ still_quiet : (section : Section) (leaf after : OpenLeaf) → IsQuiet section (S
 still_quiet Start leaf after quiet = absurd (cc quiet)
 still_quiet InTree leaf after quiet = tt
 still_quiet (InBound bound) leaf after quiet = λ zero. (let none = quiet zero in absurd (cc none))
+still_quiet (InLean lean) leaf after quiet = absurd (cc quiet)
 still_quiet (InPlan fliers) leaf after quiet = absurd (cc quiet)
 still_quiet (Claimed claim) leaf after quiet = tt
 
@@ -148,9 +151,22 @@ module _ (book : BookSeen) (whole : List (List ℕ)) where
     label_passes (lines.Event (events.Dual a dual)) next read label taken = absurd (cc label)
     label_passes (lines.Event (events.Cover k value)) next read label taken = absurd (cc label)
     label_passes (lines.Header version n m c) next read label taken = absurd (cc label)
+    label_passes lines.Lean next read label taken = absurd (cc label)
     label_passes lines.Plan next read label taken = absurd (cc label)
     label_passes (lines.Fly a k) next read label taken = absurd (cc label)
     label_passes (lines.Claim claim) next read label taken = absurd (cc label)
+
+  -- where a lean leaf was priced the same lines were taken
+  ready_at : (state : State) (line : CertLine) (left : List (List ℕ)) → StandsAt state left → StandsAt (ready_for book state line) left
+  ready_at state line left stands = record {
+    left_is = rw (ready_lines book state line) stands.left_is;
+    quiet = ready_quiet book state line stands.quiet;
+    labels = rw (ready_lines book state line, ready_leaf book state line) stands.labels;
+  }
+
+  module _ (state : State) (text : List ℕ) (left : List (List ℕ)) (stands : StandsAt state (text ∷ left)) where
+    ready_on : (line : CertLine) (next : State) → StandsAt (record next { lines = (ready_for book state line).lines + 1 }) left → StandsAt (record next { lines = state.lines + 1 }) left
+    ready_on line next here = subst (λ (n : ℕ). StandsAt (record next { lines = n + 1 }) left) (ready_lines book state line) here
 
     -- behind a line that is taken one line less is left
     record IsOneOn (kept : State) : Type 0 where
@@ -163,19 +179,23 @@ module _ (book : BookSeen) (whole : List (List ℕ)) where
         by_label : (line : CertLine) (label : Bool) → line_of text ≡ Some line → is_label line ≡ label
             → judge_line book state line (if label then None else leaf_fails book state.leaf) ≡ Ok kept → IsOneOn kept
         by_label line true read label e =
-            let is = numbered (state.lines + 1) (take_line book state line) kept e in
-            subst IsOneOn is.is (record { lines = refl; here = label_passes line is.next read label is.taken })
+            let is = numbered (state.lines + 1) (take_line book (ready_for book state line) line) kept e in
+            subst IsOneOn is.is (record { lines = refl; here = ready_on line is.next (label_passes (ready_for book state line) text left (ready_at state line (text ∷ left) stands) line is.next read label is.taken) })
         by_label line false read label e = by_opened (leaf_fails book state.leaf) e
           where
             by_opened : (opened : Option ℕ) → judge_line book state line opened ≡ Ok kept → IsOneOn kept
             by_opened None e =
-                let is = numbered (state.lines + 1) (take_line book state line) kept e in
-                subst IsOneOn is.is (record { lines = refl; here = other_passes line is.next label is.taken })
+                let is = numbered (state.lines + 1) (take_line book (ready_for book state line) line) kept e in
+                subst IsOneOn is.is (record { lines = refl; here = ready_on line is.next (other_passes (ready_for book state line) text left (ready_at state line (text ∷ left) stands) line is.next label is.taken) })
             by_opened (Some opened) e = absurd (cc e)
+
+        by_version : (line : CertLine) (test : Bool) → line_of text ≡ Some line → judge_of_version book state line test ≡ Ok kept → IsOneOn kept
+        by_version line true is e = by_label line (is_label line) is refl e
+        by_version line false is e = absurd (cc e)
 
         by_read : (read : Option CertLine) → line_of text ≡ read → take_read book state read ≡ Ok kept → IsOneOn kept
         by_read None is e = absurd (cc e)
-        by_read (Some line) is e = by_label line (is_label line) is refl e
+        by_read (Some line) is e = by_version line (is_of_version state.version line) is e
 
     -- a line that fails is at most the one that the failure is told with
     fails_within : (m n reason : ℕ) → n ≤ m → (reason ≡ 6 → m ≡ n + labels_first (drop n whole) + 1) → take_text book state text ≡ Err (No n reason)
@@ -197,19 +217,23 @@ module _ (book : BookSeen) (whole : List (List ℕ)) where
 
         by_opened : (line : CertLine) (label : Bool) → judge_line book state line (if label then None else leaf_fails book state.leaf) ≡ Err (No n reason)
             → state.lines + 1 ≤ m
-        by_opened line true e = here (fails_at (state.lines + 1) (take_line book state line) n reason e)
+        by_opened line true e = here (fails_at (state.lines + 1) (take_line book (ready_for book state line) line) n reason e)
         by_opened line false e = by_fails (leaf_fails book state.leaf) refl e
           where
             by_fails : (fails : Option ℕ) → leaf_fails book state.leaf ≡ fails → judge_line book state line fails ≡ Err (No n reason) → state.lines + 1 ≤ m
-            by_fails None is e = here (fails_at (state.lines + 1) (take_line book state line) n reason e)
+            by_fails None is e = here (fails_at (state.lines + 1) (take_line book (ready_for book state line) line) n reason e)
             by_fails (Some opened) is e =
                 let same : opened ≡ n = cc e in
                 let six : 6 ≡ reason = cc e in
                 by_leaf state.leaf opened stands.labels is same (sym six)
 
+        by_version : (line : CertLine) (test : Bool) → judge_of_version book state line test ≡ Err (No n reason) → state.lines + 1 ≤ m
+        by_version line true e = by_opened line (is_label line) e
+        by_version line false e = here (let is : state.lines + 1 ≡ n = cc e in sym is)
+
         by_read : (read : Option CertLine) → take_read book state read ≡ Err (No n reason) → state.lines + 1 ≤ m
         by_read None e = here (let is : state.lines + 1 ≡ n = cc e in sym is)
-        by_read (Some line) e = by_opened line (is_label line) e
+        by_read (Some line) e = by_version line (is_of_version state.version line) e
 
   -- the failure is told once so many of the lines that are left were read: with these lines, every text has it
   record IsTold (state : State) (left : List (List ℕ)) (m : ℕ) (failure : Verdict) : Type 0 where

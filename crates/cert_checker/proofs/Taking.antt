@@ -1,6 +1,6 @@
 -- Each line that is taken leaves what says what came before: the events of the tree and then that line's, and the places that are
 -- left, whose trees are put together to one at the place that the line took.
-use Rattle.std.proofs.Common.{◌≡◌, ◌∙◌, ◌+◌, ◌<◌, ◌+ℤ◌, ℕ, ℤ, zero, suc, pos, Bool, true, false, List, [], ◌∷◌, ◌++◌, Option, Some, None, Result, Ok, ◌==◌, not, nat_lt, length, get_or, refl, sym, ap, subst, arith, append_assoc, replicate}
+use Rattle.std.proofs.Common.{◌≡◌, ◌∙◌, ◌+◌, ◌<◌, ◌+ℤ◌, ℕ, ℤ, zero, suc, pos, Bool, true, false, List, [], ◌∷◌, ◌++◌, Option, Some, None, Result, Ok, ◌==◌, not, nat_lt, length, get_or, map, refl, sym, ap, subst, arith, append_assoc, replicate}
 use Rattle.std.proofs.lemmas.Bool.Decides.{nat_tests}
 use Rattle.std.proofs.lemmas.Int.{ints}
 use Rattle.std.proofs.lemmas.List.{length-replicate, map-append}
@@ -12,7 +12,7 @@ use Rattle.tail_book.specs.CostTable.{box_end, costs_of}
 use Rattle.tail_text.specs.Checks.{must}
 use Rattle.branch_marks.specs.Branches.{first_branch, second_branch}
 use Rattle.branch_marks.specs.ProofTree.{zero_duals}
-use Rattle.branch_marks.specs.ProofTree as grown
+use Rattle.branch_marks.specs.ProofTree as whole
 use Rattle.branch_marks.specs.declared.event.Event.{Event}
 use Rattle.branch_marks.specs.declared.event.Event.TheVariants as events
 use Rattle.branch_marks.specs.declared.fact.Fact.{Fact}
@@ -25,28 +25,36 @@ use Rattle.branch_marks.specs.TreeTests.{are_duals, is_hole, is_in_box}
 use Rattle.cert_lines.specs.declared.cert_line.CertLine.{CertLine}
 use Rattle.cert_lines.specs.declared.cert_line.CertLine.TheVariants as lines
 use Rattle.cert_lines.specs.PlanLines.{fly_lines}
-use Rattle.cert_checker.specs.Certificate.{header_of}
-use Rattle.cert_checker.specs.Step.{after_leaf, at_node, is_pair_of, next_owed, owed_with, take_bound, take_fact, take_hole, take_split, take_stuck}
-use Rattle.cert_checker.specs.State.{BoundLeaf, State, InBound}
+use Rattle.cert_checker.specs.LeanTree as grown
+use Rattle.cert_checker.specs.Step.{after_leaf, at_node, is_pair_of, next_owed, owed_with, take_bound, take_fact, take_hole, take_lean, take_split, take_stuck}
+use Rattle.cert_checker.specs.State.{BoundLeaf, LeanLeaf, State, InBound, InLean}
 use Rattle.branch_marks.specs.TreeEvents.{dual_events}
 use Rattle.cert_checker.specs.Verdict.{leaf_fails}
 use Rattle.cert_checker.specs.declared.verdict.Reason.{Reason}
 use Rattle.cert_checker.specs.declared.verdict.Reason.TheVariants.{KnownFact, NotAlive, NotFollowing, OutOfPlace}
 use Rattle.cert_checker.proofs.Duals.{all_same, zero_events}
 use Rattle.cert_checker.proofs.Growing.{Grows, grows_leaf, grows_split, grows_step}
-use Rattle.cert_checker.proofs.Standing.{IsBoundOpen, Stands, plain, ready, through_look, through_must, through_ok, tree_front}
+use Rattle.cert_checker.proofs.Standing.{IsBoundOpen, IsLeanOpen, Stands, plain, ready, through_look, through_must, through_ok, tree_front}
 
 pub not_false : (test : Bool) → not test ≡ true → test ≡ false
 not_false true e = absurd (cc e)
 not_false false e = refl
 
--- one event more
-pub told_more : (book : BookSeen) (front : List CertLine) (told : List Event) (event : Event) → front ≡ tree_front book told → front ++ lines.Event event ∷ [] ≡ tree_front book (told ++ event ∷ [])
-told_more book front told event is = rw is (ap (λ rest. header_of book ∷ rest) (sym (map-append lines.Event told (event ∷ []))))
+-- one line more
+pub told_more : (version : ℕ) (book : BookSeen) (front told : List CertLine) (line : CertLine) → front ≡ tree_front version book told
+    → front ++ line ∷ [] ≡ tree_front version book (told ++ line ∷ [])
+told_more version book front told line is = rw is refl
 
 -- what is put behind the parts of a leaf stands behind the last of them
-pub behind_parts : (before : List Event) (first : Event) (some others more : List Event) → (before ++ (first ∷ (some ++ others))) ++ more ≡ before ++ (first ∷ (some ++ (others ++ more)))
-behind_parts before first some others more = append_assoc before (first ∷ (some ++ others)) more ∙ ap (λ rest. before ++ (first ∷ rest)) (append_assoc some others more)
+pub behind_parts : (first : Event) (some others more : List Event) → (first ∷ (some ++ others)) ++ more ≡ first ∷ (some ++ (others ++ more))
+behind_parts first some others more = ap (λ rest. first ∷ rest) (append_assoc some others more)
+
+-- one event more of a leaf
+pub leaf_more : (told before : List CertLine) (part more : List Event) (event : Event) → told ≡ before ++ map lines.Event part → part ++ event ∷ [] ≡ more
+    → told ++ lines.Event event ∷ [] ≡ before ++ map lines.Event more
+leaf_more told before part more event is same =
+    rw is (append_assoc before (map lines.Event part) (lines.Event event ∷ [])
+    ∙ ap (λ rest. before ++ rest) (sym (map-append lines.Event part (event ∷ [])) ∙ ap (λ (all : List Event). map lines.Event all) same))
 
 zero_in_box : (book : BookSeen) → is_in_box (costs_of book) (pos 0) ≡ true
 zero_in_box book =
@@ -55,7 +63,7 @@ zero_in_box book =
     let high = (int_le_tested (pos 0) (pos end)).1 (omega (arith, ints)) in
     rw (low, high) refl
 
-zeros_are_duals : (book : BookSeen) → are_duals (costs_of book) book (zero_duals book) ≡ true
+pub zeros_are_duals : (book : BookSeen) → are_duals (costs_of book) book (zero_duals book) ≡ true
 zeros_are_duals book =
     let many : (length (zero_duals book) == activities book) ≡ true = same_test (length (zero_duals book)) (activities book) (length-replicate (activities book) (pos 0)) in
     rw (many, all_same (is_in_box (costs_of book)) (activities book) (pos 0) (zero_in_box book)) refl
@@ -81,23 +89,23 @@ one_flier_more first a k (one ∷ fliers) is = ap (λ rest. lines.Fly first one 
 
 module _ (book : BookSeen) (front : List CertLine) where
   -- a node begins or goes on at the place that is owed next
-  next_place : (n : ℕ) (owed : List (List Fact)) (least : Option ℕ) (told : List Event) → front ≡ tree_front book told → Grows book told owed least
+  next_place : (version n : ℕ) (owed : List (List Fact)) (least : Option ℕ) (told : List CertLine) → front ≡ tree_front version book told → Grows version book told owed least
       → (go : State → List Fact → List (List Fact) → Result State Reason) (P : State → Type 0) (next : State)
-      → ((marks : List Fact) (others : List (List Fact)) → Grows book told (marks ∷ others) least → go (plain n (marks ∷ others) least) marks others ≡ Ok next → P next)
-      → next_owed owed (go (plain n owed least)) ≡ Ok next → P next
-  next_place n [] least told is grows go P next given e = absurd (cc e)
-  next_place n (marks ∷ others) least told is grows go P next given e = given marks others grows e
+      → ((marks : List Fact) (others : List (List Fact)) → Grows version book told (marks ∷ others) least → go (plain version n (marks ∷ others) least) marks others ≡ Ok next → P next)
+      → next_owed owed (go (plain version n owed least)) ≡ Ok next → P next
+  next_place version n [] least told is grows go P next given e = absurd (cc e)
+  next_place version n (marks ∷ others) least told is grows go P next given e = given marks others grows e
 
   through_node : (state : State) → Stands book front state → leaf_fails book state.leaf ≡ None → (go : State → List Fact → List (List Fact) → Result State Reason) (P : State → Type 0) (next : State)
-      → ((n : ℕ) (told : List Event) (marks : List Fact) (others : List (List Fact)) (least : Option ℕ) → front ≡ tree_front book told → Grows book told (marks ∷ others) least
-      → go (plain n (marks ∷ others) least) marks others ≡ Ok next → P next)
+      → ((n : ℕ) (told : List CertLine) (marks : List Fact) (others : List (List Fact)) (least : Option ℕ) → front ≡ tree_front state.version book told → Grows state.version book told (marks ∷ others) least
+      → go (plain state.version n (marks ∷ others) least) marks others ≡ Ok next → P next)
       → at_node book state go ≡ Ok next → P next
   through_node state stands fine go P next given e =
       through_look (after_leaf book state) (λ here. next_owed here.owed (go here)) P next
       (λ here done goes.
       let r = ready book front state here stands fine done in
-      let on : next_owed r.owed (go (plain r.n r.owed r.least)) ≡ Ok next = subst (λ (here : State). next_owed here.owed (go here) ≡ Ok next) r.is goes in
-      next_place r.n r.owed r.least r.told r.front_is r.grows go P next (λ marks others grows now. given r.n r.told marks others r.least r.front_is grows now) on) e
+      let on : next_owed r.owed (go (plain state.version r.n r.owed r.least)) ≡ Ok next = subst (λ (here : State). next_owed here.owed (go here) ≡ Ok next) r.is goes in
+      next_place state.version r.n r.owed r.least r.told r.front_is r.grows go P next (λ marks others grows now. given r.n r.told marks others r.least r.front_is grows now) on) e
 
   -- after a line of the tree at a place
   pub fact_taken : (fact : Fact) (next : State) (state : State) → Stands book front state → leaf_fails book state.leaf ≡ None → take_fact book state fact ≡ Ok next
@@ -107,11 +115,11 @@ module _ (book : BookSeen) (front : List CertLine) where
       must (is_fact_of book fact) OutOfPlace (must (not (has_fact marks fact)) KnownFact (must (follows book marks fact) NotFollowing (Ok (record here { owed = (marks ++ fact ∷ []) ∷ owed })))))
       P next
       (λ n told marks others least is grows now.
-      let kept : State = record (plain n (marks ∷ others) least) { owed = (marks ++ fact ∷ []) ∷ others } in
+      let kept : State = record (plain state.version n (marks ∷ others) least) { owed = (marks ++ fact ∷ []) ∷ others } in
       through_must (is_fact_of book fact) OutOfPlace (must (not (has_fact marks fact)) KnownFact (must (follows book marks fact) NotFollowing (Ok kept))) P next
       (λ of_book now. through_must (not (has_fact marks fact)) KnownFact (must (follows book marks fact) NotFollowing (Ok kept)) P next
       (λ new now. through_must (follows book marks fact) NotFollowing (Ok kept) P next
-      (λ follow now. through_ok kept next P (told ++ events.Fact fact ∷ [], told_more book front told (events.Fact fact) is, grows_step book told marks others least grows fact (not_false (has_fact marks fact) new) follow) now) now) now) now) e
+      (λ follow now. through_ok kept next P (told ++ lines.Event (events.Fact fact) ∷ [], told_more state.version book front told (lines.Event (events.Fact fact)) is, grows_step state.version book told marks others least grows fact (not_false (has_fact marks fact) new) follow) now) now) now) now) e
     where
       P : State → Type 0
       P kept = Stands book (front ++ lines.Event (events.Fact fact) ∷ []) kept
@@ -123,10 +131,10 @@ module _ (book : BookSeen) (front : List CertLine) where
       must (is_pair_of book pair) OutOfPlace (must (is_undecided book marks pair) NotAlive (Ok (record here { owed = (marks ++ first_branch pair ∷ []) ∷ (marks ++ second_branch pair ∷ []) ∷ owed }))))
       P next
       (λ n told marks others least is grows now.
-      let kept : State = record (plain n (marks ∷ others) least) { owed = (marks ++ first_branch pair ∷ []) ∷ (marks ++ second_branch pair ∷ []) ∷ others } in
+      let kept : State = record (plain state.version n (marks ∷ others) least) { owed = (marks ++ first_branch pair ∷ []) ∷ (marks ++ second_branch pair ∷ []) ∷ others } in
       through_must (is_pair_of book pair) OutOfPlace (must (is_undecided book marks pair) NotAlive (Ok kept)) P next
       (λ of_book now. through_must (is_undecided book marks pair) NotAlive (Ok kept) P next
-      (λ undecided now. through_ok kept next P (told ++ events.Split pair ∷ [], told_more book front told (events.Split pair) is, grows_split book told marks others least grows pair undecided) now) now) now) e
+      (λ undecided now. through_ok kept next P (told ++ lines.Event (events.Split pair) ∷ [], told_more state.version book front told (lines.Event (events.Split pair)) is, grows_split state.version book told marks others least grows pair undecided) now) now) now) e
     where
       P : State → Type 0
       P kept = Stands book (front ++ lines.Event (events.Split pair) ∷ []) kept
@@ -136,10 +144,10 @@ module _ (book : BookSeen) (front : List CertLine) where
   hole_taken a next state stands fine e =
       through_node state stands fine (λ here marks owed. must (nat_lt a (activities book)) OutOfPlace (must (is_hole book marks a) NotAlive (Ok (record here { owed = owed })))) P next
       (λ n told marks others least is grows now.
-      let kept : State = record (plain n (marks ∷ others) least) { owed = others } in
+      let kept : State = record (plain state.version n (marks ∷ others) least) { owed = others } in
       through_must (nat_lt a (activities book)) OutOfPlace (must (is_hole book marks a) NotAlive (Ok kept)) P next
       (λ of_book now. through_must (is_hole book marks a) NotAlive (Ok kept) P next
-      (λ hole now. through_ok kept next P (told ++ events.Hole a ∷ [], told_more book front told (events.Hole a) is, grows_leaf book told marks others least grows (grown.Hole a) least hole (λ low reached. (refl, reached))) now) now) now) e
+      (λ hole now. through_ok kept next P (told ++ lines.Event (events.Hole a) ∷ [], told_more state.version book front told (lines.Event (events.Hole a)) is, grows_leaf state.version book told marks others least grows (grown.Told (whole.Hole a)) least hole (λ low reached. (refl, reached))) now) now) now) e
     where
       P : State → Type 0
       P kept = Stands book (front ++ lines.Event (events.Hole a) ∷ []) kept
@@ -150,9 +158,9 @@ module _ (book : BookSeen) (front : List CertLine) where
       through_node state stands fine (λ here marks owed.
       must (nat_lt k (aircraft book)) OutOfPlace (Ok (record here { owed = owed; leaf = Some (record { line = here.lines + 1; k = k; marks = marks; duals = zero_duals book; value = None; next = 0; family = [] }) }))) P next
       (λ n told marks others least is grows now.
-      let kept : State = record (plain n (marks ∷ others) least) { owed = others; leaf = Some (record { line = n + 1; k = k; marks = marks; duals = zero_duals book; value = None; next = 0; family = [] }) } in
+      let kept : State = record (plain state.version n (marks ∷ others) least) { owed = others; leaf = Some (record { line = n + 1; k = k; marks = marks; duals = zero_duals book; value = None; next = 0; family = [] }) } in
       through_must (nat_lt k (aircraft book)) OutOfPlace (Ok kept) P next
-      (λ of_book now. through_ok kept next P (told ++ events.Stuck k ∷ [], told_more book front told (events.Stuck k) is, record { before = told; claims = refl; events_are = refl; grows = grows }) now) now) e
+      (λ of_book now. through_ok kept next P (told ++ lines.Event (events.Stuck k) ∷ [], told_more state.version book front told (lines.Event (events.Stuck k)) is, record { before = told; claims = refl; lines_are = refl; grows = grows }) now) now) e
     where
       P : State → Type 0
       P kept = Stands book (front ++ lines.Event (events.Stuck k) ∷ []) kept
@@ -162,21 +170,46 @@ module _ (book : BookSeen) (front : List CertLine) where
   bound_taken next state stands fine e =
       through_node state stands fine (λ here marks owed. Ok (record here { section = InBound (begun marks); owed = owed_with book 0 marks owed })) P next
       (λ n told marks others least is grows now.
-      let kept : State = record (plain n (marks ∷ others) least) { section = InBound (begun marks); owed = owed_with book 0 marks others } in
-      let shape : told ++ events.Bound ∷ [] ≡ told ++ (events.Bound ∷ (dual_events 0 (zero_duals book) ++ [])) = rw (zero_events (activities book) 0) refl in
-      let opened : IsBoundOpen book (told ++ events.Bound ∷ []) (owed_with book 0 marks others) least (begun marks) [] = record {
+      let kept : State = record (plain state.version n (marks ∷ others) least) { section = InBound (begun marks); owed = owed_with book 0 marks others } in
+      let told_now : List CertLine = told ++ lines.Event events.Bound ∷ [] in
+      let shape : told_now ≡ told ++ map lines.Event (events.Bound ∷ (dual_events 0 (zero_duals book) ++ [])) = rw (zero_events (activities book) 0) refl in
+      let opened : IsBoundOpen state.version book told_now (owed_with book 0 marks others) least (begun marks) [] = record {
         before = told;
         others = others;
-        events_are = shape;
+        lines_are = shape;
         owed_are = refl;
         grows = grows;
         duals = zeros_are_duals book;
         zeros = λ i from. zeros_are_zero (activities book) i;
       } in
-      through_ok kept next P (told ++ events.Bound ∷ [], told_more book front told events.Bound is, (opened, refl, refl)) now) e
+      through_ok kept next P (told_now, told_more state.version book front told (lines.Event events.Bound) is, (opened, refl, refl)) now) e
     where
       P : State → Type 0
       P kept = Stands book (front ++ lines.Event events.Bound ∷ []) kept
 
       begun : List Fact → BoundLeaf
       begun marks = record { marks = marks; duals = zero_duals book; next = 0; covers = 0; values = pos 0 }
+
+  pub lean_taken : (next : State) (state : State) → Stands book front state → leaf_fails book state.leaf ≡ None → state.version ≡ 2 → take_lean book state ≡ Ok next
+      → Stands book (front ++ lines.Lean ∷ []) next
+  lean_taken next state stands fine second e =
+      through_node state stands fine (λ here marks owed. Ok (record here { section = InLean (begun marks); owed = owed })) P next
+      (λ n told marks others least is grows now.
+      let kept : State = record (plain state.version n (marks ∷ others) least) { section = InLean (begun marks); owed = others } in
+      let told_now : List CertLine = told ++ lines.Lean ∷ [] in
+      let shape : told_now ≡ told ++ (lines.Lean ∷ map lines.Event (dual_events 0 (zero_duals book))) = rw (zero_events (activities book) 0) refl in
+      let opened : IsLeanOpen state.version book told_now others least (begun marks) = record {
+        before = told;
+        lines_are = shape;
+        grows = grows;
+        duals = zeros_are_duals book;
+        zeros = λ i from. zeros_are_zero (activities book) i;
+        second = second;
+      } in
+      through_ok kept next P (told_now, told_more state.version book front told lines.Lean is, opened, refl) now) e
+    where
+      P : State → Type 0
+      P kept = Stands book (front ++ lines.Lean ∷ []) kept
+
+      begun : List Fact → LeanLeaf
+      begun marks = record { marks = marks; duals = zero_duals book; next = 0 }

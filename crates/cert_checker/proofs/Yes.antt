@@ -11,12 +11,13 @@ use Rattle.tail_book.specs.Cost.{plan_cost}
 use Rattle.tail_book.specs.Lookup.{aircraft}
 use Rattle.tail_book.specs.Seen.{BookSeen}
 use Rattle.tail_book.specs.declared.claim.Claim.{Claim}
-use Rattle.tail_book.specs.CostTable.{costs_of}
 use Rattle.tail_book.specs.Fliers.{plan_by}
 use Rattle.tail_book.specs.LegalTests.{is_legal_plan}
 use Rattle.tail_book.specs.inside.Tests.{LegalPlanDecides}
 use Rattle.tail_text.specs.Parts.{parts_of}
-use Rattle.branch_marks.specs.declared.event.Event.{Event}
+use Rattle.branch_marks.specs.inside.BranchTests.{UndecidedDecides}
+use Rattle.branch_marks.specs.inside.FactTests.{HasFactDecides}
+use Rattle.branch_marks.specs.inside.FollowingTests.{FollowsDecides}
 use Rattle.branch_marks.specs.inside.TreeTests.{BoundsDecide, ShownDecides}
 use Rattle.cert_lines.specs.declared.cert_line.CertLine.{CertLine}
 use Rattle.cert_lines.specs.declared.cert_line.CertLine.TheVariants as lines
@@ -29,8 +30,8 @@ use Rattle.cert_lines.specs.Text.{cert_text}
 use Rattle.cert_checker.specs.Certificate.{Accepts, HasClaimedPlan, asked_of, certificate_lines, claimed_cost}
 use Rattle.cert_checker.specs.Step.{take_line}
 use Rattle.cert_checker.specs.Reasons.{has_claimed_plan}
-use Rattle.cert_checker.specs.State.{State, Section, Start, InTree, InBound, InPlan, Claimed}
-use Rattle.cert_checker.specs.Verdict.{and_on, at_line, claimed_at, failed, first_state, is_label, judge_line, leaf_fails, take_read, verdict, verdict_from}
+use Rattle.cert_checker.specs.State.{State, Section, Start, InTree, InBound, InLean, InPlan, Claimed}
+use Rattle.cert_checker.specs.Verdict.{and_on, at_line, claimed_at, failed, first_state, is_label, is_of_version, judge_line, judge_of_version, leaf_fails, ready_for, take_read, verdict, verdict_from}
 use Rattle.cert_lines.specs.declared.cert_line.TheConstants.{LENGTH_LIMIT}
 use Rattle.cert_checker.specs.declared.verdict.Reason.{Reason}
 use Rattle.cert_checker.specs.declared.verdict.Reason.TheVariants.{BadLine, Unfinished}
@@ -38,6 +39,7 @@ use Rattle.cert_checker.specs.declared.verdict.Verdict.{Verdict}
 use Rattle.cert_checker.specs.declared.verdict.Verdict.TheVariants.{Yes}
 use Rattle.cert_checker.proofs.Claiming.{line_taken}
 use Rattle.cert_checker.proofs.Growing.{Grows, grows_last}
+use Rattle.cert_checker.proofs.LeanTests.{bounds_in_tested, shown_in_tested}
 use Rattle.cert_checker.proofs.Standing.{IsJudged, NamesEach, Stands, StandsAt, tree_front}
 
 -- a yes behind a line comes from what is kept after it
@@ -47,18 +49,25 @@ behind_step n (Ok kept) go claim R given e = given kept refl e
 behind_step n (Err why) go claim R given e = absurd (cc e)
 
 behind_line : (book : BookSeen) (state : State) (line : CertLine) (fails : Option ℕ) (go : State → Verdict) (claim : Claim) (R : Type 0)
-    → (fails ≡ None → (kept : State) → take_line book state line ≡ Ok kept → go (record kept { lines = state.lines + 1 }) ≡ Yes claim → R)
+    → (fails ≡ None → (kept : State) → take_line book (ready_for book state line) line ≡ Ok kept → go (record kept { lines = state.lines + 1 }) ≡ Yes claim → R)
     → and_on (judge_line book state line fails) go ≡ Yes claim → R
-behind_line book state line None go claim R given e = behind_step (state.lines + 1) (take_line book state line) go claim R (given refl) e
+behind_line book state line None go claim R given e = behind_step (state.lines + 1) (take_line book (ready_for book state line) line) go claim R (given refl) e
 behind_line book state line (Some opened) go claim R given e = absurd (cc e)
 
+behind_version : (book : BookSeen) (state : State) (line : CertLine) (test : Bool) → is_of_version state.version line ≡ test → (go : State → Verdict) (claim : Claim) (R : Type 0)
+    → (is_of_version state.version line ≡ true → (if is_label line then None else leaf_fails book state.leaf) ≡ None → (kept : State)
+    → take_line book (ready_for book state line) line ≡ Ok kept → go (record kept { lines = state.lines + 1 }) ≡ Yes claim → R)
+    → and_on (judge_of_version book state line test) go ≡ Yes claim → R
+behind_version book state line true is go claim R given e = behind_line book state line (if is_label line then None else leaf_fails book state.leaf) go claim R (given is) e
+behind_version book state line false is go claim R given e = absurd (cc e)
+
 behind_read : (book : BookSeen) (state : State) (text : List ℕ) (read : Option CertLine) → line_of text ≡ read → (go : State → Verdict) (claim : Claim) (R : Type 0)
-    → ((line : CertLine) → line_of text ≡ Some line → (if is_label line then None else leaf_fails book state.leaf) ≡ None → (kept : State) → take_line book state line ≡ Ok kept
-    → go (record kept { lines = state.lines + 1 }) ≡ Yes claim → R)
+    → ((line : CertLine) → line_of text ≡ Some line → is_of_version state.version line ≡ true → (if is_label line then None else leaf_fails book state.leaf) ≡ None
+    → (kept : State) → take_line book (ready_for book state line) line ≡ Ok kept → go (record kept { lines = state.lines + 1 }) ≡ Yes claim → R)
     → and_on (take_read book state read) go ≡ Yes claim → R
 behind_read book state text None is go claim R given e = absurd (cc e)
 behind_read book state text (Some line) is go claim R given e =
-    behind_line book state line (if is_label line then None else leaf_fails book state.leaf) go claim R (λ fine kept taken now. given line is fine kept taken now) e
+    behind_version book state line (is_of_version state.version line) refl go claim R (λ told fine kept taken now. given line is told fine kept taken now) e
 
 no_label : (test : Bool) (fails : Option ℕ) → (if test then None else fails) ≡ None → test ≡ false → fails ≡ None
 no_label true fails e other = absurd (cc other)
@@ -69,11 +78,12 @@ record EndsIn (book : BookSeen) (front : List CertLine) (claim : Claim) (texts :
   more : List CertLine
   good : All IsLine more
   texts_are : texts ≡ map spelling more ++ [] ∷ []
-  told : List Event
+  version : ℕ
+  told : List CertLine
   fliers : Option (List ℕ)
   least : Option ℕ
-  all_are : front ++ more ≡ tree_front book told ++ (plan_lines fliers ++ lines.Claim claim ∷ [])
-  grows : Grows book told [] least
+  all_are : front ++ more ≡ tree_front version book told ++ (plan_lines fliers ++ lines.Claim claim ∷ [])
+  grows : Grows version book told [] least
   names : NamesEach book fliers
   fits : IsJudged book least fliers claim
 
@@ -82,6 +92,7 @@ claimed_ends : (book : BookSeen) (front : List CertLine) (claim : Claim) (n : �
 claimed_ends book front claim n Start state is stands e = absurd (cc e)
 claimed_ends book front claim n InTree state is stands e = absurd (cc e)
 claimed_ends book front claim n (InBound bound) state is stands e = absurd (cc e)
+claimed_ends book front claim n (InLean lean) state is stands e = absurd (cc e)
 claimed_ends book front claim n (InPlan fliers) state is stands e = absurd (cc e)
 claimed_ends book front claim n (Claimed other) state is stands e =
     let same : other ≡ claim = cc e in
@@ -90,6 +101,7 @@ claimed_ends book front claim n (Claimed other) state is stands e =
       more = [];
       good = λ k d lt. absurd (omega (arith, lt));
       texts_are = refl;
+      version = state.version;
       told = told;
       fliers = fliers;
       least = state.low;
@@ -99,8 +111,8 @@ claimed_ends book front claim n (Claimed other) state is stands e =
       fits = fits;
     })
   where
-    stands_at : StandsAt book front (Claimed other) state.owed state.leaf state.low
-    stands_at = subst (λ (section : Section). StandsAt book front section state.owed state.leaf state.low) is stands
+    stands_at : StandsAt state.version book front (Claimed other) state.owed state.leaf state.low
+    stands_at = subst (λ (section : Section). StandsAt state.version book front section state.owed state.leaf state.low) is stands
 
 empty_is : (rest : List ℕ) → (length rest == 0) ≡ true → rest ≡ []
 empty_is [] e = refl
@@ -117,14 +129,15 @@ module _ (book : BookSeen) (claim : Claim) (read : ReadLinesAreSpelled) where
   texts_end text [] front state stands e = rest_ends book front claim state text stands (length text == 0) refl e
   texts_end text (next ∷ texts) front state stands e =
       behind_read book state text (line_of text) refl (λ kept. verdict_from book kept (next ∷ texts)) claim (EndsIn book front claim (text ∷ next ∷ texts))
-      (λ line is fine kept taken now.
+      (λ line is of_version fine kept taken now.
       let told = read text line is in
-      let after = line_taken book front line state kept told.0 stands (no_label (is_label line) (leaf_fails book state.leaf) fine) taken in
+      let after = line_taken book front line state kept told.0 stands (no_label (is_label line) (leaf_fails book state.leaf) fine) of_version taken in
       let rest = texts_end next texts (front ++ line ∷ []) (record kept { lines = state.lines + 1 }) after now in
       record {
         more = line ∷ rest.more;
         good = All-cons IsLine line rest.more told.0 rest.good;
         texts_are = ap (λ (text : List ℕ). text ∷ next ∷ texts) told.1 ∙ ap (λ (texts : List (List ℕ)). spelling line ∷ texts) rest.texts_are;
+        version = rest.version;
         told = rest.told;
         fliers = rest.fliers;
         least = rest.least;
@@ -153,7 +166,7 @@ claimed_plan decides book (Some fliers) (Some cost) names e =
 parts_some : (text : List ℕ) (parts : List (List ℕ)) → parts_of 10 text ≡ parts → 0 < length parts
 parts_some text parts e = rw (← e) (omega (arith, length-slice_split (λ b. b == 10) text))
 
-module _ (shown : ShownDecides) (bounds : BoundsDecide) (plans : LegalPlanDecides) (read : ReadLinesAreSpelled) where
+module _ (has : HasFactDecides) (follow : FollowsDecides) (undecided : UndecidedDecides) (shown : ShownDecides) (bounds : BoundsDecide) (plans : LegalPlanDecides) (read : ReadLinesAreSpelled) where
   whole_text : (book : BookSeen) (text : List ℕ) (claim : Claim) (parts : List (List ℕ)) → parts_of 10 text ≡ parts → verdict_from book first_state parts ≡ Yes claim → EndsIn book [] claim parts
   whole_text book text claim [] is e = absurd (omega (arith, parts_some text [] is))
   whole_text book text claim (first ∷ parts) is e = texts_end book claim read first parts [] first_state (refl, refl, refl) e
@@ -161,17 +174,18 @@ module _ (shown : ShownDecides) (bounds : BoundsDecide) (plans : LegalPlanDecide
   pub yes_accepted : (book : BookSeen) (text : List ℕ) (claim : Claim) → verdict book text ≡ Yes claim → Accepts book text claim
   yes_accepted book text claim e =
       let ends = whole_text book text claim (parts_of 10 text) refl e in
-      let (tree, made) = grows_last book ends.told ends.least ends.grows (asked_of book claim) ends.fits.reached in
-      let whole : ends.more ≡ certificate_lines book tree ends.fliers claim =
-      ends.all_are ∙ ap (λ (told : List Event). tree_front book told ++ (plan_lines ends.fliers ++ lines.Claim claim ∷ [])) (sym made.spelled) in
+      let (tree, made) = grows_last ends.version book ends.told ends.least ends.grows (asked_of book claim) ends.fits.reached in
+      let whole : ends.more ≡ certificate_lines ends.version book tree ends.fliers claim =
+      ends.all_are ∙ ap (λ (told : List CertLine). tree_front ends.version book told ++ (plan_lines ends.fliers ++ lines.Claim claim ∷ [])) (sym made.spelled) in
       let spelled : text ≡ cert_text ends.more = sym (join_with_byte-slice_split 10 text) ∙ ap (λ (parts : List (List ℕ)). join_with_byte 10 parts) ends.texts_are ∙ joined_lines ends.more in (
+        ends.version,
         tree,
         ends.fliers,
         record {
           lines = subst (λ (all : List CertLine). All IsLine all) whole ends.good;
           spelled = spelled ∙ ap (λ (all : List CertLine). cert_text all) whole;
-          shown = (shown (costs_of book) book [] tree).0 made.shown;
-          bounds = (bounds (asked_of book claim) tree).0 made.bounds;
+          shown = (shown_in_tested has follow undecided shown ends.version book tree []).0 made.shown;
+          bounds = (bounds_in_tested bounds book (asked_of book claim) tree []).0 made.bounds;
           plan = claimed_plan plans book ends.fliers (claimed_cost claim) ends.names ends.fits.plan;
         },
       )

@@ -1,5 +1,5 @@
 -- Which texts are accepted as certificates of a book, and for which claim. For src/claim.rt and src/laws.rt.
-use Rattle.std.specs.Prelude.{◌≡◌, ℕ, ◌+◌, ◌<◌, ⊤, List, [], ◌∷◌, ◌++◌, map, length, All, Option, Some, None}
+use Rattle.std.specs.Prelude.{◌≡◌, ℕ, ◌+◌, ◌<◌, ⊤, List, [], ◌∷◌, ◌++◌, length, All, Option, Some, None}
 use Rattle.tail_book.specs.Seen.{BookSeen}
 use Rattle.tail_book.specs.Lookup.{activities, aircraft}
 use Rattle.tail_book.specs.Truth.{IsPlanOf, IsTrueClaim}
@@ -8,25 +8,20 @@ use Rattle.tail_book.specs.declared.claim.Claim.TheVariants.{Optimal, Infeasible
 use Rattle.tail_book.specs.CostTable.{costs_of, greatest_cost_in}
 use Rattle.tail_book.specs.Fliers.{plan_by}
 use Rattle.tail_book.specs.inside.Sound.{IsBook}
-use Rattle.branch_marks.specs.ProofTree.{Tree, IsShown, BoundsAtLeast}
 use Rattle.cert_lines.specs.declared.cert_line.CertLine.{CertLine}
 use Rattle.cert_lines.specs.declared.cert_line.CertLine.TheVariants as line
 use Rattle.cert_lines.specs.Grammar.{IsLine}
 use Rattle.cert_lines.specs.PlanLines.{plan_lines}
 use Rattle.cert_lines.specs.Text.{cert_text}
-use Rattle.branch_marks.specs.TreeEvents.{tree_events}
+use Rattle.cert_checker.specs.LeanTree.{LeanTree, IsShownIn, BoundsIn, tree_lines}
 
--- the header of the book's certificates
-abbrev pub header_of : BookSeen → CertLine
-header_of book = line.Header 1 (activities book) (aircraft book) (length book.rules.counters)
-
--- the lines of a tree
-abbrev pub tree_lines : Tree → List CertLine
-tree_lines tree = map line.Event (tree_events tree)
+-- the header of the book's certificates of a version
+abbrev pub header_of : ℕ → BookSeen → CertLine
+header_of version book = line.Header version (activities book) (aircraft book) (length book.rules.counters)
 
 -- a certificate's lines: the header, one tree, a plan or none, and the claim
-abbrev pub certificate_lines : BookSeen → Tree → Option (List ℕ) → Claim → List CertLine
-certificate_lines book tree fliers claim = header_of book ∷ (tree_lines tree ++ (plan_lines fliers ++ line.Claim claim ∷ []))
+abbrev pub certificate_lines : ℕ → BookSeen → LeanTree → Option (List ℕ) → Claim → List CertLine
+certificate_lines version book tree fliers claim = header_of version book ∷ (tree_lines tree ++ (plan_lines fliers ++ line.Claim claim ∷ []))
 
 -- what every bound of the tree has to reach: the claimed cost, more than any legal plan costs, or the claimed bound
 abbrev pub asked_of : BookSeen → Claim → ℕ
@@ -53,18 +48,18 @@ HasClaimedPlan book (Some fliers) None = ⊥
 HasClaimedPlan book None (Some cost) = ⊥
 HasClaimedPlan book (Some fliers) (Some cost) = IsPlanOfFliers book cost fliers
 
--- the text is a certificate of the book for this claim: it spells the lines of a tree that is shown, whose bounds reach what
--- the claim asks, of the claimed plan, and of the claim
-pub record IsCertificate (book : BookSeen) (tree : Tree) (fliers : Option (List ℕ)) (claim : Claim) (text : List ℕ) : Type 0 where
-  pub lines : All IsLine (certificate_lines book tree fliers claim)
-  pub spelled : text ≡ cert_text (certificate_lines book tree fliers claim)
-  pub shown : IsShown (costs_of book) book [] tree
-  pub bounds : BoundsAtLeast (asked_of book claim) tree
+-- the text is a certificate of the book for this claim, of a version: it spells the lines of a tree that is shown, whose bounds
+-- reach what the claim asks, of the claimed plan, and of the claim
+pub record IsCertificate (version : ℕ) (book : BookSeen) (tree : LeanTree) (fliers : Option (List ℕ)) (claim : Claim) (text : List ℕ) : Type 0 where
+  pub lines : All IsLine (certificate_lines version book tree fliers claim)
+  pub spelled : text ≡ cert_text (certificate_lines version book tree fliers claim)
+  pub shown : IsShownIn version book [] tree
+  pub bounds : BoundsIn book (asked_of book claim) [] tree
   pub plan : HasClaimedPlan book fliers (claimed_cost claim)
 
 -- the text is accepted for this claim
 abbrev pub Accepts : BookSeen → List ℕ → Claim → Type 0
-Accepts book text claim = (tree : Tree) × (fliers : Option (List ℕ)) × IsCertificate book tree fliers claim text
+Accepts book text claim = (version : ℕ) × (tree : LeanTree) × (fliers : Option (List ℕ)) × IsCertificate version book tree fliers claim text
 
 -- what an accepted text claims is true of the book
 abbrev pub AcceptedClaimsAreTrue : Type 0

@@ -1,5 +1,7 @@
 pub mod Certificate
 pub mod Judged
+pub mod LeanTree
+pub mod LeastWeight
 pub mod Reasons
 pub mod State
 pub mod Step

@@ -24,19 +24,27 @@ pub record BoundLeaf : Type 0 where
   pub covers : ℕ
   pub values : ℤ
 
--- what stands directly before the next line: nothing; the header, a step, a split or a leaf other than a bound; a bound leaf; a
--- plan's lines, with who flies each activity so far; or the claim
+-- a lean leaf: its marks, its duals so far, and the least activity whose dual may still come
+pub record LeanLeaf : Type 0 where
+  pub marks : List Fact
+  pub duals : List ℤ
+  pub next : ℕ
+
+-- what stands directly before the next line: nothing; the header, a step, a split or a leaf that takes no duals; a bound leaf; a
+-- lean leaf; a plan's lines, with who flies each activity so far; or the claim
 pub data Section : Type 0 where
   Start : Section
   InTree : Section
   InBound : BoundLeaf → Section
+  InLean : LeanLeaf → Section
   InPlan : List ℕ → Section
   Claimed : Claim → Section
 
--- how many lines were taken, what stands before the next one, the marks of each subtree that is owed, the next one first, the leaf
--- that is open, and the least bound of the leaves so far
+-- how many lines were taken, the version that the header told, 0 before it, what stands before the next line, the marks of each
+-- subtree that is owed, the next one first, the leaf that is open, and the least bound of the leaves so far
 pub record State : Type 0 where
   pub lines : ℕ
+  pub version : ℕ
   pub section : Section
   pub owed : List (List Fact)
   pub leaf : Option OpenLeaf

@@ -27,7 +27,8 @@ use Rattle.cert_checker.specs.Certificate.{asked_of, claimed_cost}
 use Rattle.cert_checker.specs.declared.verdict.Reason.{Reason}
 use Rattle.cert_checker.specs.declared.verdict.Reason.TheVariants.{OutOfPlace, KnownFact, NotFollowing, NotAlive, OutOfBox, BadPlan, WeakBound, Unfinished}
 use Rattle.cert_checker.specs.Reasons.{has_claimed_plan, reaches}
-use Rattle.cert_checker.specs.State.{BoundLeaf, OpenLeaf, State, Section, Start, InTree, InBound, InPlan, Claimed}
+use Rattle.cert_checker.specs.LeastWeight.{lean_bound}
+use Rattle.cert_checker.specs.State.{BoundLeaf, OpenLeaf, State, Section, Start, InTree, InBound, InLean, InPlan, Claimed}
 
 -- what is kept after a line, or why it failed
 abbrev pub Step : Type 0
@@ -43,6 +44,19 @@ owes section (marks ∷ owed) = true
 abbrev pub lower : Option ℕ → ℕ → Option ℕ
 lower None bound = Some bound
 lower (Some low) bound = Some (if nat_le low bound then low else bound)
+
+-- with the bound of a leaf that may have none
+abbrev pub lower_by : Option ℕ → Option ℕ → Option ℕ
+lower_by low None = low
+lower_by low (Some bound) = lower low bound
+
+-- what is kept where a lean leaf was priced: nothing of it but its bound, if it has one
+abbrev pub priced_section : BookSeen → State → Section → State
+priced_section book state (InLean leaf) = record state { section = InTree; low = lower_by state.low (lean_bound book leaf.marks leaf.duals) }
+priced_section book state section = state
+
+abbrev pub priced : BookSeen → State → State
+priced book state = priced_section book state state.section
 
 -- the bound of a leaf: its duals and the values of its covers
 abbrev pub bound_of_leaf : BoundLeaf → ℕ
@@ -114,12 +128,21 @@ take_bound book state = at_node book state (λ here marks owed.
       owed = owed_with book 0 marks owed;
     }))
 
--- a dual of the bound leaf that stands before the line
+-- a lean leaf, whose duals follow
+abbrev pub take_lean : BookSeen → State → Step
+take_lean book state = at_node book state (λ here marks owed.
+    Ok (record here { section = InLean (record { marks = marks; duals = zero_duals book; next = 0 }); owed = owed }))
+
+-- a dual of the bound leaf or of the lean leaf that stands before the line
 abbrev pub take_dual_in : BookSeen → State → ℕ → ℤ → Section → Step
 take_dual_in book state a dual (InBound leaf) =
     must (leaf.covers == 0 && (nat_le leaf.next a && nat_lt a (activities book))) OutOfPlace (
     must (is_in_box (costs_of book) dual) OutOfBox (
     Ok (record state { section = InBound (record leaf { duals = slice_set leaf.duals a dual; next = a + 1 }) })))
+take_dual_in book state a dual (InLean leaf) =
+    must (nat_le leaf.next a && nat_lt a (activities book)) OutOfPlace (
+    must (is_in_box (costs_of book) dual) OutOfBox (
+    Ok (record state { section = InLean (record leaf { duals = slice_set leaf.duals a dual; next = a + 1 }) })))
 take_dual_in book state a dual section = Err OutOfPlace
 
 abbrev pub take_dual : BookSeen → State → ℕ → ℤ → Step
@@ -167,11 +190,11 @@ take_event book state (event.Cover k value) = take_cover book state k value
 take_event book state (event.Label at weight counters) = take_label book state (record { at = at; weight = weight; counters = counters })
 
 -- the header, which is the first line
-abbrev pub take_header_in : BookSeen → State → ℕ → ℕ → ℕ → Section → Step
-take_header_in book state n m c Start =
+abbrev pub take_header_in : BookSeen → State → ℕ → ℕ → ℕ → ℕ → Section → Step
+take_header_in book state version n m c Start =
     must (n == activities book && (m == aircraft book && c == length book.rules.counters)) OutOfPlace (
-    Ok (record state { section = InTree; owed = [] ∷ [] }))
-take_header_in book state n m c section = Err OutOfPlace
+    Ok (record state { version = version; section = InTree; owed = [] ∷ [] }))
+take_header_in book state version n m c section = Err OutOfPlace
 
 -- the beginning of a plan, behind the whole tree
 abbrev pub take_plan : BookSeen → State → Step
@@ -203,8 +226,9 @@ take_claim book state claim = must (not (owes state.section state.owed)) Unfinis
 
 -- what the line by itself fails for, in the order of its reasons
 abbrev pub take_line : BookSeen → State → CertLine → Step
-take_line book state (line.Header version n m c) = take_header_in book state n m c state.section
+take_line book state (line.Header version n m c) = take_header_in book state version n m c state.section
 take_line book state (line.Event event) = take_event book state event
+take_line book state line.Lean = take_lean book state
 take_line book state line.Plan = take_plan book state
 take_line book state (line.Fly a k) = take_fly_in book state a k state.section
 take_line book state (line.Claim claim) = take_claim book state claim

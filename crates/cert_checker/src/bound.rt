@@ -5,7 +5,7 @@
 ghost use Rattle.std.specs.Prelude.{◌≡◌, ◌≤◌, ◌*◌, ◌^◌, ◌+ℤ◌, ◌-ℤ◌, pos, length};
 ghost use Rattle.tail_book.specs.Ranges.{IsWithin};
 ghost use Rattle.tail_book.specs.Sums.{total};
-ghost use Rattle.branch_marks.specs.Bound.{rounded_up};
+ghost use Rattle.branch_marks.specs.Bound.{lagrangian, rounded_up};
 ghost use Rattle.cert_checker.specs.Step.{lower};
 
 use tail_book::COST_UNIT;
@@ -50,6 +50,15 @@ pub fn bound_of(duals: &[i64], values: &i128) -> u128
     ensures { result ≡ rounded_up (total duals.now +ℤ values.now) }
 {
     rounded_up(total(duals) + *values)
+}
+
+/// What duals and the least weights of all aircraft bound, in cost units.
+pub fn bound_by(duals: &[i64], values: &[i64]) -> u128
+    requires duals { length duals.now ≤ 4096 }
+    requires values { length values.now ≤ 4096 }
+    ensures { result ≡ rounded_up (lagrangian duals.now values.now) }
+{
+    rounded_up(total(duals) + total(values))
 }
 
 /// The lesser of two bounds in cost units, where there is one before.

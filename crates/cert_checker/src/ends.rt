@@ -35,10 +35,17 @@ impl Judging {
     }
 
     /// Takes the header, or says why not.
-    pub fn take_header(&mut self, book: &Book, n: u32, m: u32, c: u32) -> Option<Reason>
+    pub fn take_header(
+        &mut self,
+        book: &Book,
+        version: u8,
+        n: u32,
+        m: u32,
+        c: u32,
+    ) -> Option<Reason>
         requires { IsJudging book.now self.old }
         ensures judging { IsJudging book.now self.new }
-        ensures step { Gives (take_header_in book.now (state_of self.old) n m c (section_in self.old self.old.part)) self.new result }
+        ensures step { Gives (take_header_in book.now (state_of self.old) version n m c (section_in self.old self.old.part)) self.new result }
     {
         let Part::Start = self.part else {
             return Some(Reason::OutOfPlace);
@@ -46,6 +53,7 @@ impl Judging {
         if !is_header_of(book, n, m, c) {
             return Some(Reason::OutOfPlace);
         }
+        self.version = version;
         self.branches.owes = true;
         self.part = Part::InTree;
         None

@@ -7,10 +7,11 @@ ghost use Rattle.tail_book.specs.Seen.{BookSeen};
 ghost use Rattle.tail_book.specs.CostTable.{costs_of};
 ghost use Rattle.maint_counters.specs.inside.Counts.{AreCountable};
 ghost use Rattle.branch_marks.specs.TreeTests.{is_in_box};
-ghost use Rattle.cert_checker.specs.Step.{take_cover, take_dual, take_label};
+ghost use Rattle.cert_checker.specs.Step.{take_cover, take_dual, take_dual_in, take_label};
 ghost use Rattle.cert_checker.specs.Reasons.{shows};
 ghost use Rattle.cert_checker.specs.Verdict.{leaf_fails};
-ghost use Rattle.cert_checker.specs.inside.Kept.{Gives, IsJudging, state_of};
+ghost use Rattle.cert_checker.specs.declared.state.Part.TheVariants.{InBound, InLean};
+ghost use Rattle.cert_checker.specs.inside.Kept.{Gives, IsJudging, section_in, state_of};
 ghost use Rattle.cert_checker.specs.inside.Means.{AreMeansOf};
 
 use crate::bound::added;
@@ -57,17 +58,21 @@ impl Judging {
         k == self.covers && is_aircraft(book, k)
     }
 
-    /// Takes a dual, in thousandths of a cost unit, of the bound leaf that is here, or says why not.
-    pub fn take_dual(&mut self, book: &Book, means: &Means, a: u32, dual: i64) -> Option<Reason>
+    // Takes a dual of the bound leaf that is here, or says why not.
+    fn take_dual_of_bound(
+        &mut self,
+        book: &Book,
+        means: &Means,
+        a: u32,
+        dual: i64,
+    ) -> Option<Reason>
         requires judging { IsJudging book.now self.old }
         requires means { AreMeansOf book.now means.now }
+        requires here { self.old.part ≡ InBound }
         ensures judging { IsJudging book.now self.new }
-        ensures step { Gives (take_dual book.now (state_of self.old) a dual) self.new result }
+        ensures step { Gives (take_dual_in book.now (state_of self.old) a dual (section_in self.old self.old.part)) self.new result }
     {
         every_book_is_sound(book);
-        let Part::InBound = self.part else {
-            return Some(Reason::OutOfPlace);
-        };
         if !self.may_take_dual(book, a) {
             return Some(Reason::OutOfPlace);
         }
@@ -77,6 +82,47 @@ impl Judging {
         self.duals[a as usize] = dual;
         self.next = a + 1;
         None
+    }
+
+    // Whether the lean leaf that is here may have a dual of an activity next.
+    fn may_take_lean_dual(&self, book: &Book, a: u32) -> bool
+        ensures { result ≡ (nat_le self.now.next a && nat_lt a (activities book.now)) }
+    {
+        self.next <= a && is_activity(book, a)
+    }
+
+    // Takes a dual of the lean leaf that is here, or says why not.
+    fn take_dual_of_lean(&mut self, book: &Book, means: &Means, a: u32, dual: i64) -> Option<Reason>
+        requires judging { IsJudging book.now self.old }
+        requires means { AreMeansOf book.now means.now }
+        requires here { self.old.part ≡ InLean }
+        ensures judging { IsJudging book.now self.new }
+        ensures step { Gives (take_dual_in book.now (state_of self.old) a dual (section_in self.old self.old.part)) self.new result }
+    {
+        every_book_is_sound(book);
+        if !self.may_take_lean_dual(book, a) {
+            return Some(Reason::OutOfPlace);
+        }
+        if !is_in_box(means, dual) {
+            return Some(Reason::OutOfBox);
+        }
+        self.duals[a as usize] = dual;
+        self.next = a + 1;
+        None
+    }
+
+    /// Takes a dual, in thousandths of a cost unit, of the bound leaf or the lean leaf that is here, or says why not.
+    pub fn take_dual(&mut self, book: &Book, means: &Means, a: u32, dual: i64) -> Option<Reason>
+        requires judging { IsJudging book.now self.old }
+        requires means { AreMeansOf book.now means.now }
+        ensures judging { IsJudging book.now self.new }
+        ensures step { Gives (take_dual book.now (state_of self.old) a dual) self.new result }
+    {
+        match self.part {
+            Part::InBound => self.take_dual_of_bound(book, means, a, dual),
+            Part::InLean => self.take_dual_of_lean(book, means, a, dual),
+            _ => Some(Reason::OutOfPlace),
+        }
     }
 
     /// Takes the first line of a cover of the bound leaf that is here, or says why not. The value is in thousandths.

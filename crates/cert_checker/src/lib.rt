@@ -11,6 +11,8 @@ mod kept_floors;
 mod label;
 pub mod laws;
 mod leaf;
+mod leaf_pricer;
+mod lean;
 mod leaves;
 mod means;
 mod node_tests;

@@ -24,8 +24,8 @@ fn is_pair_of(book: &Book, pair: Pair) -> bool
     }
 }
 
-// Makes all duals 0.
-fn clear(duals: &mut [i64])
+/// Makes all duals 0.
+pub fn clear(duals: &mut [i64])
     ensures { duals.new ≡ replicate (length duals.old) (pos 0) }
 {
     duals.fill(0);

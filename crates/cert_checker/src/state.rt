@@ -12,18 +12,20 @@ ghost use Rattle.cert_checker.specs.inside.Kept.{IsJudging, TellsNode, section_i
 use crate::bound::{bound_of, lower};
 use crate::kept_floors::KeptRows;
 use crate::label::Label;
+use crate::leaf_pricer::LeafPricer;
 use open_branches::Branches;
 use std::alloc::Global;
 use tail_book::laws::every_book_is_sound;
 use tail_book::{Book, Claim, Memory};
 
-/// What stands before the next line: nothing; the header, a step, a split, or a leaf other than a bound; a bound leaf; a plan's
-/// lines; or the claim.
+/// What stands before the next line: nothing; the header, a step, a split, or a leaf that takes no duals; a bound leaf; a lean
+/// leaf; a plan's lines; or the claim.
 #[derive(Clone, Copy)]
 pub enum Part {
     Start,
     InTree,
     InBound,
+    InLean,
     InPlan,
     Claimed(Claim),
 }
@@ -43,10 +45,12 @@ pub struct OpenLeaf {
 #[derive(Drop)]
 pub struct Judging {
     pub lines: u64,
+    // The version that the header told, 0 before it.
+    pub version: u8,
     pub part: Part,
     pub branches: Branches,
-    // Of a bound leaf: its duals, the least activity whose dual may still come, how many covers were begun, and the sum of
-    // their values. Duals and values are in thousandths of a cost unit.
+    // Of a bound leaf or a lean one: its duals, and the least activity whose dual may still come; of a bound one besides how many
+    // covers were begun, and the sum of their values. Duals and values are in thousandths of a cost unit.
     pub duals: Vec<i64>,
     pub next: u32,
     pub covers: u32,
@@ -61,6 +65,8 @@ pub struct Judging {
     pub starts: Vec<usize>,
     pub floors: KeptRows,
     pub counters: Vec<i64>,
+    // What prices lean leaves, once one was priced.
+    pub pricer: Option<LeafPricer>,
 }
 
 impl Judging {
@@ -78,6 +84,7 @@ impl Judging {
         let branches = Branches::new(alloc, book)?;
         Ok(Judging {
             lines: 0,
+            version: 0,
             part: Part::Start,
             branches,
             duals,
@@ -91,6 +98,7 @@ impl Judging {
             starts,
             floors,
             counters,
+            pricer: None,
         })
     }
 

@@ -7,7 +7,7 @@ ghost use Rattle.std.specs.Prelude.{◌≡◌, ◌<◌, ◌≤◌, ◌+◌, ◌^
 ghost use Rattle.branch_marks.specs.Events.{IsNotable};
 ghost use Rattle.cert_lines.specs.Grammar.{IsLine};
 ghost use Rattle.cert_checker.specs.Step.{take_event, take_line};
-ghost use Rattle.cert_checker.specs.Verdict.{end_with, failed, is_label, take_read, take_text};
+ghost use Rattle.cert_checker.specs.Verdict.{end_with, failed, is_label, is_of_version, judge_line, take_read, take_text};
 ghost use Rattle.cert_checker.specs.inside.Kept.{Answers, Gives, IsJudging, state_of};
 ghost use Rattle.cert_checker.specs.inside.Means.{AreMeansOf};
 
@@ -36,6 +36,17 @@ fn is_label(line: &CertLine) -> bool
     match line {
         CertLine::Event(Event::Label { .. }) => true,
         _ => false,
+    }
+}
+
+// Whether a text whose header told this version, or none yet, may have a line.
+fn is_of_version(version: u8, line: &CertLine) -> bool
+    ensures { result ≡ is_of_version version line.now }
+{
+    match line {
+        CertLine::Lean => version == 2,
+        CertLine::Header { version: told, .. } => !(version == 1 && *told == 2),
+        _ => true,
     }
 }
 
@@ -86,13 +97,9 @@ impl Judging {
         ensures step { IfOk result (Gives (take_line book.now (state_of self.old) line) self.new) }
     {
         match line {
-            CertLine::Header {
-                version: _,
-                n,
-                m,
-                c,
-            } => Ok(self.take_header(book, n, m, c)),
+            CertLine::Header { version, n, m, c } => Ok(self.take_header(book, version, n, m, c)),
             CertLine::Event(event) => self.take_event(book, means, event),
+            CertLine::Lean => self.take_lean(book),
             CertLine::Plan => Ok(self.take_plan(book)),
             CertLine::Fly(a, k) => self.take_fly(book, a, k),
             CertLine::Claim(claim) => self.take_claim(alloc, book, means, claim),
@@ -100,6 +107,31 @@ impl Judging {
     }
 
     // Takes a line that was read: the leaf before it comes first, and then the line itself.
+    fn take_known(
+        &mut self,
+        alloc: Global,
+        book: &Book,
+        means: &Means,
+        line: CertLine,
+    ) -> Result<Option<Verdict>, Memory>
+        requires judging { IsJudging book.now self.old }
+        requires means { AreMeansOf book.now means.now }
+        requires lines { self.old.lines < 2 ^ 63 }
+        requires line { IsLine line }
+        ensures judging { IfOk result (λ _. IsJudging book.now self.new) }
+        ensures step { IfOk result (Answers (judge_line book.now (state_of self.old) line None) self.new) }
+        ensures lines { IfOk result (λ answer. answer ≡ None → self.new.lines ≡ self.old.lines + 1) }
+    {
+        let n = self.lines + 1;
+        self.get_ready_for(alloc, book, means, &line)?;
+        if let Some(reason) = self.take_line(alloc, book, means, line)? {
+            return Ok(Some(failed(n, reason)));
+        }
+        self.lines = n;
+        Ok(None)
+    }
+
+    // Takes a line that a text of this version may have.
     fn take_read(
         &mut self,
         alloc: Global,
@@ -115,17 +147,15 @@ impl Judging {
         ensures step { IfOk result (Answers (take_read book.now (state_of self.old) (Some line)) self.new) }
         ensures lines { IfOk result (λ answer. answer ≡ None → self.new.lines ≡ self.old.lines + 1) }
     {
+        if !is_of_version(self.version, &line) {
+            return Ok(Some(failed(self.lines + 1, Reason::BadLine)));
+        }
         if !is_label(&line) {
             if let Some(opened) = self.failing_leaf(book, means) {
                 return Ok(Some(failed(opened, Reason::OpenCover)));
             }
         }
-        let n = self.lines + 1;
-        if let Some(reason) = self.take_line(alloc, book, means, line)? {
-            return Ok(Some(failed(n, reason)));
-        }
-        self.lines = n;
-        Ok(None)
+        self.take_known(alloc, book, means, line)
     }
 
     /// Takes a line, given without its newline, or answers the failure that is met there.

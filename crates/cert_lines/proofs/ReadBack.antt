@@ -1,6 +1,6 @@
 -- The spelling of a line is read as that line: its words have no space inside, so the text falls into them again, and
 -- each word is read as what it was written for.
-use Rattle.std.proofs.Common.{◌≡◌, ◌∙◌, ◌<◌, ◌≤◌, ◌*◌, ◌^◌, ℕ, suc, ℤ, pos, negsuc, Bool, true, false, List, [], ◌∷◌, ◌++◌, Some, None, length, nat_le, nat_lt, ◌==◌, ◌&&◌, get_or, refl, ap, subst, arith, map, length-append}
+use Rattle.std.proofs.Common.{◌≡◌, ◌∙◌, inl, inr, ◌<◌, ◌≤◌, ◌*◌, ◌^◌, ℕ, suc, ℤ, pos, negsuc, Bool, true, false, List, [], ◌∷◌, ◌++◌, Some, None, length, nat_le, nat_lt, ◌==◌, ◌&&◌, get_or, refl, ap, subst, arith, map, length-append}
 use Rattle.std.proofs.lemmas.Bool.{and_parts, leb-true}
 use Rattle.std.proofs.lemmas.Bool.Decides.{Decides-int_eq, nat_tests}
 use Rattle.std.proofs.lemmas.Fmt.{decimal_digit, length-decimal-le}
@@ -27,9 +27,9 @@ use Rattle.branch_marks.specs.declared.fact.Fact.TheVariants.{Bar, Must, Cut, Ti
 use Rattle.branch_marks.specs.declared.fact.Pair.TheVariants.{Fly, Link}
 use Rattle.cert_lines.specs.declared.cert_line.CertLine.{CertLine}
 use Rattle.cert_lines.specs.declared.cert_line.CertLine.TheVariants as lines
-use Rattle.cert_lines.specs.Grammar.{IsLine, IsLineClaim}
+use Rattle.cert_lines.specs.Grammar.{IsLine, IsLineClaim, IsVersion}
 use Rattle.cert_lines.specs.OneSpelling.{SpelledLinesAreRead, SpelledLinesAreShort}
-use Rattle.cert_lines.specs.Reading.{line_in}
+use Rattle.cert_lines.specs.Reading.{line_in, version_in}
 use Rattle.cert_lines.specs.Spelling.{behind, claim_line_words, event_words, spaced, words_of}
 use Rattle.cert_lines.specs.Words.{counters_of, number_and_value, two_numbers}
 use Rattle.tail_text.proofs.DecimalLemmas.{decimal-digits}
@@ -110,10 +110,15 @@ claim_good (Limit low None) h = record { each = (text_word (codes "claim") refl,
 claim_good (Limit low (Some high)) h =
     record { each = (text_word (codes "claim") refl, (text_word (codes "limit") refl, (number_word low (omega (arith, h.0, h.1)), (number_word high h.0, tt)))); some = omega arith; most = omega arith }
 
+version_word : (version : ℕ) → IsVersion version → IsWord (decimal version)
+version_word version (inl is) = number_word version (omega (arith, is))
+version_word version (inr is) = number_word version (omega (arith, is))
+
 words_good : (made : CertLine) → IsLine made → AreWords (words_of made)
 words_good (lines.Header version n m c) h =
-    record { each = (text_word (codes "tailcert") refl, (number_word version (omega (arith, h.0)), (small_word n h.1, (small_word m h.2, (small_word c h.3, tt))))); some = omega arith; most = omega arith }
+    record { each = (text_word (codes "tailcert") refl, (version_word version h.0, (small_word n h.1, (small_word m h.2, (small_word c h.3, tt))))); some = omega arith; most = omega arith }
 words_good (lines.Event made) h = event_good made h
+words_good lines.Lean h = record { each = (text_word (codes "lean") refl, tt); some = omega arith; most = omega arith }
 words_good lines.Plan h = record { each = (text_word (codes "plan") refl, tt); some = omega arith; most = omega arith }
 words_good (lines.Fly a k) h = record { each = (text_word (codes "fly") refl, (small_word a h.0, (small_word k h.1, tt))); some = omega arith; most = omega arith }
 words_good (lines.Claim claim) h = claim_good claim h
@@ -199,9 +204,17 @@ claim_read (Limit low (Some high)) h =
 one_is : decimal 1 ≡ codes "1"
 one_is = decimal_digit 1 (omega arith)
 
+two_is : decimal 2 ≡ codes "2"
+two_is = decimal_digit 2 (omega arith)
+
+version_read : (version : ℕ) → IsVersion version → version_in (decimal version) ≡ Some version
+version_read version (inl is) = rw (is, one_is) refl
+version_read version (inr is) = rw (is, two_is) refl
+
 words_read : (made : CertLine) → IsLine made → line_in (words_of made) ≡ Some made
-words_read (lines.Header version n m c) h = rw (h.0, one_is, small_read n h.1, two_read m c h.2 h.3) refl
+words_read (lines.Header version n m c) h = rw (version_read version h.0, small_read n h.1, two_read m c h.2 h.3) refl
 words_read (lines.Event made) h = event_read made h
+words_read lines.Lean h = refl
 words_read lines.Plan h = refl
 words_read (lines.Fly a k) h = rw (two_read a k h.0 h.1) refl
 words_read (lines.Claim claim) h = claim_read claim h

@@ -1,6 +1,6 @@
 -- A text that is read as a line is its spelling: the first word is the keyword's, each word behind it is what is written
 -- of the number that it is read as, and there are no more words. The words with a space between each two are the text.
-use Rattle.std.proofs.Common.{◌≡◌, ◌∙◌, ◌<◌, ℕ, suc, ℤ, pos, true, false, List, [], ◌∷◌, Option, Some, None, length, nat_lt, ◌==◌, refl, sym, arith, map}
+use Rattle.std.proofs.Common.{◌≡◌, ◌∙◌, inl, inr, ◌<◌, ℕ, suc, ℤ, pos, true, false, List, [], ◌∷◌, Option, Some, None, length, nat_lt, ◌==◌, refl, sym, arith, map}
 use Rattle.std.proofs.lemmas.Bool.{leb-true}
 use Rattle.std.proofs.lemmas.Bool.Decides.{nat_tests}
 use Rattle.std.proofs.lemmas.Fmt.{decimal_digit}
@@ -25,10 +25,10 @@ use Rattle.cert_lines.specs.declared.cert_line.CertLine.{CertLine}
 use Rattle.cert_lines.specs.declared.cert_line.CertLine.TheVariants as lines
 use Rattle.cert_lines.specs.declared.keyword.Keyword.{Keyword}
 use Rattle.cert_lines.specs.declared.keyword.Keyword.TheVariants as key
-use Rattle.cert_lines.specs.Grammar.{IsLine, IsLineClaim, IsLineCost}
+use Rattle.cert_lines.specs.Grammar.{IsLine, IsLineClaim, IsLineCost, IsVersion}
 use Rattle.cert_lines.specs.Keyword.{key_text, keyword_among, keyword_of, seldom_keyword_of}
 use Rattle.cert_lines.specs.OneSpelling.{ReadLinesAreSpelled}
-use Rattle.cert_lines.specs.Reading.{bounds_in, claim_in, cost_in, dual_in, event_with, header_in, label_in, limit_of, line_in, line_with, split_in, where_done}
+use Rattle.cert_lines.specs.Reading.{bounds_in, claim_in, cost_in, dual_in, event_with, header_in, label_in, limit_of, line_in, line_with, split_in, version_in, where_done}
 use Rattle.cert_lines.specs.Spelling.{claim_line_words, event_words, words_of}
 use Rattle.cert_lines.specs.Words.{amount, counters_in, counters_of, large, number_and_value, one_number, small, two_numbers, value}
 use Rattle.cert_lines.proofs.ReadBack.{spaced_joined}
@@ -52,7 +52,7 @@ abbrev many : List Keyword
 many = key.Label ∷ key.Cover ∷ key.Dual ∷ key.Bar ∷ key.Must ∷ key.Cut ∷ key.Bound ∷ []
 
 abbrev few : List Keyword
-few = key.Split ∷ key.Hole ∷ key.Stuck ∷ key.Fly ∷ key.Plan ∷ key.Claim ∷ key.Tailcert ∷ []
+few = key.Split ∷ key.Lean ∷ key.Hole ∷ key.Stuck ∷ key.Fly ∷ key.Plan ∷ key.Claim ∷ key.Tailcert ∷ []
 
 key_written : (word : List ℕ) (found : Keyword) → keyword_of word ≡ Some found → word ≡ key_text found
 key_written word found e = among many word (seldom_keyword_of word) found (λ rest. among few word None found (λ none. absurd (cc none)) rest) e
@@ -196,12 +196,24 @@ event_written key.Label words event e = label_written words event e
 event_written key.Split words event e =
     through_map events.Split (WritesEvent (codes "split" ∷ words)) (split_in words) event (λ pair is. split_written words pair is) e
 event_written key.Tailcert words event e = absurd (cc e)
+event_written key.Lean words event e = absurd (cc e)
 event_written key.Plan words event e = absurd (cc e)
 event_written key.Fly words event e = absurd (cc e)
 event_written key.Claim words event e = absurd (cc e)
 
 abbrev WritesLine : List (List ℕ) → CertLine → Type 0
 WritesLine words line = (words ≡ words_of line) × IsLine line
+
+-- a word that writes a version
+version_written : (word : List ℕ) (version : ℕ) → version_in word ≡ Some version → (word ≡ decimal version) × IsVersion version
+version_written word version e =
+    through_either (bytes_eq word (codes "1")) P (Some 1) (if bytes_eq word (codes "2") then Some 2 else None) version
+    (λ one given. let is : 1 ≡ version = cc given in rw (← is) (same_word word (codes "1") one ∙ sym (decimal_digit 1 (omega arith)), inl refl))
+    (λ other rest. through_if (bytes_eq word (codes "2")) P (Some 2) version
+    (λ two given. let is : 2 ≡ version = cc given in rw (← is) (same_word word (codes "2") two ∙ sym (decimal_digit 2 (omega arith)), inr refl)) rest) e
+  where
+    P : ℕ → Type 0
+    P found = (word ≡ decimal found) × IsVersion found
 
 header_written : (words : List (List ℕ)) (line : CertLine) → header_in words ≡ Some line → WritesLine (codes "tailcert" ∷ words) line
 header_written [] line e = absurd (cc e)
@@ -210,18 +222,15 @@ header_written (v ∷ n ∷ []) line e = absurd (cc e)
 header_written (v ∷ n ∷ m ∷ []) line e = absurd (cc e)
 header_written (v ∷ n ∷ m ∷ c ∷ more ∷ words) line e = absurd (cc e)
 header_written (v ∷ n ∷ m ∷ c ∷ []) line e =
-    through_if (bytes_eq v (codes "1")) P (option_and_then (λ activities. option_map (λ others. lines.Header 1 activities others.0 others.1) (two_numbers (m ∷ c ∷ []))) (small n)) line
-    (λ one given. let is : v ≡ decimal 1 = same_word v (codes "1") one ∙ one_is in
-    through_then (λ activities. option_map (λ others. lines.Header 1 activities others.0 others.1) (two_numbers (m ∷ c ∷ []))) P (small n) line
-    (λ a is_a. through_map (λ others. lines.Header 1 a others.0 others.1) P (two_numbers (m ∷ c ∷ [])) line
-    (λ both two. let first = small_written n a is_a in let told = two_written (m ∷ c ∷ []) both two in
-    (rw (is, first.0, told.0) refl, (refl, first.1, told.1, told.2)))) given) e
+    through_then (λ version. option_and_then (λ activities. option_map (λ others. lines.Header version activities others.0 others.1) (two_numbers (m ∷ c ∷ []))) (small n)) P (version_in v) line
+    (λ version is_version given.
+    through_then (λ activities. option_map (λ others. lines.Header version activities others.0 others.1) (two_numbers (m ∷ c ∷ []))) P (small n) line
+    (λ a is_a. through_map (λ others. lines.Header version a others.0 others.1) P (two_numbers (m ∷ c ∷ [])) line
+    (λ both two. let kind = version_written v version is_version in let first = small_written n a is_a in let told = two_written (m ∷ c ∷ []) both two in
+    (rw (kind.0, first.0, told.0) refl, (kind.1, first.1, told.1, told.2)))) given) e
   where
     P : CertLine → Type 0
     P = WritesLine (codes "tailcert" ∷ v ∷ n ∷ m ∷ c ∷ [])
-
-    one_is : codes "1" ≡ decimal 1
-    one_is = sym (decimal_digit 1 (omega arith))
 
 abbrev WritesClaim : List (List ℕ) → Claim → Type 0
 WritesClaim words claim = (words ≡ claim_line_words claim) × IsLineClaim claim
@@ -274,6 +283,7 @@ event_line_written key words line e =
 
 keyword_written : (key : Keyword) (words : List (List ℕ)) (line : CertLine) → line_with key words ≡ Some line → WritesLine (key_text key ∷ words) line
 keyword_written key.Tailcert words line e = header_written words line e
+keyword_written key.Lean words line e = done_written words (WritesLine (codes "lean" ∷ words)) lines.Lean line (λ none. (rw none refl, tt)) e
 keyword_written key.Plan words line e = done_written words (WritesLine (codes "plan" ∷ words)) lines.Plan line (λ none. (rw none refl, tt)) e
 keyword_written key.Fly words line e =
     through_map (λ both. lines.Fly both.0 both.1) (WritesLine (codes "fly" ∷ words)) (two_numbers words) line

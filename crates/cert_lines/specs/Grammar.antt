@@ -1,5 +1,5 @@
--- Which lines a certificate of version 1 may have. For src/spelling.rt.
-use Rattle.std.specs.Prelude.{ℕ, ◌≡◌, ◌<◌, ◌^◌, ⊤, Option, Some, None}
+-- Which lines a certificate may have, of version 1 or 2. For src/spelling.rt.
+use Rattle.std.specs.Prelude.{ℕ, ◌≡◌, ◌⊎◌, ◌<◌, ◌^◌, ⊤, Option, Some, None}
 use Rattle.tail_book.specs.declared.claim.Claim.{Claim}
 use Rattle.tail_book.specs.declared.claim.Claim.TheVariants.{Optimal, Infeasible, Limit}
 use Rattle.branch_marks.specs.Events.{IsLineNumber, IsNotable}
@@ -21,10 +21,15 @@ IsLineClaim (Optimal cost) = IsLineCost cost
 IsLineClaim Infeasible = ⊤
 IsLineClaim (Limit low high) = IsLineLimit low high
 
--- the header of version 1, an event that a line spells, the beginning of a plan, who flies an activity, or a claim
+-- there are two versions; lean leaves stand in the second alone
+abbrev pub IsVersion : ℕ → Type 0
+IsVersion version = (version ≡ 1) ⊎ (version ≡ 2)
+
+-- the header of a version, an event that a line spells, a lean leaf, the beginning of a plan, who flies an activity, or a claim
 abbrev pub IsLine : CertLine → Type 0
-IsLine (line.Header version n m c) = (version ≡ 1) × IsLineNumber n × IsLineNumber m × IsLineNumber c
+IsLine (line.Header version n m c) = IsVersion version × IsLineNumber n × IsLineNumber m × IsLineNumber c
 IsLine (line.Event event) = IsNotable event
+IsLine line.Lean = ⊤
 IsLine line.Plan = ⊤
 IsLine (line.Fly a k) = IsLineNumber a × IsLineNumber k
 IsLine (line.Claim claim) = IsLineClaim claim

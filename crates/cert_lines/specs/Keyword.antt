@@ -2,7 +2,7 @@
 use Rattle.std.specs.Prelude.{ℕ, List, [], ◌∷◌, Option, Some, None, if◌then◌else◌, codes}
 use Rattle.std.specs.Str.{bytes_eq}
 use Rattle.cert_lines.specs.declared.keyword.Keyword.{Keyword}
-use Rattle.cert_lines.specs.declared.keyword.Keyword.TheVariants.{Tailcert, Bar, Must, Cut, Hole, Stuck, Bound, Dual, Cover, Label, Split, Plan, Fly, Claim}
+use Rattle.cert_lines.specs.declared.keyword.Keyword.TheVariants.{Tailcert, Bar, Must, Cut, Hole, Stuck, Bound, Lean, Dual, Cover, Label, Split, Plan, Fly, Claim}
 
 -- the word
 abbrev pub key_text : Keyword → List ℕ
@@ -13,6 +13,7 @@ key_text Cut = codes "cut"
 key_text Hole = codes "hole"
 key_text Stuck = codes "stuck"
 key_text Bound = codes "bound"
+key_text Lean = codes "lean"
 key_text Dual = codes "dual"
 key_text Cover = codes "cover"
 key_text Label = codes "label"
@@ -28,7 +29,7 @@ keyword_among (key ∷ keys) word after = if bytes_eq word (key_text key) then S
 
 -- the keywords, in two parts: those of many lines, and those of few
 abbrev pub seldom_keyword_of : List ℕ → Option Keyword
-seldom_keyword_of word = keyword_among (Split ∷ Hole ∷ Stuck ∷ Fly ∷ Plan ∷ Claim ∷ Tailcert ∷ []) word None
+seldom_keyword_of word = keyword_among (Split ∷ Lean ∷ Hole ∷ Stuck ∷ Fly ∷ Plan ∷ Claim ∷ Tailcert ∷ []) word None
 
 -- the keyword that the word is
 abbrev pub keyword_of : List ℕ → Option Keyword

@@ -6,5 +6,6 @@ pub mod PlanLines
 pub mod Reading
 pub mod Spelling
 pub mod Text
+pub mod Version
 pub mod Words
 pub mod inside

@@ -22,12 +22,15 @@ use Rattle.cert_lines.specs.Words.{small, large, value, one_number, two_numbers,
 abbrev pub where_done : {A : Type 0} → List (List ℕ) → A → Option A
 where_done words a = then_some (length words == 0) a
 
--- the version, which is 1, and how many activities, aircraft and counters there are
+-- one of the two versions
+abbrev pub version_in : List ℕ → Option ℕ
+version_in word = if bytes_eq word (codes "1") then Some 1 else if bytes_eq word (codes "2") then Some 2 else None
+
+-- the version, and how many activities, aircraft and counters there are
 abbrev pub header_in : List (List ℕ) → Option CertLine
-header_in (version ∷ n ∷ m ∷ c ∷ []) =
-    if bytes_eq version (codes "1")
-    then option_and_then (λ activities. option_map (λ others. line.Header 1 activities others.0 others.1) (two_numbers (m ∷ c ∷ []))) (small n)
-    else None
+header_in (first ∷ n ∷ m ∷ c ∷ []) =
+    option_and_then (λ version. option_and_then (λ activities.
+    option_map (λ others. line.Header version activities others.0 others.1) (two_numbers (m ∷ c ∷ []))) (small n)) (version_in first)
 header_in words = None
 
 -- an activity and its dual, which is not 0
@@ -90,6 +93,7 @@ event_with key words = None
 -- the line that begins with this keyword
 abbrev pub line_with : Keyword → List (List ℕ) → Option CertLine
 line_with key.Tailcert words = header_in words
+line_with key.Lean words = where_done words line.Lean
 line_with key.Plan words = where_done words line.Plan
 line_with key.Fly words = option_map (λ both. line.Fly both.0 both.1) (two_numbers words)
 line_with key.Claim words = option_map line.Claim (claim_in words)

@@ -48,6 +48,7 @@ claim_line_words claim = codes "claim" ∷ claim_words claim
 abbrev pub words_of : CertLine → List (List ℕ)
 words_of (line.Header version n m c) = codes "tailcert" ∷ decimal version ∷ decimal n ∷ decimal m ∷ decimal c ∷ []
 words_of (line.Event event) = event_words event
+words_of line.Lean = codes "lean" ∷ []
 words_of line.Plan = codes "plan" ∷ []
 words_of (line.Fly a k) = codes "fly" ∷ decimal a ∷ decimal k ∷ []
 words_of (line.Claim claim) = claim_line_words claim

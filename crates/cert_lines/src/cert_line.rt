@@ -1,6 +1,7 @@
 //! What the lines of a certificate say.
 //!
-//! A certificate is a header, the events of one proof tree, a plan where the claim has one, and the claim.
+//! A certificate is a header, the events of one proof tree, a plan where the claim has one, and the claim. In version 2 a
+//! leaf may be lean: its duals alone stand there, and the checker finds what they bound by.
 
 use branch_marks::Event;
 use tail_book::Claim;
@@ -14,10 +15,12 @@ pub const LENGTH_LIMIT: usize = 200;
 /// A line of a certificate.
 #[derive(Clone, Copy, PartialEq, Eq)]
 pub enum CertLine {
-    /// The first line: the version, and how many activities, aircraft and counters the book has.
+    /// The first line: the version, 1 or 2, and how many activities, aircraft and counters the book has.
     Header { version: u8, n: u32, m: u32, c: u32 },
     /// An event of the proof tree.
     Event(Event),
+    /// A lean leaf: its duals follow, and nothing else.
+    Lean,
     /// The plan follows.
     Plan,
     /// This activity is flown by this aircraft.

@@ -15,6 +15,7 @@ pub enum Keyword {
     Hole,
     Stuck,
     Bound,
+    Lean,
     Dual,
     Cover,
     Label,
@@ -36,6 +37,7 @@ pub fn key_text(key: Keyword) -> &'static [u8]
         Keyword::Hole => b"hole",
         Keyword::Stuck => b"stuck",
         Keyword::Bound => b"bound",
+        Keyword::Lean => b"lean",
         Keyword::Dual => b"dual",
         Keyword::Cover => b"cover",
         Keyword::Label => b"label",
@@ -80,6 +82,9 @@ fn seldom_keyword_of(word: &[u8]) -> Option<Keyword>
 {
     if is_text(word, Keyword::Split) {
         return Some(Keyword::Split);
+    }
+    if is_text(word, Keyword::Lean) {
+        return Some(Keyword::Lean);
     }
     if is_text(word, Keyword::Hole) {
         return Some(Keyword::Hole);

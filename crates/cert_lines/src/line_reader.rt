@@ -8,7 +8,7 @@ ghost use Rattle.std.specs.Option.{ok_or};
 ghost use Rattle.cert_lines.specs.BadLine.{bad_line};
 ghost use Rattle.cert_lines.specs.declared.cert_line.CertLine.{CertLine};
 ghost use Rattle.cert_lines.specs.OneSpelling.{IsSpelling};
-ghost use Rattle.cert_lines.specs.Reading.{line_of, line_in, line_with, event_with, header_in, dual_in, label_in, split_in, claim_in, cost_in, bounds_in, limit_of};
+ghost use Rattle.cert_lines.specs.Reading.{line_of, line_in, line_with, event_with, header_in, version_in, dual_in, label_in, split_in, claim_in, cost_in, bounds_in, limit_of};
 
 use crate::cert_line::{BadLine, CertLine};
 use crate::keyword::{Keyword, keyword_of};
@@ -47,6 +47,7 @@ fn line_with(key: Keyword, words: &mut Parts<'_>) -> Option<CertLine>
 {
     match key {
         Keyword::Tailcert => header_in(words),
+        Keyword::Lean => words.is_done().then_some(CertLine::Lean),
         Keyword::Plan => words.is_done().then_some(CertLine::Plan),
         Keyword::Fly => {
             let (a, k) = two_numbers(words)?;
@@ -84,27 +85,32 @@ fn event_with(key: Keyword, words: &mut Parts<'_>) -> Option<Event>
         }
         Keyword::Label => label_in(words),
         Keyword::Split => Some(Event::Split(split_in(words)?)),
-        Keyword::Tailcert | Keyword::Plan | Keyword::Fly | Keyword::Claim => None,
+        Keyword::Tailcert | Keyword::Lean | Keyword::Plan | Keyword::Fly | Keyword::Claim => None,
     }
 }
 
-// The version is 1.
 fn header_in(words: &mut Parts<'_>) -> Option<CertLine>
     ensures { result ≡ header_in words.old }
 {
-    let version = words.take()?;
+    let first = words.take()?;
     let activities = words.take()?;
     let (m, c) = two_numbers(words)?;
-    if version != b"1".as_slice() {
-        return None;
-    }
+    let version = version_in(first)?;
     let n = small(activities)?;
-    Some(CertLine::Header {
-        version: 1,
-        n,
-        m,
-        c,
-    })
+    Some(CertLine::Header { version, n, m, c })
+}
+
+// There are two versions.
+fn version_in(word: &[u8]) -> Option<u8>
+    ensures { result ≡ version_in word.now }
+{
+    if word == b"1".as_slice() {
+        return Some(1);
+    }
+    if word == b"2".as_slice() {
+        return Some(2);
+    }
+    None
 }
 
 // A dual of 0 has no line.

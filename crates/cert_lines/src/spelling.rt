@@ -41,6 +41,7 @@ pub fn write_line(cert: &CertLine, line: &mut Line) -> Result<(), Memory>
             write_words(b"tailcert", &numbers, line)
         }
         CertLine::Event(event) => write_event(event, line),
+        CertLine::Lean => line.text(b"lean"),
         CertLine::Plan => line.text(b"plan"),
         CertLine::Fly(a, k) => write_pair(b"fly", *a, *k, line),
         CertLine::Claim(claim) => write_claim(claim, line),

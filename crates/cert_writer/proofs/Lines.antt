@@ -1,10 +1,12 @@
 -- A log tells a list of events where what the sink took, and what waits, are together the header's line and the lines
--- of the list. A line that joins what waits makes the list longer by its event. All that waits is put: the sink has it,
--- and the list stays. Where putting fails the sink took a front, and the log is torn at the last event. Where there is
--- no memory for a line, the sink took nothing more, and the log is torn at the event of that line.
-use Rattle.std.proofs.Common.{◌≡◌, ◌∙◌, ℕ, List, [], ◌∷◌, ◌++◌, map, Option, Result, Ok, Err, is_ok, true, refl, sym, ap, subst, append_assoc}
+-- of the list. A line that joins what waits makes the list longer by its event; an event that has no line changes nothing.
+-- All that waits is put: the sink has it, and the list stays. Where putting fails the sink took a front, and the log is
+-- torn at the last event. Where there is no memory for a line, the sink took nothing more, and the log is torn at the
+-- event of that line.
+use Rattle.std.proofs.Common.{◌≡◌, ◌∙◌, Bool, false, ℕ, List, [], ◌∷◌, ◌++◌, Option, Some, Result, Ok, Err, is_ok, true, refl, sym, ap, subst, append_assoc}
 use Rattle.std.proofs.lemmas.List.{append-nil, map-append}
 use Rattle.std.proofs.lemmas.List.Elements.{All-push}
+use Rattle.std.specs.Option.{option_to_list}
 use Rattle.std.specs.Prelude.{OnErr, OnOk}
 use Rattle.tail_outside.specs.Outside.{Adds, AddsFront}
 use Rattle.tail_outside.specs.Shown.{SinkShown}
@@ -12,59 +14,118 @@ use Rattle.branch_marks.specs.Events.{IsNotable}
 use Rattle.branch_marks.specs.declared.event.Event.{Event}
 use Rattle.cert_lines.specs.declared.cert_line.CertLine.{CertLine}
 use Rattle.cert_lines.specs.declared.cert_line.CertLine.TheVariants as line
+use Rattle.cert_lines.specs.declared.version.Version.{Version}
+use Rattle.cert_lines.specs.declared.version.Version.TheVariants.{Full, Lean}
 use Rattle.cert_lines.specs.Text.{cert_text}
-use Rattle.cert_writer.specs.CertText.{IsTornAt, TellsAt, event_text, line_text}
+use Rattle.cert_writer.specs.CertText.{IsKept, IsTornAt, TellsAt, event_text, line_text}
+use Rattle.cert_writer.specs.EventLines.{event_lines, in_cover_after, in_cover_behind, lean_line, lean_lines, line_for}
+use Rattle.cert_writer.specs.inside.Adding.{Holds, HoldsFront}
 
 pub text_append : (one other : List CertLine) → cert_text (one ++ other) ≡ cert_text one ++ cert_text other
 text_append [] other = refl
 text_append (cert ∷ one) other = ap (λ (rest : List ℕ). line_text cert ++ rest) (text_append one other) ∙ sym (append_assoc (line_text cert) (cert_text one) (cert_text other))
 
-cert_text_one : (cert : CertLine) → cert_text (cert ∷ []) ≡ line_text cert
-cert_text_one cert = append-nil (line_text cert)
+pub text_one : (cert : CertLine) → cert_text (cert ∷ []) ≡ line_text cert
+text_one cert = append-nil (line_text cert)
 
-pub text_more : (header : CertLine) (told : List Event) (event : Event) → event_text header (told ++ event ∷ []) ≡ event_text header told ++ line_text (line.Event event)
-text_more header told event =
-    ap (λ (rest : List CertLine). cert_text (header ∷ rest)) (map-append line.Event told (event ∷ []))
-    ∙ text_append (header ∷ map line.Event told) (line.Event event ∷ [])
-    ∙ ap (λ (rest : List ℕ). event_text header told ++ rest) (cert_text_one (line.Event event))
+-- the text of a line that is there
+pub option_text : (cert : Option CertLine) (some : CertLine) → cert ≡ Some some → cert_text (option_to_list cert) ≡ line_text some
+option_text cert some is = ap (λ (one : Option CertLine). cert_text (option_to_list one)) is ∙ text_one some
+
+-- the lines of more events stand behind those of the list, in a cover or not as the list leaves it
+pub lean_join : (before : Bool) (told rest : List Event) → lean_lines before (told ++ rest) ≡ lean_lines before told ++ lean_lines (in_cover_behind before told) rest
+lean_join before [] rest = refl
+lean_join before (first ∷ told) rest =
+    ap (λ (lines : List CertLine). option_to_list (lean_line before first) ++ lines) (lean_join (in_cover_after before first) told rest)
+    ∙ sym (append_assoc (option_to_list (lean_line before first)) (lean_lines (in_cover_after before first) told)
+    (lean_lines (in_cover_behind (in_cover_after before first) told) rest))
+
+behind_more : (before : Bool) (told : List Event) (event : Event) → in_cover_behind before (told ++ event ∷ []) ≡ in_cover_after (in_cover_behind before told) event
+behind_more before [] event = refl
+behind_more before (first ∷ told) event = behind_more (in_cover_after before first) told event
+
+lines_more : (version : Version) (in_cover : Bool) (told : List Event) (event : Event) → IsKept version in_cover told
+    → event_lines version (told ++ event ∷ []) ≡ event_lines version told ++ option_to_list (line_for version in_cover event)
+lines_more Full in_cover told event kept = map-append line.Event told (event ∷ [])
+lines_more Lean in_cover told event kept =
+    lean_join false told (event ∷ [])
+    ∙ ap (λ (lines : List CertLine). lean_lines false told ++ lines) (append-nil (option_to_list (lean_line (in_cover_behind false told) event)))
+    ∙ ap (λ (now : Bool). lean_lines false told ++ option_to_list (lean_line now event)) (sym kept)
+
+kept_more : (version : Version) (in_cover : Bool) (told : List Event) (event : Event) → IsKept version in_cover told → IsKept version (in_cover_after in_cover event) (told ++ event ∷ [])
+kept_more Full in_cover told event kept = tt
+kept_more Lean in_cover told event kept = ap (λ (now : Bool). in_cover_after now event) kept ∙ sym (behind_more false told event)
+
+module _ (version : Version) (in_cover : Bool) (header : CertLine) (told : List Event) (event : Event) (found : Option CertLine) (is : found ≡ line_for version in_cover event) where
+  text_more : IsKept version in_cover told → event_text version header (told ++ event ∷ []) ≡ event_text version header told ++ cert_text (option_to_list found)
+  text_more kept =
+      ap (λ (rest : List CertLine). cert_text (header ∷ rest)) (lines_more version in_cover told event kept)
+      ∙ text_append (header ∷ event_lines version told) (option_to_list (line_for version in_cover event))
+      ∙ ap (λ (line : Option CertLine). event_text version header told ++ cert_text (option_to_list line)) (sym is)
+
+  -- the event was noted
+  pub noted : (old new : SinkShown) (waited waiting : List ℕ) → IsNotable event
+      → ((whole : List ℕ) → Holds old waited whole → Holds new waiting (whole ++ cert_text (option_to_list found)))
+      → (now : Bool) → now ≡ in_cover_after in_cover event → TellsAt version in_cover header old waited told → TellsAt version now header new waiting (told ++ event ∷ [])
+  noted old new waited waiting notable adds now turned tells =
+      let held = adds (event_text version header told) (record { taken = tells.taken; bytes = tells.bytes; text = tells.text }) in record {
+        kept = subst (λ (kept : Bool). IsKept version kept (told ++ event ∷ [])) (sym turned) (kept_more version in_cover told event tells.kept);
+        taken = held.taken;
+        bytes = held.bytes;
+        text = text_more tells.kept ∙ held.text;
+        spelled = All-push IsNotable told event tells.spelled notable;
+      }
+
+  -- it was not
+  pub torn : (old new : SinkShown) (waited : List ℕ)
+      → ((whole : List ℕ) → Holds old waited whole → HoldsFront new (whole ++ cert_text (option_to_list found)))
+      → TellsAt version in_cover header old waited told → IsTornAt version in_cover header new told event
+  torn old new waited adds tells =
+      let held = adds (event_text version header told) (record { taken = tells.taken; bytes = tells.bytes; text = tells.text }) in record {
+        kept = tells.kept;
+        taken = held.taken;
+        rest = held.rest;
+        bytes = held.bytes;
+        text = text_more tells.kept ∙ held.text;
+      }
+
+-- there is no line
+pub none_added : (sink : SinkShown) (waiting whole : List ℕ) → Holds sink waiting whole → Holds sink waiting (whole ++ [])
+none_added sink waiting whole held = record { taken = held.taken; bytes = held.bytes; text = append-nil whole ∙ held.text }
 
 -- a line more waits
-pub tells_more : (header : CertLine) (sink : SinkShown) (waiting : List ℕ) (told : List Event) (event : Event) → TellsAt header sink waiting told → IsNotable event
-    → TellsAt header sink (waiting ++ line_text (line.Event event)) (told ++ event ∷ [])
-tells_more header sink waiting told event tells notable = record {
-  taken = tells.taken;
-  bytes = tells.bytes;
-  text = text_more header told event ∙ ap (λ (text : List ℕ). text ++ line_text (line.Event event)) tells.text ∙ append_assoc tells.taken waiting (line_text (line.Event event));
-  spelled = All-push IsNotable told event tells.spelled notable;
+pub waits_more : (sink : SinkShown) (waited waiting piece whole : List ℕ) → waiting ≡ waited ++ piece → Holds sink waited whole → Holds sink waiting (whole ++ piece)
+waits_more sink waited waiting piece whole more held = record {
+  taken = held.taken;
+  bytes = held.bytes;
+  text = ap (λ (text : List ℕ). text ++ piece) held.text ∙ append_assoc held.taken waited piece ∙ ap (λ (rest : List ℕ). held.taken ++ rest) (sym more);
 }
 
 -- all that waited was put
-pub tells_put : (header : CertLine) (old new : SinkShown) (waiting : List ℕ) (told : List Event) → TellsAt header old waiting told → Adds old.told new.told waiting → TellsAt header new [] told
-tells_put header old new waiting told tells adds = record {
-  taken = tells.taken ++ waiting;
-  bytes = subst (λ (before : Option (List ℕ)). Adds before new.told waiting) tells.bytes adds;
-  text = tells.text ∙ sym (append-nil (tells.taken ++ waiting));
-  spelled = tells.spelled;
+pub all_put : (old new : SinkShown) (waited waiting whole : List ℕ) → waiting ≡ [] → Adds old.told new.told waited → Holds old waited whole → Holds new waiting whole
+all_put old new waited waiting whole none adds held = record {
+  taken = held.taken ++ waited;
+  bytes = subst (λ (before : Option (List ℕ)). Adds before new.told waited) held.bytes adds;
+  text = held.text ∙ sym (append-nil (held.taken ++ waited)) ∙ ap (λ (rest : List ℕ). (held.taken ++ waited) ++ rest) (sym none);
 }
 
 -- no memory for the line
-pub torn_before : (header : CertLine) (sink : SinkShown) (waiting : List ℕ) (told : List Event) (event : Event) → TellsAt header sink waiting told → IsTornAt header sink told event
-torn_before header sink waiting told event tells = record {
-  taken = tells.taken;
-  rest = waiting ++ line_text (line.Event event);
-  bytes = tells.bytes;
-  text = text_more header told event ∙ ap (λ (text : List ℕ). text ++ line_text (line.Event event)) tells.text ∙ append_assoc tells.taken waiting (line_text (line.Event event));
+pub no_room : (sink : SinkShown) (waiting piece whole : List ℕ) → Holds sink waiting whole → HoldsFront sink (whole ++ piece)
+no_room sink waiting piece whole held = record {
+  taken = held.taken;
+  rest = waiting ++ piece;
+  bytes = held.bytes;
+  text = ap (λ (text : List ℕ). text ++ piece) held.text ∙ append_assoc held.taken waiting piece;
 }
 
 -- a front of what waited was put
-pub torn_put : (header : CertLine) (old new : SinkShown) (waiting : List ℕ) (told : List Event) (event : Event) → TellsAt header old waiting (told ++ event ∷ []) → AddsFront old.told new.told waiting
-    → IsTornAt header new told event
-torn_put header old new waiting told event tells adds =
-    let (put, rest, split, bytes) = subst (λ (before : Option (List ℕ)). AddsFront before new.told waiting) tells.bytes adds in record {
-      taken = tells.taken ++ put;
+pub front_put : (old new : SinkShown) (waited whole : List ℕ) → AddsFront old.told new.told waited → Holds old waited whole → HoldsFront new whole
+front_put old new waited whole adds held =
+    let (put, rest, split, bytes) = subst (λ (before : Option (List ℕ)). AddsFront before new.told waited) held.bytes adds in record {
+      taken = held.taken ++ put;
       rest = rest;
       bytes = bytes;
-      text = tells.text ∙ ap (λ (more : List ℕ). tells.taken ++ more) split ∙ sym (append_assoc tells.taken put rest);
+      text = held.text ∙ ap (λ (more : List ℕ). held.taken ++ more) split ∙ sym (append_assoc held.taken put rest);
     }
 
 -- what a call that gave a value ensures

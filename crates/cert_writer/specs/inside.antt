@@ -1,2 +1,3 @@
 -- What only proofs, and calls further in, cite.
+pub mod Adding
 pub mod Noting

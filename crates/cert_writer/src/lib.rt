@@ -2,6 +2,7 @@
 #![tactic(auto)]
 
 mod cert_log;
+mod event_lines;
 mod trailer;
 
 pub use cert_log::CertLog;

@@ -1,3 +1,4 @@
+pub mod OrderedTree
 pub mod SearchText
 pub mod Written
 pub mod inside

@@ -1,4 +1,4 @@
-//! A search that writes its certificate while it runs, and the plan and the claim at its end. Nothing of a node that
+//! A search that writes its certificate as it tells its tree, and the plan and the claim at its end. Nothing of a node that
 //! was told is kept for the certificate but lines that wait for the sink, one piece at a time.
 
 ghost use Rattle.std.specs.Prelude.{◌≡◌, ◌≤◌, false, IfOk, OnErr, IsErrOf};
@@ -7,13 +7,16 @@ ghost use Rattle.tail_book.specs.Truth.{IsTrueOutcome};
 ghost use Rattle.tail_book.specs.CostTable.{costs_of};
 ghost use Rattle.tail_outside.specs.Outside.{PieceHasFailed};
 ghost use Rattle.branch_tree.specs.Search.{EndsUnder};
-ghost use Rattle.branch_tree.specs.SearchTree.{SearchTree, IsSearchTree};
+ghost use Rattle.certified_search.specs.OrderedTree.{HasTreeIn};
 ghost use Rattle.certified_search.specs.Written.{IsCertificateOf, IsFrontOfDue, LeavesText};
 ghost use Rattle.certified_search.specs.inside.Header.{AreNumbersOf, IsStopOf};
 
 use crate::laws::search_trees_are_accepted;
+use crate::order::Order;
+use crate::ordered::search_in_order;
 use branch_marks::LogFail;
-use branch_tree::{Limit, Stop, search};
+use branch_tree::{Limit, Stop};
+use cert_lines::Version;
 use cert_writer::CertLog;
 use std::alloc::Global;
 use tail_book::laws::{every_book_is_sound, own_costs_are_for_book, own_costs_keep_outcomes};
@@ -30,20 +33,22 @@ pub struct Certified<S> {
     pub sink: S,
 }
 
-/// Searches a book by its own costs, and writes the certificate of its tree to the sink.
+/// Searches a book by its own costs in this order, and writes the certificate of its tree to the sink, in this version.
 pub fn certified_search<S: Sink>(
     alloc: Global,
     book: &Book,
     table: &CostTable,
     limit: Limit,
+    order: Order,
+    version: Version,
     sink: S,
 ) -> Certified<S>
     requires own { table.now ≡ costs_of book.now }
     ensures truth { IfOk result.found (IsTrueOutcome book.now) }
-    ensures tree { IfOk result.found (λ outcome. (tree : SearchTree) × IsSearchTree (costs_of book.now) book.now limit outcome tree) }
+    ensures tree { IfOk result.found (HasTreeIn order (costs_of book.now) book.now limit) }
     ensures ends { IfOk result.found (EndsUnder limit) }
-    ensures written { IfOk result.found (λ outcome. LeavesText (S.shows sink) (S.shows result.sink) (IsCertificateOf book.now limit outcome)) }
-    ensures stopped { OnErr result.found (LeavesText (S.shows sink) (S.shows result.sink) (IsFrontOfDue book.now limit)) }
+    ensures written { IfOk result.found (λ outcome. LeavesText (S.shows sink) (S.shows result.sink) (IsCertificateOf book.now limit order version outcome)) }
+    ensures stopped { OnErr result.found (LeavesText (S.shows sink) (S.shows result.sink) (IsFrontOfDue book.now limit order version)) }
     ensures beside { S.beside sink result.sink }
     ensures ceases { (S.shows result.sink).ceased ≡ false → (S.shows sink).ceased ≡ false }
     ensures counts { (S.shows sink).faults ≤ (S.shows result.sink).faults }
@@ -58,8 +63,8 @@ pub fn certified_search<S: Sink>(
             };
         }
     };
-    let mut log = CertLog::new(book, line, sink);
-    let found = write(alloc, book, table, limit, &mut log);
+    let mut log = CertLog::of(version, book, line, sink);
+    let found = write(alloc, book, table, limit, order, &mut log);
     Certified {
         found,
         sink: log.into_sink(),
@@ -82,15 +87,17 @@ fn write<S: Sink>(
     book: &Book,
     table: &CostTable,
     limit: Limit,
+    order: Order,
     log: &mut CertLog<S>,
 ) -> Result<Outcome, Stop>
     requires own { table.now ≡ costs_of book.now }
     requires numbers { AreNumbersOf book.now log.old.activities log.old.aircraft log.old.counters }
     ensures truth { IfOk result (IsTrueOutcome book.now) }
-    ensures tree { IfOk result (λ outcome. (tree : SearchTree) × IsSearchTree (costs_of book.now) book.now limit outcome tree) }
+    ensures tree { IfOk result (HasTreeIn order (costs_of book.now) book.now limit) }
     ensures ends { IfOk result (EndsUnder limit) }
-    ensures written { IfOk result (λ outcome. LeavesText (S.shows log.old.sink) (S.shows log.new.sink) (IsCertificateOf book.now limit outcome)) }
-    ensures stopped { OnErr result (LeavesText (S.shows log.old.sink) (S.shows log.new.sink) (IsFrontOfDue book.now limit)) }
+    ensures written { IfOk result (λ outcome.
+        LeavesText (S.shows log.old.sink) (S.shows log.new.sink) (IsCertificateOf book.now limit order log.old.version outcome)) }
+    ensures stopped { OnErr result (LeavesText (S.shows log.old.sink) (S.shows log.new.sink) (IsFrontOfDue book.now limit order log.old.version)) }
     ensures beside { S.beside log.old.sink log.new.sink }
     ensures ceases { (S.shows log.new.sink).ceased ≡ false → (S.shows log.old.sink).ceased ≡ false }
     ensures counts { (S.shows log.old.sink).faults ≤ (S.shows log.new.sink).faults }
@@ -103,7 +110,7 @@ fn write<S: Sink>(
     if let Err(fail) = log.begin() {
         return Err(stop_of(fail));
     }
-    let outcome = match search(alloc, book, table, limit, log) {
+    let outcome = match search_in_order(alloc, book, table, limit, order, log) {
         Ok(outcome) => outcome,
         Err(stop) => return Err(stop),
     };

@@ -1,9 +1,12 @@
 -- What the words mean, at command lines that are written out. The rows show the three names in their order, the two
--- options in each way to write them, a trial, and what is refused: too few words or too many, a dash in front, a limit
--- that is no number, an option twice or unknown.
+-- options in each way to write them, the flags, a trial, and what is refused: too few words or too many, a dash in front, a
+-- limit that is no number, an option or a flag twice, a flag with a value, a lean certificate without its file, and any
+-- other option.
 use Rattle.std.proofs.Common.{◌≡◌, ℕ, List, [], ◌∷◌, Option, Some, None, codes, refl}
 use Rattle.clap.proofs.OnLiterals.{clap_on_literals}
 use Rattle.branch_tree.specs.declared.limit.Limit.TheVariants.{Free, Nodes}
+use Rattle.cert_lines.specs.declared.version.Version.TheVariants.{Full, Lean}
+use Rattle.certified_search.specs.declared.order.Order.TheVariants.{DepthFirst, LeastBound}
 use Rattle.run_frame.specs.Tables.{NamesSeen}
 use Rattle.tailplan.proofs.WordLaws.{named}
 use Rattle.tailplan.specs.Tasks.{TaskNamesSeen}
@@ -19,11 +22,23 @@ t_f_r = record { timetable = codes "t"; fleet = codes "f"; rules = codes "r" }
 
 -- they name the tables `t`, `f` and `r`, and this limit
 abbrev limited : ℕ → Option TaskNamesSeen
-limited most = Some (record { tables = t_f_r; limit = Nodes most; cert = None })
+limited most = Some (record { tables = t_f_r; limit = Nodes most; order = DepthFirst; version = Full; cert = None })
 
 -- they name the tables `t`, `f` and `r`, and this file for the certificate
 abbrev certified : List ℕ → Option TaskNamesSeen
-certified cert = Some (record { tables = t_f_r; limit = Free; cert = Some cert })
+certified cert = Some (record { tables = t_f_r; limit = Free; order = DepthFirst; version = Full; cert = Some cert })
+
+-- they name the tables `t`, `f` and `r`, and ask for the least bound
+abbrev by_least_bound : Option TaskNamesSeen
+by_least_bound = Some (record { tables = t_f_r; limit = Free; order = LeastBound; version = Full; cert = None })
+
+-- they ask for all that may be asked for
+abbrev with_all : Option TaskNamesSeen
+with_all = Some (record { tables = t_f_r; limit = Nodes 5; order = LeastBound; version = Lean; cert = Some (codes "c") })
+
+-- they name the tables `t`, `f` and `r`, and a file for a lean certificate
+abbrev lean : Option TaskNamesSeen
+lean = Some (record { tables = t_f_r; limit = Free; order = DepthFirst; version = Lean; cert = Some (codes "c") })
 
 -- no words at all, or the program's name alone, give no names
 no_words : (run_of [] ≡ None) × (after_name [] ≡ None)
@@ -106,6 +121,39 @@ certificates : (after_name (codes "t" ∷ codes "--cert" ∷ codes "c" ∷ codes
     × (after_name (codes "t" ∷ codes "f" ∷ codes "r" ∷ codes "--cert=" ∷ []) ≡ certified (codes ""))
 unfolding clap_on_literals run_of
 certificates = (refl, refl, refl)
+
+-- the flag stands anywhere in front of two dashes, alone or beside the options
+least_bounds : (after_name (codes "t" ∷ codes "f" ∷ codes "r" ∷ codes "--best" ∷ []) ≡ by_least_bound)
+    × (after_name (codes "--best" ∷ codes "t" ∷ codes "f" ∷ codes "r" ∷ []) ≡ by_least_bound)
+    × (after_name (codes "t" ∷ codes "--nodes" ∷ codes "5" ∷ codes "--best" ∷ codes "f" ∷ codes "--cert=c" ∷ codes "--lean" ∷ codes "r" ∷ []) ≡ with_all)
+    × (after_name (codes "t" ∷ codes "f" ∷ codes "--" ∷ codes "--best" ∷ []) ≡ named (codes "t") (codes "f") (codes "--best"))
+unfolding clap_on_literals run_of
+least_bounds = (refl, refl, refl, refl)
+
+-- it stands once, in full, and without a value
+no_least_bounds : (after_name (codes "t" ∷ codes "f" ∷ codes "r" ∷ codes "--best" ∷ codes "--best" ∷ []) ≡ None)
+    × (after_name (codes "t" ∷ codes "f" ∷ codes "r" ∷ codes "--best=1" ∷ []) ≡ None)
+    × (after_name (codes "t" ∷ codes "f" ∷ codes "r" ∷ codes "--best=" ∷ []) ≡ None)
+    × (after_name (codes "t" ∷ codes "f" ∷ codes "r" ∷ codes "--best" ∷ codes "true" ∷ []) ≡ None)
+    × (after_name (codes "t" ∷ codes "f" ∷ codes "r" ∷ codes "--bes" ∷ []) ≡ None)
+    × (after_name (codes "t" ∷ codes "f" ∷ codes "r" ∷ codes "-b" ∷ []) ≡ None)
+unfolding clap_on_literals run_of
+no_least_bounds = (refl, refl, refl, refl, refl, refl)
+
+-- a lean certificate is asked for beside its file, in any order
+lean_certificates : (after_name (codes "t" ∷ codes "f" ∷ codes "r" ∷ codes "--cert" ∷ codes "c" ∷ codes "--lean" ∷ []) ≡ lean)
+    × (after_name (codes "--lean" ∷ codes "t" ∷ codes "f" ∷ codes "--cert=c" ∷ codes "r" ∷ []) ≡ lean)
+    × (after_name (codes "t" ∷ codes "f" ∷ codes "--" ∷ codes "--lean" ∷ []) ≡ named (codes "t") (codes "f") (codes "--lean"))
+unfolding clap_on_literals run_of
+lean_certificates = (refl, refl, refl)
+
+-- it is refused without a certificate, twice, and with a value
+no_lean_certificates : (after_name (codes "t" ∷ codes "f" ∷ codes "r" ∷ codes "--lean" ∷ []) ≡ None)
+    × (after_name (codes "t" ∷ codes "f" ∷ codes "r" ∷ codes "--cert" ∷ codes "--lean" ∷ []) ≡ None)
+    × (after_name (codes "t" ∷ codes "f" ∷ codes "r" ∷ codes "--cert=c" ∷ codes "--lean" ∷ codes "--lean" ∷ []) ≡ None)
+    × (after_name (codes "t" ∷ codes "f" ∷ codes "r" ∷ codes "--cert=c" ∷ codes "--lean=1" ∷ []) ≡ None)
+unfolding clap_on_literals run_of
+no_lean_certificates = (refl, refl, refl, refl)
 
 -- no other option is taken, in whatever way it is written, and none without its value
 no_options : (after_name (codes "t" ∷ codes "f" ∷ codes "r" ∷ codes "--cert" ∷ []) ≡ None)

@@ -11,7 +11,9 @@ use Rattle.tail_outside.specs.Shown.{FilesShown}
 use Rattle.tail_outside.specs.inside.Outside.{OnlyWritten}
 use Rattle.tail_outside.specs.inside.OverFile.{shown_over}
 use Rattle.branch_tree.specs.declared.limit.Limit.{Limit}
+use Rattle.cert_lines.specs.declared.version.Version.{Version}
 use Rattle.certified_search.specs.Written.{IsCertificateOf, IsFrontOfDue, LeavesText}
+use Rattle.certified_search.specs.declared.order.Order.{Order}
 use Rattle.tailplan.specs.Answers.{HoldsText}
 use Rattle.tailplan.specs.Kept.{OnlyCertificate}
 
@@ -53,6 +55,6 @@ held_by P name first last begun old new later is_first is_last is_old is_later e
     (subst (λ (n : List ℕ). LeavesText (shown_over old first) (shown_over new n) P) (is_last ∙ is_first) leaves)))
 
 -- a certificate that is held whole is a front of itself
-pub certificate_front : (book : BookSeen) (limit : Limit) (outcome : Outcome) (name : List ℕ) (new : FilesShown)
-    → HoldsText new name (IsCertificateOf book limit outcome) → HoldsText new name (IsFrontOfDue book limit)
-certificate_front book limit outcome name new (text, held, is) = (text, held, inl (record { outcome = outcome; whole = text; is = is; front = ([], sym (append-nil text)) }))
+pub certificate_front : (book : BookSeen) (limit : Limit) (order : Order) (version : Version) (outcome : Outcome) (name : List ℕ) (new : FilesShown)
+    → HoldsText new name (IsCertificateOf book limit order version outcome) → HoldsText new name (IsFrontOfDue book limit order version)
+certificate_front book limit order version outcome name new (text, held, is) = (text, held, inl (record { outcome = outcome; whole = text; is = is; front = ([], sym (append-nil text)) }))

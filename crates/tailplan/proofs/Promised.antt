@@ -10,9 +10,14 @@ use Rattle.tail_book.specs.declared.outcome.Outcome.TheVariants.{Optimal, Infeas
 use Rattle.tail_outside.specs.Outside.{PieceHasFailed, Takes}
 use Rattle.tail_outside.specs.Shown.{FilesShown, SinkShown}
 use Rattle.tail_text.specs.declared.refusal.Refusal.{Refusal}
+use Rattle.tail_book.specs.CostTable.{costs_of}
+use Rattle.node_leaves.specs.Node.{Node}
 use Rattle.branch_tree.specs.SearchTree.{HasReached}
 use Rattle.branch_tree.specs.declared.limit.Limit.{Limit}
 use Rattle.branch_tree.specs.declared.limit.Limit.TheVariants.{Free, Nodes}
+use Rattle.certified_search.specs.OrderedTree.{IsTreeIn}
+use Rattle.certified_search.specs.declared.order.Order.{Order}
+use Rattle.certified_search.specs.declared.order.Order.TheVariants.{DepthFirst, LeastBound}
 use Rattle.plan_report.specs.Report.{report, report_lines}
 use Rattle.plan_report.specs.inside.Report.{HasPlanFor}
 use Rattle.run_frame.proofs.Ending as ending
@@ -37,15 +42,15 @@ Same a b = a ≡ b
 
 -- tables that were read up to the limit are the fronts of the files
 pub task-read : (files : FilesShown) (names : TaskNamesSeen) (read : TablesSeen) → IfSome (tables_held files names.tables) (λ whole. read ≡ fronts whole)
-    → IfSome (task_held files names) (λ whole. record { tables = read; limit = names.limit; cert = names.cert } ≡ task_fronts whole)
+    → IfSome (task_held files names) (λ whole. record { tables = read; limit = names.limit; order = names.order; version = names.version; cert = names.cert } ≡ task_fronts whole)
 task-read files names read h = each (tables_held files names.tables) h
   where
-    alike : {t u : TablesSeen} → t ≡ u → Same (record { tables = t; limit = names.limit; cert = names.cert }) (record { tables = u; limit = names.limit; cert = names.cert })
+    alike : {t u : TablesSeen} → t ≡ u → Same (record { tables = t; limit = names.limit; order = names.order; version = names.version; cert = names.cert }) (record { tables = u; limit = names.limit; order = names.order; version = names.version; cert = names.cert })
     alike same = rw same refl
 
     each : (t : Option TablesSeen) → IfSome t (λ whole. read ≡ fronts whole)
-        → IfSome (option_map (λ tables. record { tables = tables; limit = names.limit; cert = names.cert }) t)
-        (λ whole. record { tables = read; limit = names.limit; cert = names.cert } ≡ task_fronts whole)
+        → IfSome (option_map (λ tables. record { tables = tables; limit = names.limit; order = names.order; version = names.version; cert = names.cert }) t)
+        (λ whole. record { tables = read; limit = names.limit; order = names.order; version = names.version; cert = names.cert } ≡ task_fronts whole)
     each None a = tt
     each (Some tables) a = alike a
 
@@ -68,6 +73,17 @@ reached : (limit : Limit) (count : ℕ) → HasReached limit count → IsNumber 
 reached Free count h = h
 reached (Nodes most) count h = tt
 
+-- a tree in either order has a bound only at a limit
+reached_between : (book : BookSeen) (limit : Limit) (order : Order) (plan : List (List ℕ)) (low high count : ℕ) (nodes : List Node)
+    → IsTreeIn order (costs_of book) book limit (Between plan low high count) nodes → IsNumber limit
+reached_between book limit DepthFirst plan low high count nodes tree = reached limit count tree.1.answered.3
+reached_between book limit LeastBound plan low high count nodes tree = reached limit count tree.1.answered.3
+
+reached_above : (book : BookSeen) (limit : Limit) (order : Order) (low count : ℕ) (nodes : List Node)
+    → IsTreeIn order (costs_of book) book limit (Above low count) nodes → IsNumber limit
+reached_above book limit DepthFirst low count nodes tree = reached limit count tree.1.answered.2
+reached_above book limit LeastBound low count nodes tree = reached limit count tree.1.answered.2
+
 -- the statuses of outcomes are 0, 1 and 4
 never_five : (outcome : Outcome) → outcome_status outcome ≢ 5
 never_five (Optimal plan cost) e = absurd (omega (arith, e))
@@ -82,16 +98,16 @@ never_six (Between plan low high nodes) e = absurd (omega (arith, e))
 never_six (Above low nodes) e = absurd (omega (arith, e))
 
 -- a true outcome says whether some plan is legal, or a number was reached
-decides : (book : BookSeen) (limit : Limit) (outcome : Outcome) (status : ℕ) → IsTrueOutcome book outcome → HasTree book limit outcome → status ≡ outcome_status outcome
+decides : (book : BookSeen) (limit : Limit) (order : Order) (outcome : Outcome) (status : ℕ) → IsTrueOutcome book outcome → HasTree book limit order outcome → status ≡ outcome_status outcome
     → IsVerdict (record { book = book; limit = limit }) status
-decides book limit (Optimal plan cost) status truth tree is = inl (is, (plan, truth.plan.legal))
-decides book limit Infeasible status truth tree is = inr (inl (is, truth.claim))
-decides book limit (Between plan low high nodes) status truth tree is = inr (inr (is, reached limit nodes tree.1.answered.3))
-decides book limit (Above low nodes) status truth tree is = inr (inr (is, reached limit nodes tree.1.answered.2))
+decides book limit order (Optimal plan cost) status truth tree is = inl (is, (plan, truth.plan.legal))
+decides book limit order Infeasible status truth tree is = inr (inl (is, truth.claim))
+decides book limit order (Between plan low high nodes) status truth tree is = inr (inr (is, reached_between book limit order plan low high nodes tree.0 tree.1))
+decides book limit order (Above low nodes) status truth tree is = inr (inr (is, reached_above book limit order low nodes tree.0 tree.1))
 
 module _ (words : List (List ℕ)) (files later : FilesShown) (before after : SinkShown) where
   -- an outcome that was printed promises what its status says
-  found : (book : BookSeen) (outcome : Outcome) → OfTask words files (λ task. IsBookOf task book × IsTrueOutcome book outcome × HasTree book task.limit outcome × IsCertified later task book outcome)
+  found : (book : BookSeen) (outcome : Outcome) → OfTask words files (λ task. IsBookOf task book × IsTrueOutcome book outcome × HasTree book task.limit task.order outcome × IsCertified later task book outcome)
       → Takes before after (report book outcome) → Promise words files later before after (outcome_status outcome)
   found book (Optimal plan cost) k took = OfHeld-map (run_of words) (task_held files) _ _ (λ task own. record {
     book = book;
@@ -157,4 +173,4 @@ module _ (words : List (List ℕ)) (files later : FilesShown) (before after : Si
     judged fit = ending.judged (run_of words) (task_held files) AreRefused (AreSolved later) usage_line (λ solved. report_lines solved.book solved.outcome) (λ solved. outcome_status solved.outcome)
         before after status answer truth printed IsCaseOf IsVerdict (λ solved. HasPlanFor solved.book solved.outcome) fit (λ task case refusal is. apart task case.book refusal is.0)
         (λ task case solved is own fits s. subst (λ (b : BookSeen). IsVerdict (record { book = b; limit = case.limit }) status) (same_book task solved.book case.book own.0 is.0)
-        (decides solved.book case.limit solved.outcome status own.1 (subst (λ (limit : Limit). HasTree solved.book limit solved.outcome) is.1 own.2) s))
+        (decides solved.book case.limit task.order solved.outcome status own.1 (subst (λ (limit : Limit). HasTree solved.book limit task.order solved.outcome) is.1 own.2) s))

@@ -15,7 +15,9 @@ use Rattle.node_leaves.specs.declared.stop.Stop.{Stop}
 use Rattle.cert_checker.specs.Certificate.{Accepts}
 use Rattle.cert_checker.specs.Verdict.{AcceptedIsYes, verdict}
 use Rattle.cert_checker.specs.declared.verdict.Verdict.{Verdict}
+use Rattle.cert_lines.specs.declared.version.Version.TheVariants.{Full}
 use Rattle.certified_search.specs.Written.{IsCertificateOf, LeavesText}
+use Rattle.certified_search.specs.declared.order.Order.TheVariants.{DepthFirst}
 use Rattle.plan_report.specs.Lines.{text_of}
 use Rattle.run_frame.specs.inside.Answer.{IsPrinted, status_of}
 use Rattle.run_frame.specs.declared.answer.Answer.{Answer}
@@ -47,18 +49,18 @@ same_text : (bytes text : List ℕ) → Some bytes ≡ Some text → text ≡ by
 same_text bytes text same = cc same
 
 -- what a search that ended left in a sink which told nothing before is the certificate of its outcome
-text_of_search : (book : BookSeen) (outcome : Outcome) (bytes : List ℕ) (first last : SinkShown) → LeavesText first last (IsCertificateOf book (Nodes TRIAL_NODES) outcome)
-    → first.told ≡ Some [] → last.ceased ≡ false → last.told ≡ Some bytes → IsCertificateOf book (Nodes TRIAL_NODES) outcome bytes
+text_of_search : (book : BookSeen) (outcome : Outcome) (bytes : List ℕ) (first last : SinkShown) → LeavesText first last (IsCertificateOf book (Nodes TRIAL_NODES) DepthFirst Full outcome)
+    → first.told ≡ Some [] → last.ceased ≡ false → last.told ≡ Some bytes → IsCertificateOf book (Nodes TRIAL_NODES) DepthFirst Full outcome bytes
 text_of_search book outcome bytes first last leaves empty alive told =
     let written = leaves alive empty in
-    subst (λ (text : List ℕ). IsCertificateOf book (Nodes TRIAL_NODES) outcome text) (same_text bytes written.0 (sym told ∙ written.1)) written.2
+    subst (λ (text : List ℕ). IsCertificateOf book (Nodes TRIAL_NODES) DepthFirst Full outcome text) (same_text bytes written.0 (sym told ∙ written.1)) written.2
 
 -- a certificate that was judged was accepted
 accepted_of : (book : BookSeen) (accepted : Bool) (text : List ℕ) (claim : Claim) → AcceptedIsYes → Accepts book text claim → IsYes accepted (verdict book text) → accepted ≡ true
 accepted_of book accepted text claim law accepts judged = subst (λ (v : Verdict). IsYes accepted v) (law book text claim accepts) judged
 
 tried_with : (seed : ℕ) (book : BookSeen) (outcome : Outcome) (accepted : Bool) (text : List ℕ) → AcceptedIsYes → IsBookOfTrial seed (trial_of seed) book → IsTrueOutcome book outcome
-    → HasTree book (Nodes TRIAL_NODES) outcome → IsCertificateOf book (Nodes TRIAL_NODES) outcome text → IsYes accepted (verdict book text)
+    → HasTree book (Nodes TRIAL_NODES) DepthFirst outcome → IsCertificateOf book (Nodes TRIAL_NODES) DepthFirst Full outcome text → IsYes accepted (verdict book text)
     → IsTriedOf seed (record { seed = seed; outcome = outcome; accepted = accepted })
 tried_with seed book outcome accepted text law made truth tree certified judged = record {
   asked = refl;
@@ -68,13 +70,13 @@ tried_with seed book outcome accepted text law made truth tree certified judged 
 
 -- what was found and judged is what the trial of the seed answers
 pub tried_of : (seed : ℕ) (book : BookSeen) (outcome : Outcome) (accepted : Bool) (bytes : List ℕ) (found : Result Outcome Stop) (first last : SinkShown) → AcceptedIsYes
-    → IsBookOfTrial seed (trial_of seed) book → found ≡ Ok outcome → IfOk found (IsTrueOutcome book) → IfOk found (HasTree book (Nodes TRIAL_NODES))
-    → IfOk found (λ o. LeavesText first last (IsCertificateOf book (Nodes TRIAL_NODES) o)) → first.told ≡ Some [] → last.ceased ≡ false → last.told ≡ Some bytes
+    → IsBookOfTrial seed (trial_of seed) book → found ≡ Ok outcome → IfOk found (IsTrueOutcome book) → IfOk found (HasTree book (Nodes TRIAL_NODES) DepthFirst)
+    → IfOk found (λ o. LeavesText first last (IsCertificateOf book (Nodes TRIAL_NODES) DepthFirst Full o)) → first.told ≡ Some [] → last.ceased ≡ false → last.told ≡ Some bytes
     → IsYes accepted (verdict book bytes) → IsTriedOf seed (record { seed = seed; outcome = outcome; accepted = accepted })
 tried_of seed book outcome accepted bytes found first last law made is truth tree leaves empty alive told judged =
-    let left = subst (λ (f : Result Outcome Stop). IfOk f (λ o. LeavesText first last (IsCertificateOf book (Nodes TRIAL_NODES) o))) is leaves in
+    let left = subst (λ (f : Result Outcome Stop). IfOk f (λ o. LeavesText first last (IsCertificateOf book (Nodes TRIAL_NODES) DepthFirst Full o))) is leaves in
     tried_with seed book outcome accepted bytes law made (subst (λ (f : Result Outcome Stop). IfOk f (IsTrueOutcome book)) is truth)
-    (subst (λ (f : Result Outcome Stop). IfOk f (HasTree book (Nodes TRIAL_NODES))) is tree) (text_of_search book outcome bytes first last left empty alive told) judged
+    (subst (λ (f : Result Outcome Stop). IfOk f (HasTree book (Nodes TRIAL_NODES) DepthFirst)) is tree) (text_of_search book outcome bytes first last left empty alive told) judged
 
 -- an outcome that was printed promises what its status says
 found : (seed : ℕ) (before after : SinkShown) (outcome : Outcome) → IsTrial seed outcome → Takes before after (text_of (tried_lines seed outcome true))

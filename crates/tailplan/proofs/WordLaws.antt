@@ -1,18 +1,21 @@
 -- What the words mean, whatever the names are. The reading computes for names that are not known: behind two dashes
 -- nothing of them is looked at, and without these only that the first sign is no dash. Two cases are left to tests: the
 -- first name may ask for a trial, or for a repair.
-use Rattle.std.proofs.Common.{Bool, true, false, ◌||◌, ◌==◌, ◌≡◌, ◌∙◌, ℕ, List, [], ◌∷◌, bytes_eq, Option, Some, None, codes, if◌then◌else◌, refl}
+use Rattle.std.proofs.Common.{Bool, true, false, ◌||◌, ◌==◌, ◌≡◌, ◌∙◌, ℕ, List, [], ◌∷◌, bytes_eq, Option, Some, None, codes, if◌then◌else◌, refl, sym, ap}
 use Rattle.std.specs.Prelude.{option_and_then}
 use Rattle.clap.proofs.OnLiterals.{clap_on_literals}
+use Rattle.clap.specs.Words.{App, Row}
 use Rattle.branch_tree.specs.declared.limit.Limit.TheVariants.{Free}
+use Rattle.cert_lines.specs.declared.version.Version.TheVariants.{Full}
+use Rattle.certified_search.specs.declared.order.Order.TheVariants.{DepthFirst}
 use Rattle.run_frame.specs.Words.{matched}
 use Rattle.tailplan.specs.RepairWords.{is_repair}
 use Rattle.tailplan.specs.Tasks.{TaskNamesSeen}
 use Rattle.tailplan.specs.Words.{command, is_trial, names_in, run_of}
 
--- the words name these files, no limit, and no certificate's file
+-- the words name these files, no limit, no order but the usual one, and no certificate's file
 abbrev pub named : List ℕ → List ℕ → List ℕ → Option TaskNamesSeen
-named timetable fleet rules = Some (record { tables = record { timetable = timetable; fleet = fleet; rules = rules }; limit = Free; cert = None })
+named timetable fleet rules = Some (record { tables = record { timetable = timetable; fleet = fleet; rules = rules }; limit = Free; order = DepthFirst; version = Full; cert = None })
 
 -- the program's name does not matter
 whatever_it_is_called : (one other : List ℕ) (words : List (List ℕ)) → run_of (one ∷ words) ≡ run_of (other ∷ words)
@@ -40,6 +43,14 @@ not_asked : (trial repair : Bool) (names : Option TaskNamesSeen) → trial ≡ f
 not_asked true repair names is other = absurd (cc is)
 not_asked false true names is other = absurd (cc other)
 not_asked false false names is other = refl
+
+-- what the command matched gives the names, where no trial and no repair are asked for
+pub names_given : (words : List (List ℕ)) (app : App) (given : Option (List Row)) (rows : List Row) → is_trial words ≡ false → is_repair words ≡ false → app ≡ command
+    → given ≡ matched app words → given ≡ Some rows → run_of words ≡ names_in rows
+unfolding run_of
+names_given words app given rows no_trial no_repair same told some =
+    not_asked (is_trial words) (is_repair words) (option_and_then names_in (matched command words)) no_trial no_repair
+    ∙ ap (λ (found : Option (List Row)). option_and_then names_in found) (ap (λ (one : App). matched one words) (sym same) ∙ sym told ∙ some)
 
 -- and they are the names where the first asks for no trial and no repair
 plain_names : (program timetable fleet rules_file : List ℕ) (t f r : ℕ) → (t == 45) ≡ false → (f == 45) ≡ false → (r == 45) ≡ false

@@ -7,9 +7,11 @@ use Rattle.tail_book.specs.CostTable.{costs_of}
 use Rattle.tail_outside.specs.Shown.{FilesShown}
 use Rattle.tail_text.specs.declared.refusal.Refusal.{Refusal}
 use Rattle.book_maker.specs.Made.{book_of}
-use Rattle.branch_tree.specs.SearchTree.{SearchTree, IsSearchTree}
 use Rattle.branch_tree.specs.declared.limit.Limit.{Limit}
+use Rattle.cert_lines.specs.declared.version.Version.{Version}
+use Rattle.certified_search.specs.OrderedTree.{HasTreeIn}
 use Rattle.certified_search.specs.Written.{IsCertificateOf, IsFrontOfDue}
+use Rattle.certified_search.specs.declared.order.Order.{Order}
 use Rattle.plan_report.specs.Lines.{text_of}
 use Rattle.plan_report.specs.Report.{report_lines}
 use Rattle.run_frame.specs.Answer.{IsTrueAnswer as IsTrueOf, lines_of}
@@ -44,27 +46,28 @@ IsBookOf task book = book_of task.tables.timetable task.tables.fleet task.tables
 abbrev pub AreRefused : TaskSeen → Refusal → Type 0
 AreRefused task refusal = book_of task.tables.timetable task.tables.fleet task.tables.rules ≡ Err refusal
 
--- a search tree of the book, within the limit, has this outcome
-abbrev pub HasTree : BookSeen → Limit → Outcome → Type 0
-HasTree book limit outcome = (tree : SearchTree) × IsSearchTree (costs_of book) book limit outcome tree
+-- a tree of the book in this order, within the limit, has this outcome
+abbrev pub HasTree : BookSeen → Limit → Order → Outcome → Type 0
+HasTree book limit order outcome = HasTreeIn order (costs_of book) book limit outcome
 
 -- the file of this name is there, and P holds of its text
 abbrev pub HoldsText : FilesShown → List ℕ → (List ℕ → Type 0) → Type 0
 HoldsText files name P = (text : List ℕ) × (files.holds name ≡ Some text) × P text
 
--- the file of this name holds a certificate of the outcome, where anything is told of it
-abbrev pub HoldsCertificate : FilesShown → BookSeen → Limit → Outcome → List ℕ → Type 0
-HoldsCertificate files book limit outcome name = files.ceased name ≡ false → HoldsText files name (IsCertificateOf book limit outcome)
+-- the file of this name holds a certificate of the outcome in this version, where anything is told of it
+abbrev pub HoldsCertificate : FilesShown → BookSeen → Limit → Order → Version → Outcome → List ℕ → Type 0
+HoldsCertificate files book limit order version outcome name =
+    files.ceased name ≡ false → HoldsText files name (IsCertificateOf book limit order version outcome)
 
 -- so does the certificate's file, where the task names one
 abbrev pub IsCertified : FilesShown → TaskSeen → BookSeen → Outcome → Type 0
-IsCertified files task book outcome = IfSome task.cert (HoldsCertificate files book task.limit outcome)
+IsCertified files task book outcome = IfSome task.cert (HoldsCertificate files book task.limit task.order task.version outcome)
 
--- the tables are this book, of which the outcome is true, a search tree within the limit has it, and it is certified in the files as
--- they are left
+-- the tables are this book, of which the outcome is true, a tree in the order of the task, within the limit, has it, and it is certified
+-- in the files as they are left
 abbrev pub AreSolved : FilesShown → TaskSeen → Solved → Type 0
 AreSolved later task solved =
-    IsBookOf task solved.book × IsTrueOutcome solved.book solved.outcome × HasTree solved.book task.limit solved.outcome
+    IsBookOf task solved.book × IsTrueOutcome solved.book solved.outcome × HasTree solved.book task.limit task.order solved.outcome
     × IsCertified later task solved.book solved.outcome
 
 -- the answer is true of these words and files, and of what the files are left with
@@ -73,7 +76,7 @@ IsTrueAnswer words files later answer = IsTrueOf (run_of words) (task_held files
 
 -- the text is a front of what was due in the certificate's file of the task
 abbrev pub HasFrontOfDue : TaskSeen → List ℕ → Type 0
-HasFrontOfDue task text = (book : BookSeen) × IsBookOf task book × IsFrontOfDue book task.limit text
+HasFrontOfDue task text = (book : BookSeen) × IsBookOf task book × IsFrontOfDue book task.limit task.order task.version text
 
 -- what is printed for an answer
 abbrev pub answer_text : Answer → List ℕ

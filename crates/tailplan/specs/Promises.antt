@@ -44,16 +44,16 @@ IsBound Infeasible = ⊥
 IsBound (Between plan low high nodes) = ⊤
 IsBound (Above low nodes) = ⊤
 
--- the tables are a book, and the report of a bound was printed that is true, with which a search tree within the limit ends:
--- its nodes reach the limit, and the bound is the least that its open places leave; a certificate that was asked for is one of
--- this outcome
+-- the tables are a book, and the report of a bound was printed that is true, with which a tree within the limit ends, in the order
+-- that was asked for: its nodes reach the limit, and the bound is the least that its open places leave; a certificate that was asked
+-- for is one of this outcome
 pub record PrintsBound (later : FilesShown) (before after : SinkShown) (task : TaskSeen) : Type 0 where
   pub book : BookSeen
   pub outcome : Outcome
   pub is : IsBookOf task book
   pub bound : IsBound outcome
   pub truth : IsTrueOutcome book outcome
-  pub tree : HasTree book task.limit outcome
+  pub tree : HasTree book task.limit task.order outcome
   pub certified : IsCertified later task book outcome
   pub printed : Takes before after (report book outcome)
 

@@ -7,7 +7,9 @@ use Rattle.tail_book.specs.declared.outcome.Outcome.TheVariants.{Optimal, Infeas
 use Rattle.tail_outside.specs.Outside.{PieceHasFailed, Takes}
 use Rattle.tail_outside.specs.Shown.{FilesShown, SinkShown}
 use Rattle.branch_tree.specs.declared.limit.Limit.TheVariants.{Nodes}
+use Rattle.cert_lines.specs.declared.version.Version.TheVariants.{Full}
 use Rattle.certified_search.specs.Written.{IsCertificateOf}
+use Rattle.certified_search.specs.declared.order.Order.TheVariants.{DepthFirst}
 use Rattle.plan_report.specs.Lines.{text_of}
 use Rattle.plan_report.specs.Report.{first_line}
 use Rattle.run_frame.specs.Answer.{IsUnlessStopped, lines_of}
@@ -52,8 +54,8 @@ pub record IsTrial (seed : ℕ) (outcome : Outcome) : Type 0 where
   pub text : List ℕ
   pub is : IsBookOfTrial seed (trial_of seed) book
   pub truth : IsTrueOutcome book outcome
-  pub tree : HasTree book (Nodes TRIAL_NODES) outcome
-  pub certified : IsCertificateOf book (Nodes TRIAL_NODES) outcome text
+  pub tree : HasTree book (Nodes TRIAL_NODES) DepthFirst outcome
+  pub certified : IsCertificateOf book (Nodes TRIAL_NODES) DepthFirst Full outcome text
   pub agrees : AgreesWith (making_cost seed) outcome
 
 -- this was found by the trial of the seed, and its certificate was accepted

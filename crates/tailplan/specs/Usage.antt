@@ -4,7 +4,7 @@ use Rattle.plan_report.specs.Lines.{newline}
 
 -- the words that the program takes
 abbrev pub usage_line : List ℕ
-usage_line = codes "usage: tailplan TIMETABLE FLEET RULES [--nodes N] [--cert FILE]" ++ newline
+usage_line = codes "usage: tailplan TIMETABLE FLEET RULES [--nodes N] [--cert FILE [--lean]] [--best]" ++ newline
 
 -- the words of a repair
 abbrev pub repair_usage_line : List ℕ

@@ -121,6 +121,8 @@ fn answer_of<F: Files>(alloc: Global, words: &[String], files: F) -> Answered<F>
             let task = Task {
                 tables,
                 limit: names.limit,
+                order: names.order,
+                version: names.version,
                 cert: names.cert,
             };
             solved(alloc, &task, files)

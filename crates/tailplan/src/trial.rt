@@ -16,7 +16,8 @@ use book_maker::read_book;
 use branch_tree::Limit;
 use cert_checker::laws::accepted_is_yes;
 use cert_checker::{Verdict, judge};
-use certified_search::{Certified, certified_search};
+use cert_lines::Version;
+use certified_search::{Certified, Order, certified_search};
 use plan_report::{ReportFail, first_line, write_lines};
 use run_frame::{Answer, Finding, Status, print};
 use seed_tables::{SEED_LIMIT, trial_tables};
@@ -160,6 +161,8 @@ fn search_trial<J: Judge>(
         book,
         &table,
         Limit::Nodes(TRIAL_NODES),
+        Order::DepthFirst,
+        Version::Full,
         sink,
     );
     match found {

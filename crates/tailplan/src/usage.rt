@@ -8,7 +8,7 @@ ghost use Rattle.tailplan.specs.Usage.{repair_usage_line, usage_line};
 pub fn usage_line() -> &'static [u8]
     ensures { result.now ≡ usage_line }
 {
-    b"usage: tailplan TIMETABLE FLEET RULES [--nodes N] [--cert FILE]\n"
+    b"usage: tailplan TIMETABLE FLEET RULES [--nodes N] [--cert FILE [--lean]] [--best]\n"
 }
 
 /// The words of a repair, as one line.

@@ -1,15 +1,17 @@
-//! The reading of the words: which tables a run is over, how many nodes it may count, and where its certificate goes; or the
-//! seed of a trial.
+//! The reading of the words: which tables a run is over, how many nodes it may count and in which order, and where its certificate
+//! goes and in which version; or the seed of a trial.
 
 ghost use Rattle.std.specs.Prelude.{◌≡◌, ◌≤◌, IfOk, IfSome, option_map};
 ghost use Rattle.clap.specs.Words.{app_of, found_of, rows_of};
 ghost use Rattle.run_frame.specs.Spelled.{spelled};
-ghost use Rattle.tailplan.specs.Words.{command, is_trial, limit_of, names_in, run_of, seed_of};
+ghost use Rattle.tailplan.specs.Words.{command, is_given, is_trial, limit_of, names_in, order_of, run_of, seed_of, version_of, with_options};
 ghost use Rattle.tailplan.specs.inside.Tasks.{task_names_seen};
 
 use crate::repair_words::is_repair;
 use branch_tree::Limit;
-use clap::{Arg, ArgMatches, Command};
+use cert_lines::Version;
+use certified_search::Order;
+use clap::{Arg, ArgAction, ArgMatches, Command};
 use run_frame::{TableNames, matched, tables_command, tables_in, value_of};
 use seed_tables::SEED_LIMIT;
 use std::alloc::{AllocError, Global};
@@ -19,17 +21,35 @@ use tail_text::number;
 /// The most nodes that a limit may name.
 pub const NODE_LIMIT: u64 = 1_000_000_000_000;
 
-/// The names of the three tables, the limit of nodes, and the name of the certificate's file, as the words give them.
+/// The names of the three tables, the limit of nodes, their order, and the version and the name of the certificate's file, as the
+/// words give them.
 #[derive(Clone, Copy, PartialEq, Eq, Debug)]
 pub struct TaskNames<'a> {
     pub tables: TableNames<'a>,
     pub limit: Limit,
+    pub order: Order,
+    pub version: Version,
     pub cert: Option<&'a str>,
 }
 
-// The command: three words that have to stand in their places, and two options that may be given.
+// The command: three words that have to stand in their places, two options that may be given, and two flags.
 fn command<'a>(alloc: Global) -> Result<Command<'a>, AllocError>
     ensures { IfOk result (λ c. app_of c ≡ command) }
+{
+    let command = with_options(alloc)?.arg(
+        Arg::new(alloc, "best")
+            .long("best")
+            .action(ArgAction::SetTrue),
+    )?;
+    command.arg(
+        Arg::new(alloc, "lean")
+            .long("lean")
+            .action(ArgAction::SetTrue),
+    )
+}
+
+fn with_options<'a>(alloc: Global) -> Result<Command<'a>, AllocError>
+    ensures { IfOk result (λ c. app_of c ≡ with_options) }
 {
     let command = tables_command(alloc, "tailplan")?.arg(Arg::new(alloc, "nodes").long("nodes"))?;
     command.arg(Arg::new(alloc, "cert").long("cert"))
@@ -48,16 +68,53 @@ fn limit_of(text: Option<&str>) -> Option<Limit>
     }
 }
 
-// The names and the limit among what the command matched.
+// Whether a flag was given.
+fn is_given<'a>(matches: &ArgMatches<'a>, id: &str) -> bool
+    ensures { result ≡ is_given id.now (rows_of (found_of matches.now)) }
+{
+    match value_of(matches, id) {
+        Some(word) => word.as_bytes() == b"true".as_slice(),
+        None => false,
+    }
+}
+
+// The order of a search whose flag for the least bound was given or not.
+fn order_of(best: bool) -> Order
+    ensures { result ≡ order_of best }
+{
+    if best {
+        Order::LeastBound
+    } else {
+        Order::DepthFirst
+    }
+}
+
+// The version of a certificate whose flag for a lean one was given or not, or nothing where there is no certificate for it.
+fn version_of(lean: bool, cert: Option<&str>) -> Option<Version>
+    ensures { result ≡ version_of lean (option_map (λ s. s.now) cert.entry) }
+{
+    if !lean {
+        return Some(Version::Full);
+    }
+    match cert {
+        Some(_) => Some(Version::Lean),
+        None => None,
+    }
+}
+
+// The names, the limit, the order and the version among what the command matched.
 fn names_in<'a>(matches: &ArgMatches<'a>) -> Option<TaskNames<'a>>
     ensures { option_map task_names_seen result ≡ names_in (rows_of (found_of matches.now)) }
 {
     let tables = tables_in(matches)?;
     let limit = limit_of(value_of(matches, "nodes"))?;
     let cert = value_of(matches, "cert");
+    let version = version_of(is_given(matches, "lean"), cert)?;
     Some(TaskNames {
         tables,
         limit,
+        order: order_of(is_given(matches, "best")),
+        version,
         cert,
     })
 }
@@ -88,8 +145,8 @@ pub fn seed_of(words: &[String]) -> Option<u64>
     }
 }
 
-/// The names of the tables and the limit, or nothing where the words are refused or ask for a trial or a repair. The words
-/// begin with the program's name.
+/// The names of the tables, the limit, the order and the version, or nothing where the words are refused or ask for a trial or a
+/// repair. The words begin with the program's name.
 #[tactic(auto, unfolding(crate::specs::Words::run_of))]
 pub fn run_of<'a>(alloc: Global, words: &'a [String]) -> Result<Option<TaskNames<'a>>, Memory>
     ensures { IfOk result (λ names. option_map task_names_seen names ≡ run_of (spelled words.now)) }

@@ -1,10 +1,11 @@
 //! Plans the tables of a folder as the planner does, without a certificate.
 //!
-//! usage: plain FOLDER [--nodes N] [--plan], or plain TIMETABLE FLEET RULES [--nodes N] [--plan]
+//! usage: plain FOLDER [--nodes N] [--best] [--plan], or plain TIMETABLE FLEET RULES [--nodes N] [--best] [--plan]
 //! With TRACE=1 the events of the tree are told on standard error, each with processor seconds.
 
 mod book;
 
+use best_first::search_best;
 use branch_marks::{Event, LogFail, TreeLog};
 use branch_tree::{Limit, search};
 use plain_std::alloc::Global;
@@ -87,11 +88,12 @@ fn show(book: &Book, outcome: &Outcome, with_plan: bool) {
 
 fn main() {
     let mut names = Vec::new();
-    let (mut limit, mut with_plan) = (Limit::Free, false);
+    let (mut limit, mut best, mut with_plan) = (Limit::Free, false, false);
     let mut words = std::env::args().skip(1);
     while let Some(word) = words.next() {
         match word.as_str() {
             "--nodes" => limit = Limit::Nodes(words.next().expect("a number").parse().expect("a number")),
+            "--best" => best = true,
             "--plan" => with_plan = true,
             _ => names.push(word),
         }
@@ -100,7 +102,7 @@ fn main() {
         let folder = names.remove(0);
         names = ["timetable.csv", "fleet.csv", "rules.toml"].map(|name| format!("{folder}/{name}")).to_vec();
     }
-    assert!(names.len() == 3, "usage: plain FOLDER [--nodes N] [--plan]");
+    assert!(names.len() == 3, "usage: plain FOLDER [--nodes N] [--best] [--plan]");
     let texts: Vec<String> = names.iter().map(|name| std::fs::read_to_string(name).expect(name)).collect();
     let book = book::book_of(&texts[0], &texts[1], &texts[2]);
     let table = CostTable::of(Global, &book).expect("memory");
@@ -110,7 +112,12 @@ fn main() {
         facts: 0,
     };
     let begun = seconds();
-    let outcome = search(Global, &book, &table, limit, &mut log).expect("no stop");
+    let found = if best {
+        search_best(Global, &book, &table, limit, &mut log)
+    } else {
+        search(Global, &book, &table, limit, &mut log)
+    };
+    let outcome = found.expect("no stop");
     let ended = seconds();
     show(&book, &outcome, with_plan);
     println!("seconds {:.3} (search {:.3})", ended, ended - begun);

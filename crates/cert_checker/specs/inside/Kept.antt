@@ -1,6 +1,6 @@
 -- What the code keeps of the lines that it took, as the state that the definition keeps.
 -- For src/ends.rt, src/state.rt and others.
-use Rattle.std.specs.Prelude.{ℕ, ℤ, pos, ◌≡◌, ◌<◌, ◌≤◌, ◌*◌, ◌^◌, ◌-ℤ◌, ⊤, List, [], Bool, true, false, not, ◌==◌, Option, Some, None, Result, Ok, Err, All, length}
+use Rattle.std.specs.Prelude.{ℕ, ℤ, pos, ◌≡◌, ◌<◌, ◌≤◌, ◌*◌, ◌^◌, ◌-ℤ◌, ⊤, List, [], Bool, true, false, not, ◌==◌, Option, Some, None, IfSome, Result, Ok, Err, All, length}
 use Rattle.tail_book.specs.Seen.{BookSeen}
 use Rattle.tail_book.specs.Lookup.{activities, aircraft}
 use Rattle.tail_book.specs.Ranges.{IsWithin}
@@ -8,21 +8,24 @@ use Rattle.tail_book.specs.declared.claim.Claim.{Claim}
 use Rattle.branch_marks.specs.declared.fact.Fact.{Fact}
 use Rattle.branch_marks.specs.Labels.{Label}
 use Rattle.branch_marks.specs.ProofTree.{zero_duals}
+use Rattle.branch_marks.specs.TreeTests.{are_duals}
+use Rattle.tail_book.specs.CostTable.{costs_of}
 use Rattle.cert_checker.specs.Certificate.{claimed_cost}
 use Rattle.cert_checker.specs.Reasons.{has_claimed_plan}
 use Rattle.cert_checker.specs.Step.{Step, after_leaf, at_node, judge_claim}
-use Rattle.cert_checker.specs.State.{State, OpenLeaf, BoundLeaf, Section}
+use Rattle.cert_checker.specs.State.{State, OpenLeaf, BoundLeaf, LeanLeaf, Section}
 use Rattle.cert_checker.specs.State as section
 use Rattle.cert_checker.specs.declared.means.Means.{Means}
 use Rattle.cert_checker.specs.declared.state.Judging.{Judging}
 use Rattle.cert_checker.specs.declared.state.OpenLeaf.{OpenLeaf as KeptLeaf}
 use Rattle.cert_checker.specs.declared.state.Part.{Part}
-use Rattle.cert_checker.specs.declared.state.Part.TheVariants.{Start, InTree, InBound, InPlan, Claimed}
+use Rattle.cert_checker.specs.declared.state.Part.TheVariants.{Start, InTree, InBound, InLean, InPlan, Claimed}
 use Rattle.cert_checker.specs.declared.verdict.Reason.{Reason}
 use Rattle.cert_checker.specs.declared.verdict.Verdict.{Verdict}
 use Rattle.cert_checker.specs.declared.verdict.Reason.TheVariants.{OutOfPlace}
 use Rattle.cert_checker.specs.inside.Buckets.{IsFamilyOf}
 use Rattle.cert_checker.specs.inside.KeptFloors.{AreAllUnder}
+use Rattle.cert_checker.specs.inside.LeafPricer.{IsLeafPricerOf}
 use Rattle.cert_checker.specs.inside.Means.{AreMeansOf}
 use Rattle.open_branches.specs.Branches.{AreBranchesOf, owed_of}
 
@@ -36,11 +39,16 @@ bound_leaf judging = record {
   values = judging.values;
 }
 
+-- the lean leaf that is here
+abbrev pub lean_leaf : Judging → LeanLeaf
+lean_leaf judging = record { marks = judging.branches.marks.facts; duals = judging.duals.items; next = judging.next }
+
 -- what stands before the next line
 abbrev pub section_in : Judging → Part → Section
 section_in judging Start = section.Start
 section_in judging InTree = section.InTree
 section_in judging InBound = section.InBound (bound_leaf judging)
+section_in judging InLean = section.InLean (lean_leaf judging)
 section_in judging InPlan = section.InPlan judging.fliers.items
 section_in judging (Claimed claim) = section.Claimed claim
 
@@ -61,6 +69,7 @@ leaf_in judging (Some leaf) = Some (record {
 abbrev pub state_of : Judging → State
 state_of judging = record {
   lines = judging.lines;
+  version = judging.version;
   section = section_in judging judging.part;
   owed = owed_of judging.branches;
   leaf = leaf_in judging judging.leaf;
@@ -78,11 +87,13 @@ abbrev pub IsLeafIn : BookSeen → Judging → Option KeptLeaf → Type 0
 IsLeafIn book judging None = ⊤
 IsLeafIn book judging (Some leaf) = IsLeafOf book judging.branches.marks.facts judging.duals.items judging.family.items leaf
 
--- nothing is there before the header, and a bound leaf is owed until its last cover was begun, and has no labels before its first
+-- nothing is there before the header; a bound leaf is owed until its last cover was begun, and has no labels before its first; and
+-- the duals of a lean leaf are in the box
 abbrev pub IsPartIn : BookSeen → Judging → Part → Type 0
 IsPartIn book judging Start = (judging.branches.marks.facts ≡ []) × (owed_of judging.branches ≡ []) × (judging.leaf ≡ None)
 IsPartIn book judging InTree = ⊤
 IsPartIn book judging InBound = (judging.branches.owes ≡ not (judging.covers == aircraft book)) × (judging.covers ≡ 0 → judging.leaf ≡ None)
+IsPartIn book judging InLean = (are_duals (costs_of book) book judging.duals.items ≡ true) × (judging.leaf ≡ None)
 IsPartIn book judging InPlan = ⊤
 IsPartIn book judging (Claimed claim) = ⊤
 
@@ -98,6 +109,7 @@ pub record IsJudging (book : BookSeen) (judging : Judging) : Type 0 where
   pub starts : length judging.starts.items ≡ activities book
   pub floors : AreAllUnder book judging.branches.marks.facts judging.floors.rows.items
   pub width : length judging.counters.items ≡ length book.rules.counters
+  pub pricer : IfSome judging.pricer (IsLeafPricerOf book)
 
 -- what was answered to a line, and what is kept, are what the step gives
 abbrev pub Gives : Step → Judging → Option Reason → Type 0

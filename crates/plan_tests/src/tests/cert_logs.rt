@@ -5,6 +5,7 @@ ghost use Rattle.branch_marks.specs.Events.{IsNotable};
 ghost use Rattle.cert_writer.specs.Trailer.{IsSpelled};
 
 use branch_marks::{Event, Fact, LogFail, Pair, Row, TreeLog};
+use cert_lines::Version;
 use cert_writer::CertLog;
 use std::alloc::Global;
 use std::test::Fail;
@@ -28,22 +29,30 @@ fn empty_book(alloc: Global) -> Result<Book, Fail> {
 }
 
 // A certificate of a book, over a sink of which these calls fail.
-fn log_of(alloc: Global, book: &Book, failing: Vec<u64>) -> Result<CertLog<MemSink>, Memory> {
+fn log_of(
+    alloc: Global,
+    version: Version,
+    book: &Book,
+    failing: Vec<u64>,
+) -> Result<CertLog<MemSink>, Memory> {
     let sink = MemSink::new(alloc, failing)?;
-    match Line::new(alloc) {
-        Ok(line) => Ok(CertLog::new(book, line, sink)),
-        Err(_) => Err(Memory),
+    let Ok(line) = Line::new(alloc) else {
+        return Err(Memory);
+    };
+    match version {
+        Version::Full => Ok(CertLog::new(book, line, sink)),
+        Version::Lean => Ok(CertLog::lean(book, line, sink)),
     }
 }
 
 // The same of the book without activities and aircraft, of which the call of one number fails.
-fn log(alloc: Global, failing: u64) -> Result<CertLog<MemSink>, Fail> {
+fn log(alloc: Global, version: Version, failing: u64) -> Result<CertLog<MemSink>, Fail> {
     let book = empty_book(alloc)?;
-    Ok(log_of(alloc, &book, vec![in alloc; failing]?)?)
+    Ok(log_of(alloc, version, &book, vec![in alloc; failing]?)?)
 }
 
-// A bar, a split, each kind of leaf, a dual, a cover, and a label with two counters.
-fn events() -> [Event; 7]
+// A bar, a split, each kind of leaf, a dual, a cover, and a label with two counters, of the cover and of a stuck leaf.
+fn events() -> [Event; 9]
     ensures { All IsNotable result }
 {
     [
@@ -53,6 +62,12 @@ fn events() -> [Event; 7]
         Event::Bound,
         Event::Dual(1, -60_000),
         Event::Cover(0, 0),
+        Event::Label {
+            at: 0,
+            weight: 60_000,
+            counters: Row::new([5, 0].as_slice()),
+        },
+        Event::Stuck(1),
         Event::Label {
             at: 0,
             weight: 60_000,
@@ -84,13 +99,25 @@ fn wrote(log: CertLog<MemSink>, bytes: &[u8]) -> bool {
 }
 
 const LINES: &[u8] = b"tailcert 1 0 0 0\nbar 0 3\nsplit link 1 2\nhole 4\nbound\n\
-dual 1 -60000\ncover 0 0\nlabel 0 60000 5 0\nclaim infeasible\n";
+dual 1 -60000\ncover 0 0\nlabel 0 60000 5 0\nstuck 1\nlabel 0 60000 5 0\nclaim infeasible\n";
+
+const LEAN_LINES: &[u8] = b"tailcert 2 0 0 0\nbar 0 3\nsplit link 1 2\nhole 4\nlean\n\
+dual 1 -60000\nstuck 1\nlabel 0 60000 5 0\nclaim infeasible\n";
 
 #[test]
 fn each_event_has_its_line(rt: HostRuntime) -> Result<(), Fail> {
-    let mut log = log(rt.alloc(), 0)?;
+    let mut log = log(rt.alloc(), Version::Full, 0)?;
     assert!(rt; takes_all(rt.alloc(), &mut log));
     assert!(rt; wrote(log, LINES));
+    Ok(())
+}
+
+// A lean certificate has no cover and none of its labels, but those of a stuck leaf.
+#[test]
+fn lean_leaves_have_no_covers(rt: HostRuntime) -> Result<(), Fail> {
+    let mut log = log(rt.alloc(), Version::Lean, 0)?;
+    assert!(rt; takes_all(rt.alloc(), &mut log));
+    assert!(rt; wrote(log, LEAN_LINES));
     Ok(())
 }
 
@@ -104,7 +131,7 @@ fn fails_at_end(alloc: Global, log: &mut CertLog<MemSink>) -> bool {
 // A write that fails leaves what was written before, and is told as such.
 #[test]
 fn a_failed_write_is_told(rt: HostRuntime) -> Result<(), Fail> {
-    let mut log = log(rt.alloc(), 2)?;
+    let mut log = log(rt.alloc(), Version::Full, 2)?;
     assert!(rt; fails_at_end(rt.alloc(), &mut log));
     assert!(rt; log.sink.bytes() == b"tailcert 1 0 0 0\n".as_slice());
     Ok(())
@@ -126,7 +153,7 @@ fn count_noted(log: &mut CertLog<MemSink>) -> u32 {
 // Lines of seven bytes wait until there are 65,536 of these, and are one piece then.
 #[test]
 fn many_lines_are_one_piece(rt: HostRuntime) -> Result<(), Fail> {
-    let mut log = log(rt.alloc(), 3)?;
+    let mut log = log(rt.alloc(), Version::Full, 3)?;
     assert!(rt; count_noted(&mut log) == 2 * 9_363 - 1);
     assert!(rt; log.sink.bytes().len() == 17 + 7 * 9_363);
     Ok(())
@@ -151,6 +178,8 @@ fn log_of_two(alloc: Global) -> Result<CertLog<MemSink>, Memory>
             activities: 2,
             aircraft: 2,
             counters: 0,
+            version: Version::Full,
+            in_cover: false,
             waiting,
             sink,
         }),

@@ -234,12 +234,119 @@ const BY_TURNS: &[Judged] = &[
     ("tailcert 1 3 2 0\nbar 0 2\nbar 1 2\nbar 0 1\n", Err((4, 4))),
 ];
 
+// Lean leaves, where two flights are a minute too close: one at which the aircraft is stuck, with duals and without, and one at
+// the root, which bounds by nothing that would do. Then versions, and lines that have no place.
+const LEAN_WITHOUT_A_PLAN: &[Judged] = &[
+    (
+        "tailcert 2 2 1 0\nsplit fly 0 1\nlean\nhole 1\nclaim infeasible\n",
+        Ok(Claim::Infeasible),
+    ),
+    (
+        "tailcert 2 2 1 0\nsplit fly 0 1\nlean\ndual 0 1000\ndual 1 -1000\nhole 1\nclaim infeasible\n",
+        Ok(Claim::Infeasible),
+    ),
+    (
+        "tailcert 2 2 1 0\nsplit fly 0 1\nstuck 0\nlabel 0 60000\nhole 1\nclaim infeasible\n",
+        Ok(Claim::Infeasible),
+    ),
+    (
+        "tailcert 2 2 1 0\nbar 0 1\nlean\nclaim infeasible\n",
+        Err((4, 9)),
+    ),
+    ("tailcert 2 2 1 0\nlean\nclaim infeasible\n", Err((3, 9))),
+    ("lean\n", Err((1, 1))),
+    ("tailcert 1 2 1 0\nlean\n", Err((2, 1))),
+    ("tailcert 1 2 1 0\ntailcert 2 2 1 0\n", Err((2, 1))),
+    ("tailcert 2 2 1 0\ntailcert 2 2 1 0\n", Err((2, 2))),
+    ("tailcert 2 2 1 0\ntailcert 1 2 1 0\n", Err((2, 2))),
+    ("tailcert 2 2 2 0\n", Err((1, 2))),
+    ("tailcert 3 2 1 0\n", Err((1, 1))),
+    ("tailcert 2 2 1 0\nlean\nlean\n", Err((3, 2))),
+    ("tailcert 2 2 1 0\nlean\nbar 0 1\n", Err((3, 2))),
+    ("tailcert 2 2 1 0\nlean\nlabel 0 0\n", Err((3, 2))),
+    ("tailcert 2 2 1 0\nlean\nfly 0 0\n", Err((3, 2))),
+    ("tailcert 2 2 1 0\nlean\ndual 2 1\n", Err((3, 2))),
+    ("tailcert 2 2 1 0\nlean\ndual 1 1\ndual 1 1\n", Err((4, 2))),
+    ("tailcert 2 2 1 0\nlean 0\n", Err((2, 1))),
+    (
+        "tailcert 2 2 1 0\nsplit fly 0 1\nlean\nplan\n",
+        Err((4, 10)),
+    ),
+    (
+        "tailcert 1 2 1 0\nsplit fly 0 1\nstuck 0\nlabel 0 60001\nlean\n",
+        Err((5, 1)),
+    ),
+    (
+        "tailcert 2 2 1 0\nsplit fly 0 1\nstuck 0\nlabel 0 60001\nlean\n",
+        Err((3, 6)),
+    ),
+    ("tailcert 2 2 1 0\nlean", Err((2, 10))),
+    ("tailcert 2 2 1 0\nlean\n", Err((3, 10))),
+    ("tailcert 2 2 1 0\nlean\ndual 0 1\n", Err((4, 10))),
+];
+
+// A lean leaf without aircraft.
+const LEAN_WITHOUT_AIRCRAFT: &[Judged] = &[
+    (
+        "tailcert 2 1 0 0\nlean\ndual 0 1001\nclaim limit 2 -\n",
+        Ok(Claim::Limit { low: 2, high: None }),
+    ),
+    (
+        "tailcert 2 1 0 0\nlean\ndual 0 1001\nclaim limit 3 -\n",
+        Err((4, 9)),
+    ),
+];
+
+// A lean leaf whose duals bound by the least cost, and what is one line away from it; and a leaf with covers in a text that
+// may have lean ones.
+const LEAN_AT_THE_LEAST: &[Judged] = &[
+    (
+        "tailcert 2 2 2 0\nlean\ndual 0 120000\ndual 1 180000\nplan\nfly 0 1\nfly 1 0\nclaim optimal 240\n",
+        Ok(Claim::Optimal(240)),
+    ),
+    (
+        "tailcert 2 2 2 0\nlean\ndual 0 120000\ndual 1 179000\nplan\nfly 0 1\nfly 1 0\nclaim optimal 240\n",
+        Err((8, 9)),
+    ),
+    ("tailcert 2 2 2 0\nlean\ndual 0 4000001001\n", Err((3, 7))),
+    ("tailcert 1 2 2 0\nlean\ndual 0 120000\n", Err((2, 1))),
+    (
+        "tailcert 2 2 2 0\nlean\ndual 0 120000\ndual 1 180000\ncover 0 0\n",
+        Err((5, 2)),
+    ),
+    (
+        "tailcert 2 2 2 0\nlean\nclaim limit 0 -\n",
+        Ok(Claim::Limit { low: 0, high: None }),
+    ),
+    (
+        "tailcert 2 2 2 0\nbound\ndual 0 120000\ndual 1 180000\ncover 0 -60000\nlabel 0 -60000\nlabel 1 -60000\ncover 1 0\nlabel 0 0\nlabel 1 60000\nclaim limit 240 -\n",
+        Ok(Claim::Limit {
+            low: 240,
+            high: None,
+        }),
+    ),
+    (
+        "tailcert 2 2 2 0\nsplit fly 0 0\nlean\ndual 0 120000\ndual 1 180000\nlean\ndual 0 120000\ndual 1 180000\nclaim limit 240 -\n",
+        Ok(Claim::Limit {
+            low: 240,
+            high: None,
+        }),
+    ),
+];
+
 // What the texts are about, their book, and their verdicts.
 const TEXTS: &[(&str, Made, &[Judged])] = &[
     ("trees without a bound", LATE, WITHOUT_A_BOUND),
     ("nobody covers", NOBODY, NOBODY_COVERS),
     ("branches and low sums", RATES, BRANCHES_AND_LOW_SUMS),
     ("steps by turns", TOO_SOON, BY_TURNS),
+    ("lean leaves without a plan", LATE, LEAN_WITHOUT_A_PLAN),
+    (
+        "lean leaves without aircraft",
+        NOBODY,
+        LEAN_WITHOUT_AIRCRAFT,
+    ),
+    ("lean leaves at the least", RATES, LEAN_AT_THE_LEAST),
 ];
 
 fn texts() -> &'static [(&'static str, Made, &'static [Judged])] {

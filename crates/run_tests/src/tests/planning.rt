@@ -6,6 +6,7 @@ mod counters;
 mod curfews;
 mod families;
 mod faults;
+mod least_bounds;
 mod limits;
 mod links;
 mod memory;
@@ -32,7 +33,8 @@ use tail_outside::MemFile;
 
 const WORDS: [&str; 4] = ["tailplan", "t", "f", "r"];
 
-const USAGE: &str = "usage: tailplan TIMETABLE FLEET RULES [--nodes N] [--cert FILE]\n";
+const USAGE: &str =
+    "usage: tailplan TIMETABLE FLEET RULES [--nodes N] [--cert FILE [--lean]] [--best]\n";
 
 /// A run: its words, the pieces of its tables, the calls of the files and of the sink that fail, and the status and the text
 /// that it ends with.

@@ -1,4 +1,4 @@
-//! Certificates of books by chance: what a search writes while it runs is accepted, for what it answers.
+//! Certificates of books by chance: what a search in either order writes, in either version, is accepted, for what it answers.
 
 ghost use Rattle.std.specs.Prelude.{◌≡◌};
 ghost use Rattle.tail_book.specs.CostTable.{costs_of};
@@ -6,7 +6,8 @@ ghost use Rattle.tail_book.specs.CostTable.{costs_of};
 use super::book_by_chance;
 use branch_tree::Limit;
 use cert_checker::{Verdict, judge};
-use certified_search::{Certified, certified_search};
+use cert_lines::Version;
+use certified_search::{Certified, Order, certified_search};
 use dice::Dice;
 use std::alloc::Global;
 use tail_book::*;
@@ -22,13 +23,17 @@ fn is_accepted(alloc: Global, book: &Book, written: &Certified<MemSink>) -> bool
     }
 }
 
-// Whether a search within the limit writes what is accepted.
-fn writes_so(alloc: Global, book: &Book, table: &CostTable, limit: Limit) -> bool
+// An order and a version.
+type Way = (Order, Version);
+
+// Whether a search in this order and within the limit writes, in this version, what is accepted.
+fn writes_so(alloc: Global, book: &Book, table: &CostTable, limit: Limit, way: Way) -> bool
     requires { table.now ≡ costs_of book.now }
 {
     match MemSink::new(alloc, Vec::new(alloc)) {
         Ok(sink) => {
-            let written = certified_search(alloc, book, table, limit, sink);
+            let (order, version) = way;
+            let written = certified_search(alloc, book, table, limit, order, version, sink);
             is_accepted(alloc, book, &written)
         }
         Err(_) => false,
@@ -44,11 +49,11 @@ const LIMITS: [Limit; 4] = [
 ];
 
 // The number of the first limit at which another thing is written, if there is one.
-fn first_wrong(alloc: Global, book: &Book, table: &CostTable) -> Option<usize>
+fn first_wrong(alloc: Global, book: &Book, table: &CostTable, way: Way) -> Option<usize>
     requires { table.now ≡ costs_of book.now }
 {
     for number in 0..LIMITS.len() {
-        if !writes_so(alloc, book, table, LIMITS[number]) {
+        if !writes_so(alloc, book, table, LIMITS[number], way) {
             return Some(number);
         }
     }
@@ -56,27 +61,34 @@ fn first_wrong(alloc: Global, book: &Book, table: &CostTable) -> Option<usize>
 }
 
 // The same by the book's own costs.
-fn first_wrong_of(alloc: Global, book: &Book) -> Option<usize> {
+fn first_wrong_of(alloc: Global, book: &Book, way: Way) -> Option<usize> {
     match CostTable::of(alloc, book) {
-        Ok(table) => first_wrong(alloc, book, &table),
+        Ok(table) => first_wrong(alloc, book, &table, way),
         Err(_) => Some(0),
     }
 }
 
 // The same of the next book.
-fn next_wrong(alloc: Global, dice: &mut Dice) -> Option<usize> {
+fn next_wrong(alloc: Global, dice: &mut Dice, way: Way) -> Option<usize> {
     match book_by_chance(alloc, dice) {
-        Some(book) => first_wrong_of(alloc, &book),
+        Some(book) => first_wrong_of(alloc, &book, way),
         None => Some(0),
     }
 }
 
-// Three hundred books.
+// Three hundred books, depth first and by least bound, with full and with lean certificates.
 #[test]
 fn certificates_are_accepted(rt: HostRuntime) {
-    let mut dice = Dice::new(29);
-    for turn in 0..300u32 {
-        let wrong = next_wrong(rt.alloc(), &mut dice);
-        assert!(rt; wrong.is_none(), "book {turn}, limit {wrong:?}");
+    for &way in &[
+        (Order::DepthFirst, Version::Full),
+        (Order::DepthFirst, Version::Lean),
+        (Order::LeastBound, Version::Full),
+        (Order::LeastBound, Version::Lean),
+    ] {
+        let mut dice = Dice::new(29);
+        for turn in 0..300u32 {
+            let wrong = next_wrong(rt.alloc(), &mut dice, way);
+            assert!(rt; wrong.is_none(), "{way:?}, book {turn}, limit {wrong:?}");
+        }
     }
 }

@@ -5,38 +5,14 @@ ghost use Rattle.tail_book.specs.CostTable.{IsTableFor};
 
 use super::branching::branching_books;
 use super::{book_by_chance, book_of, nodes_in};
-use best_first::search_best;
 use branch_marks::MemTree;
-use branch_tree::{Limit, Stop, search};
+use branch_tree::Limit;
+use certified_search::{Order, search_in_order};
 use dice::Dice;
 use plan_audit::audit_plan;
 use small_books::costs;
 use std::alloc::Global;
 use tail_book::*;
-
-// The order in which nodes are counted.
-#[derive(Clone, Copy)]
-enum Order {
-    DepthFirst,
-    LeastBound,
-}
-
-// A search in an order, told to this log.
-fn searched(
-    alloc: Global,
-    book: &Book,
-    table: &CostTable,
-    order: Order,
-    limit: Limit,
-    log: &mut MemTree,
-) -> Result<Outcome, Stop>
-    requires { IsTableFor book.now table.now }
-{
-    match order {
-        Order::DepthFirst => search(alloc, book, table, limit, log),
-        Order::LeastBound => search_best(alloc, book, table, limit, log),
-    }
-}
 
 // What is known of the least cost at a limit: a number that it reaches, and what a plan costs if there is one. No plan reaches
 // the greatest number.
@@ -132,7 +108,7 @@ fn known_with(
 ) -> Option<Known>
     requires { IsTableFor book.now table.now }
 {
-    match searched(alloc, book, table, order, Limit::Nodes(most), log) {
+    match search_in_order(alloc, book, table, Limit::Nodes(most), order, log) {
         Ok(outcome) => known_by(alloc, book, table, &outcome, most),
         Err(_) => None,
     }
@@ -153,7 +129,7 @@ fn size_of(alloc: Global, book: &Book, table: &CostTable, order: Order) -> Optio
 {
     match MemTree::new(alloc) {
         Ok(mut log) => {
-            if searched(alloc, book, table, order, Limit::Free, &mut log).is_ok() {
+            if search_in_order(alloc, book, table, Limit::Free, order, &mut log).is_ok() {
                 Some(nodes_in(log.events()))
             } else {
                 None

@@ -1,12 +1,13 @@
 //! Certificates in memory of a book of one flight, for which there is no aircraft: without a limit, at a limit of no nodes, and
-//! where a write fails.
+//! where a write fails. Either order writes the same.
 
 ghost use Rattle.std.specs.Prelude.{◌≡◌};
 ghost use Rattle.tail_book.specs.CostTable.{costs_of};
 
 use super::claims;
 use branch_tree::{Limit, Stop};
-use certified_search::{Certified, certified_search};
+use cert_lines::Version;
+use certified_search::{Certified, Order, certified_search};
 use small_books::{flight, plain_book};
 use std::alloc::Global;
 use std::test::Fail;
@@ -72,12 +73,12 @@ fn sink_of(alloc: Global, failing: &[u64]) -> Result<MemSink, Memory> {
     MemSink::new(alloc, failing.to_vec(alloc)?)
 }
 
-fn writes_so(alloc: Global, book: &Book, table: &CostTable, case: &Case) -> bool
+fn writes_so(alloc: Global, book: &Book, table: &CostTable, case: &Case, order: Order) -> bool
     requires { table.now ≡ costs_of book.now }
 {
     match sink_of(alloc, case.failing) {
         Ok(sink) => {
-            let done = certified_search(alloc, book, table, case.limit, sink);
+            let done = certified_search(alloc, book, table, case.limit, order, Version::Full, sink);
             is_so(&done, case)
         }
         Err(_) => false,
@@ -85,9 +86,9 @@ fn writes_so(alloc: Global, book: &Book, table: &CostTable, case: &Case) -> bool
 }
 
 // The same by the book's own costs.
-fn is_written(alloc: Global, book: &Book, case: &Case) -> bool {
+fn is_written(alloc: Global, book: &Book, case: &Case, order: Order) -> bool {
     match CostTable::of(alloc, book) {
-        Ok(table) => writes_so(alloc, book, &table, case),
+        Ok(table) => writes_so(alloc, book, &table, case, order),
         Err(_) => false,
     }
 }
@@ -95,8 +96,10 @@ fn is_written(alloc: Global, book: &Book, case: &Case) -> bool {
 #[test]
 fn a_lone_flight_is_certified(rt: HostRuntime) -> Result<(), Fail> {
     let book = plain_book(rt.alloc(), &[flight((0, 1), (360, 420))], &[], 30)?;
-    for case in &CASES {
-        assert!(rt; is_written(rt.alloc(), &book, case), "{}", case.name);
+    for &order in &[Order::DepthFirst, Order::LeastBound] {
+        for case in &CASES {
+            assert!(rt; is_written(rt.alloc(), &book, case, order), "{}", case.name);
+        }
     }
     Ok(())
 }

@@ -6,8 +6,8 @@ use Rattle.tailplan.specs.declared.words.TaskNames.{TaskNames}
 
 -- the names, as bytes
 abbrev pub task_names_seen : TaskNames → TaskNamesSeen
-task_names_seen names = record { tables = names_seen names.tables; limit = names.limit; cert = option_map (λ s. s.now) names.cert }
+task_names_seen names = record { tables = names_seen names.tables; limit = names.limit; order = names.order; version = names.version; cert = option_map (λ s. s.now) names.cert }
 
 -- as much of the tables as is read
 abbrev pub task_fronts : TaskSeen → TaskSeen
-task_fronts task = record { tables = fronts task.tables; limit = task.limit; cert = task.cert }
+task_fronts task = record { tables = fronts task.tables; limit = task.limit; order = task.order; version = task.version; cert = task.cert }

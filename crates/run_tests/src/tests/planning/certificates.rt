@@ -103,6 +103,16 @@ pub const LIMITED: Asked<'_> = Asked {
     ..CROSSED
 };
 
+// The words that ask for a lean certificate, and the same with no node counted.
+const LEAN: &[&str] = &["tailplan", "t", "f", "r", "--cert", "c", "--lean"];
+
+const LEAN_LIMITED: Asked<'_> = Asked {
+    words: &[
+        "tailplan", "t", "--lean", "f", "r", "--nodes", "0", "--cert", "c",
+    ],
+    ..CROSSED
+};
+
 // A flight that nobody is there to fly.
 const UNFLOWN: Asked<'_> = Asked {
     words: CERTIFIED,
@@ -128,6 +138,7 @@ fn certificates_are_written(rt: HostRuntime) -> Result<(), Fail> {
             "tailcert 1 2 2 0\nbound\ncover 0 0\nlabel 0 60000\nlabel 1 120000\ncover 1 0\n\
 label 0 120000\nlabel 1 240000\nclaim limit 0 -\n",
         ),
+        (LEAN_LIMITED, 4, "tailcert 2 2 2 0\nlean\nclaim limit 0 -\n"),
     ] {
         assert!(rt; is_written(rt.alloc(), asked, *status, cert)?, "{cert}");
     }
@@ -226,7 +237,7 @@ fn calls_leave_a_front(rt: &impl Abort, alloc: Global, asked: &Asked<'_>) -> Res
 // Each call of the files fails in turn.
 #[test]
 fn failed_calls_leave_a_front(rt: HostRuntime) -> Result<(), Fail> {
-    for asked in &[UNFLOWN, CROSSED, LIMITED] {
+    for asked in &[UNFLOWN, CROSSED, LIMITED, LEAN_LIMITED] {
         calls_leave_a_front(&rt, rt.alloc(), asked)?;
     }
     Ok(())
@@ -265,19 +276,20 @@ pub fn judged(
     Ok(judge(alloc, &book, cert)?)
 }
 
-/// The verdict on the certificate that is left by a run over these texts.
+/// The verdict on the certificate that is left by a run by these words over these texts.
 pub fn verdict_on(
     alloc: Global,
+    words: &[&str],
     records: &str,
     fleet: &[&str],
     rules: &[&str],
 ) -> Result<Verdict, Fail> {
     let files = table_files(alloc, &[TIMETABLE, records], fleet, rules)?;
-    let left = left_by(alloc, CERTIFIED, files, &[], &[])?;
+    let left = left_by(alloc, words, files, &[], &[])?;
     judged(alloc, &[TIMETABLE, records], fleet, rules, &left.cert)
 }
 
-// What is written is accepted: a plan of least cost, one in which a dear arrival survives, and that there is none.
+// What is written in either version is accepted: a plan of least cost, one in which a dear arrival survives, and that there is none.
 #[test]
 fn certificates_are_accepted(rt: HostRuntime) -> Result<(), Fail> {
     for &(records, aircraft, rules, claim) in &[
@@ -290,8 +302,16 @@ fn certificates_are_accepted(rt: HostRuntime) -> Result<(), Fail> {
         ),
         (THERE_AND_BACK, "", "", Claim::Infeasible),
     ] {
-        let verdict = verdict_on(rt.alloc(), records, &[FLEET, aircraft], &[RULES, rules])?;
-        assert!(rt; verdict == Verdict::Yes(claim), "{claim:?}");
+        for &words in &[CERTIFIED, LEAN] {
+            let verdict = verdict_on(
+                rt.alloc(),
+                words,
+                records,
+                &[FLEET, aircraft],
+                &[RULES, rules],
+            )?;
+            assert!(rt; verdict == Verdict::Yes(claim), "{claim:?}, {words:?}");
+        }
     }
     Ok(())
 }

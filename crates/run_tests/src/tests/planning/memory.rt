@@ -2,6 +2,7 @@
 //! does; `tests/each_allocation` runs it with each of them failing in turn.
 
 use super::certificates::{Asked, CERTIFIED, CROSSED, LIMITED, Left, judged, left_over_old};
+use super::least_bounds::BEST_CERTIFIED;
 use cert_checker::Verdict;
 use run_frame::NO_MEMORY;
 use small_texts::{FLEET, RULES, THREE_LANDINGS, TIMETABLE, TWO_AT_ARLANDA, WITH_A_STOP};
@@ -70,11 +71,20 @@ fn ends_as_it_may(rt: &impl Abort, alloc: Global, due: &Ended<'_>) -> Result<(),
     }
 }
 
-// A least plan of two, one in which a dear arrival survives, and a bound where no node is counted.
+// A least plan of two, in either order of search, one in which a dear arrival survives, and a bound where no node is counted.
 fn each_ends_as_it_may(rt: &impl Abort, alloc: Global) -> Result<(), Fail> {
     for due in &[
         Ended {
             asked: CROSSED,
+            status: 0,
+            printed: "optimal 240\nA1: F2\nA2: F1\n",
+            claim: Claim::Optimal(240),
+        },
+        Ended {
+            asked: Asked {
+                words: BEST_CERTIFIED,
+                ..CROSSED
+            },
             status: 0,
             printed: "optimal 240\nA1: F2\nA2: F1\n",
             claim: Claim::Optimal(240),

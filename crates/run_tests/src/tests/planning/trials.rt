@@ -4,7 +4,8 @@ use super::{Run, USAGE, USUAL, book_of, each_run_ends_so, ends_failing, ends_ove
 use crate::tests::runs::{Program, seen_by};
 use branch_tree::Limit;
 use cert_checker::{Verdict, judge};
-use certified_search::certified_search;
+use cert_lines::Version;
+use certified_search::{Order, certified_search};
 use run_frame::{Finding, NO_MEMORY};
 use small_texts::{FLEET, ONE_AT_ARLANDA, RULES, Seen, THERE_AND_BACK, TIMETABLE};
 use std::alloc::Global;
@@ -204,7 +205,15 @@ fn the_certificate_of_a_trial_is_judged(rt: HostRuntime) -> Result<(), Fail> {
 fn certificate_of(alloc: Global, book: &Book) -> Result<Vec<u8>, Fail> {
     let table = CostTable::of(alloc, book)?;
     let sink = MemSink::new(alloc, Vec::new(alloc))?;
-    let done = certified_search(alloc, book, &table, Limit::Nodes(50), sink);
+    let done = certified_search(
+        alloc,
+        book,
+        &table,
+        Limit::Nodes(50),
+        Order::DepthFirst,
+        Version::Full,
+        sink,
+    );
     Ok(done.sink.bytes().to_vec(alloc)?)
 }
 

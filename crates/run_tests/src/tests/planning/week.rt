@@ -1,6 +1,7 @@
 //! The week of the example tables: 97 activities on six aircraft, three counters and two curfews.
 
-use super::certificates::verdict_on;
+use super::certificates::{CERTIFIED, verdict_on};
+use super::least_bounds::{BEST, BEST_CERTIFIED};
 use super::{WORDS, seen_over};
 use cert_checker::Verdict;
 use small_texts::{FLEET, Seen, TIMETABLE, WEEK_AIRCRAFT, WEEK_RULES, table_files, week_records};
@@ -19,8 +20,8 @@ fn lines_of(seen: &Seen) -> u32 {
     lines
 }
 
-// What is seen of the run over the week.
-fn week_seen(alloc: Global) -> Result<Seen, Fail> {
+// What is seen of the run over the week by these words.
+fn week_seen(alloc: Global, words: &[&str]) -> Result<Seen, Fail> {
     let records = week_records(alloc)?;
     let files = table_files(
         alloc,
@@ -28,29 +29,41 @@ fn week_seen(alloc: Global) -> Result<Seen, Fail> {
         &[FLEET, WEEK_AIRCRAFT],
         &[WEEK_RULES],
     )?;
-    seen_over(alloc, &WORDS, files, &[], &[])
+    seen_over(alloc, words, files, &[], &[])
 }
 
-// 4,320 minutes to and from Oslo cost 10 each at least, and 3,600 to and from London 12.
+// 4,320 minutes to and from Oslo cost 10 each at least, and 3,600 to and from London 12. So it is in either order of search.
 #[test]
 fn the_week_costs_86400(rt: HostRuntime) -> Result<(), Fail> {
-    let seen = week_seen(rt.alloc())?;
-    let begins = seen.printed.starts_with(b"optimal 86400\nA1:".as_slice());
-    assert!(rt;
-        seen.status == 0 && begins && lines_of(&seen) == 7,
-        "{seen:?}"
-    );
+    let rows: &[&[&str]] = &[&WORDS, BEST];
+    for &words in rows {
+        let seen = week_seen(rt.alloc(), words)?;
+        let begins = seen.printed.starts_with(b"optimal 86400\nA1:".as_slice());
+        assert!(rt;
+            seen.status == 0 && begins && lines_of(&seen) == 7,
+            "{seen:?}"
+        );
+    }
     Ok(())
 }
 
-// So says its certificate.
+// So say its certificates.
 #[test]
 fn the_week_is_certified(rt: HostRuntime) -> Result<(), Fail> {
     let records = week_records(rt.alloc())?;
-    let verdict = verdict_on(rt.alloc(), &records, &[FLEET, WEEK_AIRCRAFT], &[WEEK_RULES])?;
-    assert!(rt;
-        verdict == Verdict::Yes(Claim::Optimal(86_400)),
-        "{verdict:?}"
-    );
+    let rows: &[&[&str]] = &[CERTIFIED, BEST_CERTIFIED];
+    for &words in rows {
+        let verdict = verdict_on(
+            rt.alloc(),
+            words,
+            &records,
+            &[FLEET, WEEK_AIRCRAFT],
+            &[WEEK_RULES],
+        )?;
+        assert!(rt;
+            verdict == Verdict::Yes(Claim::Optimal(86_400)),
+            "{verdict:?}"
+        );
+    }
     Ok(())
 }

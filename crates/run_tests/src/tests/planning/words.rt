@@ -24,6 +24,14 @@ fn other_words_are_refused(rt: HostRuntime) -> Result<(), Fail> {
         &["tailplan", "t", "f", "r", "--nodes", "1", "2"],
         &["tailplan", "t", "f", "r", "--cert"],
         &["tailplan", "t", "f", "r", "--cert", "c", "--cert", "c"],
+        &["tailplan", "t", "f", "r", "--best", "--best"],
+        &["tailplan", "t", "f", "r", "--best=1"],
+        &["tailplan", "t", "f", "r", "--best", "1"],
+        &["tailplan", "t", "f", "--best"],
+        &["tailplan", "t", "f", "r", "--lean"],
+        &["tailplan", "t", "f", "r", "--cert", "--lean"],
+        &["tailplan", "t", "f", "r", "--cert=c", "--lean", "--lean"],
+        &["tailplan", "t", "f", "r", "--cert=c", "--lean=1"],
         &["tailplan", "-t", "f", "r"],
         &["tailplan", "t", "f", "--"],
     ];
@@ -41,7 +49,8 @@ fn is_planned(alloc: Global, words: &[&str]) -> Result<bool, Fail> {
     ends_over(alloc, words, files, 0, "optimal 120\nA1: F1 F2\n")
 }
 
-// Three names are taken, whatever the program is called; behind two dashes also names that begin with a dash.
+// Three names are taken, whatever the program is called, and beside them the flag for the least bound; behind two dashes also names
+// that begin with a dash.
 #[test]
 fn three_names_are_taken(rt: HostRuntime) -> Result<(), Fail> {
     let rows: &[&[&str]] = &[
@@ -50,6 +59,8 @@ fn three_names_are_taken(rt: HostRuntime) -> Result<(), Fail> {
         &["tailplan", "--", "t", "f", "r"],
         &["tailplan", "t", "--", "f", "r"],
         &["tailplan", "--", "-t", "f", "r"],
+        &["tailplan", "t", "f", "r", "--best"],
+        &["tailplan", "--best", "--nodes", "7", "t", "--", "f", "r"],
     ];
     for &words in rows {
         assert!(rt; is_planned(rt.alloc(), words)?, "{words:?}");

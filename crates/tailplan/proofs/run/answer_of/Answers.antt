@@ -14,7 +14,7 @@ returns-in-Ok-clause-answer g c =
     let names = task_names_seen c.in-Ok-Some.names in let words = spelled c.args.words.now in let files = g.F.Files.shows c.args.files in
     let later = g.F.Files.shows c.solved.result.files in
     let is : run_of words ≡ Some names = search rules in
-    let task : TaskSeen = record { tables = c.in-Ok.tables; limit = names.limit; cert = names.cert } in
+    let task : TaskSeen = record { tables = c.in-Ok.tables; limit = names.limit; order = names.order; version = names.version; cert = names.cert } in
     if_ok (IsAnswerTo AreRefused (AreSolved later) task) (IsTrueAnswer words files later) c.solved.result.answer
     (λ answer own. true_answer words files later names task answer is (task-read files names c.in-Ok.tables c.in-Ok.ensures.tables) own) c.solved.ensures.answer
 
@@ -23,6 +23,6 @@ pub returns-in-Ok-clause-left : goal.returns-in-Ok-clause-left
 returns-in-Ok-clause-left g c =
     let names = task_names_seen c.in-Ok-Some.names in let words = spelled c.args.words.now in let files = g.F.Files.shows c.args.files in
     let is : run_of words ≡ Some names = search rules in
-    let task : TaskSeen = record { tables = c.in-Ok.tables; limit = names.limit; cert = names.cert } in
+    let task : TaskSeen = record { tables = c.in-Ok.tables; limit = names.limit; order = names.order; version = names.version; cert = names.cert } in
     left_before words files (g.F.Files.shows c.read_tables.new.files) (g.F.Files.shows c.solved.result.files) names is c.read_tables.ensures.only_read task refl
     (task-read files names c.in-Ok.tables c.in-Ok.ensures.tables) c.solved.ensures.left

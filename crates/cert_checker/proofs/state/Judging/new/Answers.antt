@@ -23,4 +23,5 @@ returns-clause-judging c =
       starts = search rules;
       floors = c.in_ok-floors.ensures branches.marks.facts;
       width = search rules;
+      pricer = tt;
     }

@@ -28,4 +28,5 @@ returns-clause-judging c =
       starts = is.starts;
       floors = is.floors;
       width = is.width;
+      pricer = is.pricer;
     }

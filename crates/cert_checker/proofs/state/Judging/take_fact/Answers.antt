@@ -54,4 +54,5 @@ returns-clause-judging c =
       floors = subst (λ (facts : List Fact). AreAllUnder book facts c.give_up.new.self.rows.items) (sym c.in_ok-add.ensures.facts)
           (c.give_up.ensures book mid.branches.marks.facts c.follows.ensures.kept);
       width = grind (arith, common_steps);
+      pricer = is.pricer;
     }

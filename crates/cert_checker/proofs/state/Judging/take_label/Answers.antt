@@ -32,4 +32,5 @@ returns-clause-judging c =
       starts = is.starts;
       floors = is.floors;
       width = is.width;
+      pricer = is.pricer;
     }

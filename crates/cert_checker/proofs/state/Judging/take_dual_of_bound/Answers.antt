@@ -1,6 +1,6 @@
 use Rattle.std.proofs.Common.{◌∙◌, ◌≤◌, ◌<◌, length, sym, arith}
 use Rattle.cert_checker.proofs.Keeping.{dual_place}
-use Rattle.cert_checker.proofs.state.Judging.take_dual.Goals as goal
+use Rattle.cert_checker.proofs.state.Judging.take_dual_of_bound.Goals as goal
 
 pub overflow_add-self : goal.overflow_add-self
 overflow_add-self c =
