@@ -1,8 +1,10 @@
 -- What calls on a log say of the events that it tells, from before to after. All but `IsLater` speak of a log that has not
 -- ceased by the call's end, and of each list that it told before.
-use Rattle.std.specs.Prelude.{ℕ, ℤ, ⊤, false, ◌≡◌, ◌⊎◌, ◌≤◌, List, [], ◌∷◌, ◌++◌}
+use Rattle.std.specs.Prelude.{ℕ, ℤ, false, ◌≡◌, ◌⊎◌, ◌≤◌, List, [], ◌∷◌, ◌++◌}
 use Rattle.branch_marks.specs.declared.event.Event.{Event}
-use Rattle.branch_marks.specs.declared.event.Event.TheVariants.{Stuck, Cover, Label}
+use Rattle.branch_marks.specs.declared.event.Event.TheVariants as event
+use Rattle.branch_marks.specs.ProofTree.{Cover}
+use Rattle.branch_marks.specs.TreeEvents.{cover_event}
 use Rattle.branch_marks.specs.LogShown.{LogShown}
 use Rattle.tail_book.specs.Faults.{HasRisen}
 
@@ -10,17 +12,9 @@ use Rattle.tail_book.specs.Faults.{HasRisen}
 abbrev pub TellsNothing : LogShown → Type 0
 TellsNothing log = (told : List Event) → log.tells told → ⊥
 
--- a label may follow the event: it begins a family of labels, or is one of them
-abbrev pub MayLabelFollow : Event → Type 0
-MayLabelFollow (Stuck k) = ⊤
-MayLabelFollow (Cover k value) = ⊤
-MayLabelFollow (Label at weight counters) = ⊤
-MayLabelFollow event = ⊥
-
--- the log leaves labels out: where a label may follow, one label more changes nothing that is told
+-- the log leaves the labels of covers out: where it tells a cover without labels, it tells the same with any of them
 abbrev pub LeavesLabelsOut : LogShown → Type 0
-LeavesLabelsOut log = (told : List Event) (last : Event) (at : ℕ) (weight : ℤ) (counters : List ℤ) → MayLabelFollow last
-    → log.tells (told ++ last ∷ []) → log.tells ((told ++ last ∷ []) ++ Label at weight counters ∷ [])
+LeavesLabelsOut log = (told : List Event) (k : ℕ) (cover : Cover) → log.tells (told ++ event.Cover k cover.value ∷ []) → log.tells (told ++ cover_event k cover)
 
 -- the log tells the list with all of the due events at its end
 abbrev pub Notes : LogShown → LogShown → List Event → Type 0

@@ -37,7 +37,8 @@ pub trait TreeLog {
     fn wants_events(&self) -> bool
         ensures { result ≡ false → TellsNothing (shows self.now) };
 
-    /// Whether labels are wanted. A log that wants none tells the same without them, so that no family has to be made for it.
+    /// Whether the labels of covers are wanted. A log that wants none tells the same without them, so that no family has to
+    /// be made for a cover.
     fn wants_labels(&self) -> bool
         ensures { result ≡ false → LeavesLabelsOut (shows self.now) };
 
