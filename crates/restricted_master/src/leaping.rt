@@ -1,4 +1,5 @@
 //! Leaps: where sweeps creep, duals go on along the way of the last one, twice as far each time, as long as their sum rises.
+//! The way of one sweep can turn back at the next, so that no leap goes: after many sweeps a leap tries the way of all of them.
 //!
 //! Of some pools the sum rises by little more than a cost unit a sweep, up to the ends of the box, which are some hundred
 //! million cost units away: always the same duals rise, and the same ones fall. A leap goes there in some thirty turns.
@@ -28,10 +29,15 @@ use tail_book::{Book, CostTable, Memory};
 // A leap has at most so many turns: then even a way of one thousandth is longer than the box.
 const TURNS: u32 = 62;
 
+/// After each so many sweeps a leap goes along the way of all of them.
+pub const MANY: u64 = 64;
+
 /// Where duals were before a sweep, and where they may go: with the weights of all routes there, and the least of each aircraft.
 #[derive(Drop)]
 pub struct Leap {
+    // before the last sweep, and before the last many
     before: Vec<i64>,
+    earlier: Vec<i64>,
     duals: Vec<i64>,
     weights: Vec<i64>,
     values: Vec<i64>,
@@ -128,19 +134,31 @@ impl Leap {
         let (n, m) = (book.activities.len(), book.tails.len());
         Ok(Leap {
             before: vec![in alloc; 0i64; n]?,
+            earlier: vec![in alloc; 0i64; n]?,
             duals: vec![in alloc; 0i64; n]?,
             weights: vec![in alloc; 0i64; pool.count()]?,
             values: vec![in alloc; 0i64; m]?,
         })
     }
 
-    /// Notes where the duals are before a sweep.
-    pub fn begin(&mut self, book: &Book, pool: &Pool, duals: &[i64])
+    /// Notes where the duals are before a sweep, by its number, which begins at 1.
+    pub fn begin(&mut self, book: &Book, pool: &Pool, duals: &[i64], sweep: u64)
         requires room { IsLeapRoom book.now pool.now self.old }
         requires duals { length duals.now ≡ activities book.now }
         ensures room { IsLeapRoom book.now pool.now self.new }
     {
         self.before.copy_from_slice(duals);
+        if sweep % MANY == 1 {
+            self.earlier.copy_from_slice(duals);
+        }
+    }
+
+    /// Lets leaps go along the way of the last many sweeps, until the next sweep begins.
+    pub fn look_back(&mut self, book: &Book, pool: &Pool)
+        requires room { IsLeapRoom book.now pool.now self.old }
+        ensures room { IsLeapRoom book.now pool.now self.new }
+    {
+        self.before.copy_from_slice(&self.earlier);
     }
 
     // Goes twice as far, and weighs all routes there.

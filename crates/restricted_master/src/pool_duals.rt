@@ -3,7 +3,7 @@
 //! This is coordinate ascent of the Lagrangian sum over a pool. The sum is a concave function of each dual, and the best
 //! number of one is found exactly (`switching`). Each move gains at least a cost unit, and the sum is bounded over the
 //! box, so it ends. All memory is asked for before the first dual moves.
-//! Where that takes many sweeps, leaps go on along the way of a sweep (`leaping`), and what they end with is swept again.
+//! Where that takes many sweeps, leaps go on along the way of one or of many (`leaping`), and what they end with is swept again.
 //! A look at an activity is a walk over its routes, and over those of the aircraft that take it now. It is looked at
 //! again only where another dual has moved since.
 
@@ -19,7 +19,7 @@ ghost use Rattle.restricted_master.specs.inside.Leaps.{IsLeapRoom};
 ghost use Rattle.restricted_master.specs.inside.Moving.{is_due, IsWork, Settles, Sweeps, Visits};
 
 use crate::choice::Choice;
-use crate::leaping::Leap;
+use crate::leaping::{Leap, MANY};
 use crate::moving::look_at;
 use crate::pool_weights::weight_of;
 use crate::sums::lagrangian;
@@ -172,7 +172,38 @@ fn leap_on(
     }
 }
 
-// A sweep, and a leap after one that moved a dual, where duals creep. Answers whether the sweep moved one.
+// Leaps after a sweep of this number, where duals creep, and after many sweeps along the way of all of them.
+fn leap_after(
+    book: &Book,
+    table: &CostTable,
+    pool: &Pool,
+    lists: &RouteLists,
+    duals: &mut [i64],
+    weights: &mut [i64],
+    values: &mut [i64],
+    due: &mut [bool],
+    leap: &mut Leap,
+    sweeps: u64,
+)
+    requires weighed { IsWeighed table.now book.now pool.now lists.now duals.old weights.old values.old }
+    requires routes { HasRoutes book.now pool.now }
+    requires work { IsWork table.now book.now pool.now.entries duals.old due.old }
+    requires room { IsLeapRoom book.now pool.now leap.old }
+    ensures weighed { IsWeighed table.now book.now pool.now lists.now duals.new weights.new values.new }
+    ensures work { IsWork table.now book.now pool.now.entries duals.new due.new }
+    ensures room { IsLeapRoom book.now pool.now leap.new }
+    ensures no_less { sum_in table.now book.now duals.old pool.now.entries ≤ℤ sum_in table.now book.now duals.new pool.now.entries }
+{
+    if sweeps >= CREEPING {
+        leap_on(book, table, pool, lists, duals, weights, values, due, leap);
+    }
+    if sweeps % MANY == 0 {
+        leap.look_back(book, pool);
+        leap_on(book, table, pool, lists, duals, weights, values, due, leap);
+    }
+}
+
+// A sweep, and leaps after one that moved a dual. Answers whether the sweep moved one.
 fn round(
     book: &Book,
     table: &CostTable,
@@ -184,7 +215,7 @@ fn round(
     choices: &mut [Choice],
     due: &mut [bool],
     leap: &mut Leap,
-    creep: bool,
+    sweeps: u64,
 ) -> bool
     requires weighed { IsWeighed table.now book.now pool.now lists.now duals.old weights.old values.old }
     requires routes { HasRoutes book.now pool.now }
@@ -196,15 +227,15 @@ fn round(
     ensures room { IsLeapRoom book.now pool.now leap.new }
     ensures swept { Sweeps table.now book.now pool.now.entries (activities book.now) duals.old duals.new result }
 {
-    leap.begin(book, pool, duals);
+    leap.begin(book, pool, duals, sweeps);
     if !sweep(
         book, table, pool, lists, duals, weights, values, choices, due,
     ) {
         return false;
     }
-    if creep {
-        leap_on(book, table, pool, lists, duals, weights, values, due, leap);
-    }
+    leap_after(
+        book, table, pool, lists, duals, weights, values, due, leap, sweeps,
+    );
     true
 }
 
@@ -237,9 +268,8 @@ fn climb(
     let mut sweeps = 0u64;
     while moved {
         sweeps = sweeps.saturating_add(1);
-        let creep = sweeps >= CREEPING;
         moved = round(
-            book, table, pool, lists, duals, weights, values, choices, due, leap, creep,
+            book, table, pool, lists, duals, weights, values, choices, due, leap, sweeps,
         );
     }
     lagrangian(duals, values)

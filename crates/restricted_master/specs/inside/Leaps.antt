@@ -9,9 +9,10 @@ use Rattle.restricted_master.specs.Seen.{PoolSeen}
 use Rattle.restricted_master.specs.inside.Least.{weight_at, AreValues, AreWeights, IsLeastBelow}
 use Rattle.restricted_master.specs.declared.leaping.Leap.{Leap}
 
--- a dual for each activity, before and after, a weight for each route, and a value for each aircraft
+-- a dual for each activity before a sweep, before many sweeps and after a leap, a weight for each route, and a value for each aircraft
 pub record IsLeapRoom (book : BookSeen) (pool : PoolSeen) (leap : Leap) : Type 0 where
   pub before : length leap.before.items ≡ activities book
+  pub earlier : length leap.earlier.items ≡ activities book
   pub duals : length leap.duals.items ≡ activities book
   pub weights : length leap.weights.items ≡ length pool.entries
   pub values : length leap.values.items ≡ aircraft book
