@@ -15,10 +15,10 @@ import shutil
 import sys
 
 SEARCH = "tail_book turn_rules maint_counters label_cells connection_net branch_marks open_branches floor_rows propagator label_store \
-pricing route_search plan_audit dive_heuristic restricted_master dual_ascent pool_plans plan_finder node_leaves branch_tree best_first".split()
+pricing route_search plan_audit dive_heuristic restricted_master dual_ascent pool_plans plan_finder node_leaves branch_tree best_first tail_text tail_outside cert_lines cert_checker cert_writer certified_search".split()
 HERE = os.path.dirname(os.path.abspath(__file__))
 # Crates of the kit that the shim stands for, as modules of plain_std.
-SHIMMED = {"indexmap", "std_alloc"}
+SHIMMED = {"indexmap", "itoa", "std_alloc"}
 KEYWORDS = set("as break const continue crate dyn else enum extern fn for if impl in let loop match mod move mut pub ref return "
                "static struct trait type unsafe use where while await box yield".split())
 TOKEN = re.compile(r"""
@@ -84,6 +84,7 @@ def tokens_of(text):
         if kind == "word" and word == "ghost":
             end = ghost_end(text, at)
             drop_visibility(tokens)
+            drop_document(tokens)
             kind, word = "space", newlines(text[at:end])
         elif kind == "word" and word in ("requires", "ensures"):
             end = clause_end(text, at)
@@ -109,6 +110,15 @@ def drop_visibility(tokens):
                 token[0], token[1] = "space", ""
     elif at >= 0 and tokens[at][1] == "pub":
         tokens[at][0], tokens[at][1] = "space", ""
+
+
+def drop_document(tokens):
+    """Makes plain comments of what stands at the end to document a ghost item."""
+    at = len(tokens) - 1
+    while at >= 0 and tokens[at][0] in ("space", "comment"):
+        if tokens[at][1].startswith("///"):
+            tokens[at][1] = "// " + tokens[at][1][3:]
+        at -= 1
 
 
 class Code:

@@ -3,22 +3,30 @@
 -- All that waits is put: the sink has it, and the list stays. Where putting fails the sink took a front, and the log is
 -- torn at the last event. Where there is no memory for a line, the sink took nothing more, and the log is torn at the
 -- event of that line.
-use Rattle.std.proofs.Common.{◌≡◌, ◌∙◌, Bool, false, ℕ, List, [], ◌∷◌, ◌++◌, Option, Some, Result, Ok, Err, is_ok, true, refl, sym, ap, subst, append_assoc}
+--
+-- The labels of a cover have no line in a lean certificate, and the event behind them is in a cover or not as it would be
+-- without them. So a lean log that tells a cover's value tells the cover with any labels.
+use Rattle.std.proofs.Common.{◌≡◌, ◌∙◌, Bool, false, ℕ, List, [], ◌∷◌, ◌++◌, Option, Some, None, Result, Ok, Err, is_ok, true, refl, sym, ap, subst, append_assoc}
 use Rattle.std.proofs.lemmas.List.{append-nil, map-append}
-use Rattle.std.proofs.lemmas.List.Elements.{All-push}
+use Rattle.std.proofs.lemmas.List.Elements.{All-append, All-cons, All-nil}
 use Rattle.std.specs.Option.{option_to_list}
-use Rattle.std.specs.Prelude.{OnErr, OnOk}
+use Rattle.std.specs.Prelude.{All, IfSome, OnErr, OnOk}
 use Rattle.tail_outside.specs.Outside.{Adds, AddsFront}
 use Rattle.tail_outside.specs.Shown.{SinkShown}
-use Rattle.branch_marks.specs.Events.{IsNotable}
+use Rattle.branch_marks.specs.Labels.{Label}
+use Rattle.branch_marks.specs.ProofTree.{Cover}
+use Rattle.branch_marks.specs.TreeEvents.{cover_event, label_events}
+use Rattle.branch_marks.specs.TreeLog.{LeavesLabelsOut}
 use Rattle.branch_marks.specs.declared.event.Event.{Event}
+use Rattle.branch_marks.specs.declared.event.Event.TheVariants as event
 use Rattle.cert_lines.specs.declared.cert_line.CertLine.{CertLine}
 use Rattle.cert_lines.specs.declared.cert_line.CertLine.TheVariants as line
 use Rattle.cert_lines.specs.declared.version.Version.{Version}
 use Rattle.cert_lines.specs.declared.version.Version.TheVariants.{Full, Lean}
+use Rattle.cert_lines.specs.Grammar.{IsLine}
 use Rattle.cert_lines.specs.Text.{cert_text}
-use Rattle.cert_writer.specs.CertText.{IsKept, IsTornAt, TellsAt, event_text, line_text}
-use Rattle.cert_writer.specs.EventLines.{event_lines, in_cover_after, in_cover_behind, lean_line, lean_lines, line_for}
+use Rattle.cert_writer.specs.CertText.{IsKept, IsTornAt, TellsAt, event_text, line_text, log_over}
+use Rattle.cert_writer.specs.EventLines.{event_lines, in_cover_after, in_cover_behind, lean_line, lean_lines, line_for, wants_labels_of}
 use Rattle.cert_writer.specs.inside.Adding.{Holds, HoldsFront}
 
 pub text_append : (one other : List CertLine) → cert_text (one ++ other) ≡ cert_text one ++ cert_text other
@@ -31,6 +39,11 @@ text_one cert = append-nil (line_text cert)
 -- the text of a line that is there
 pub option_text : (cert : Option CertLine) (some : CertLine) → cert ≡ Some some → cert_text (option_to_list cert) ≡ line_text some
 option_text cert some is = ap (λ (one : Option CertLine). cert_text (option_to_list one)) is ∙ text_one some
+
+-- a line that is there can be spelled
+option_good : (cert : Option CertLine) → IfSome cert IsLine → All IsLine (option_to_list cert)
+option_good (Some cert) good = All-cons IsLine cert [] good (All-nil IsLine)
+option_good None good = All-nil IsLine
 
 -- the lines of more events stand behind those of the list, in a cover or not as the list leaves it
 pub lean_join : (before : Bool) (told rest : List Event) → lean_lines before (told ++ rest) ≡ lean_lines before told ++ lean_lines (in_cover_behind before told) rest
@@ -63,17 +76,24 @@ module _ (version : Version) (in_cover : Bool) (header : CertLine) (told : List 
       ∙ text_append (header ∷ event_lines version told) (option_to_list (line_for version in_cover event))
       ∙ ap (λ (line : Option CertLine). event_text version header told ++ cert_text (option_to_list line)) (sym is)
 
+  lines_good : IfSome found IsLine → IsKept version in_cover told → All IsLine (event_lines version told) → All IsLine (event_lines version (told ++ event ∷ []))
+  lines_good good kept spelled =
+      let all = All-append IsLine (event_lines version told) (option_to_list found) spelled (option_good found good) in
+      let same : event_lines version told ++ option_to_list found ≡ event_lines version (told ++ event ∷ []) =
+      ap (λ (line : Option CertLine). event_lines version told ++ option_to_list line) is ∙ sym (lines_more version in_cover told event kept) in
+      subst (λ (lines : List CertLine). All IsLine lines) same all
+
   -- the event was noted
-  pub noted : (old new : SinkShown) (waited waiting : List ℕ) → IsNotable event
+  pub noted : (old new : SinkShown) (waited waiting : List ℕ) → IfSome found IsLine
       → ((whole : List ℕ) → Holds old waited whole → Holds new waiting (whole ++ cert_text (option_to_list found)))
       → (now : Bool) → now ≡ in_cover_after in_cover event → TellsAt version in_cover header old waited told → TellsAt version now header new waiting (told ++ event ∷ [])
-  noted old new waited waiting notable adds now turned tells =
+  noted old new waited waiting good adds now turned tells =
       let held = adds (event_text version header told) (record { taken = tells.taken; bytes = tells.bytes; text = tells.text }) in record {
         kept = subst (λ (kept : Bool). IsKept version kept (told ++ event ∷ [])) (sym turned) (kept_more version in_cover told event tells.kept);
         taken = held.taken;
         bytes = held.bytes;
         text = text_more tells.kept ∙ held.text;
-        spelled = All-push IsNotable told event tells.spelled notable;
+        spelled = lines_good good tells.kept tells.spelled;
       }
 
   -- it was not
@@ -88,6 +108,48 @@ module _ (version : Version) (in_cover : Bool) (header : CertLine) (told : List 
         bytes = held.bytes;
         text = text_more tells.kept ∙ held.text;
       }
+
+-- labels in a cover have no line, and what comes behind them is in it still
+labels_go : (family : List Label) → lean_lines true (label_events family) ≡ []
+labels_go [] = refl
+labels_go (label ∷ family) = labels_go family
+
+labels_stay : (family : List Label) → in_cover_behind true (label_events family) ≡ true
+labels_stay [] = refl
+labels_stay (label ∷ family) = labels_stay family
+
+behind_join : (before : Bool) (told rest : List Event) → in_cover_behind before (told ++ rest) ≡ in_cover_behind (in_cover_behind before told) rest
+behind_join before [] rest = refl
+behind_join before (first ∷ told) rest = behind_join (in_cover_after before first) told rest
+
+module _ (told : List Event) (k : ℕ) (cover : Cover) where
+  abbrev value_alone : List Event
+  value_alone = event.Cover k cover.value ∷ []
+
+  -- a cover has no line, with its labels or without
+  same_lines : lean_lines false (told ++ value_alone) ≡ lean_lines false (told ++ cover_event k cover)
+  same_lines =
+      lean_join false told value_alone
+      ∙ ap (λ (rest : List CertLine). lean_lines false told ++ rest) (sym (labels_go cover.family)) ∙ sym (lean_join false told (cover_event k cover))
+
+  same_behind : in_cover_behind false (told ++ value_alone) ≡ in_cover_behind false (told ++ cover_event k cover)
+  same_behind = behind_join false told value_alone ∙ sym (labels_stay cover.family) ∙ sym (behind_join false told (cover_event k cover))
+
+  pub told_with_labels : (in_cover : Bool) (header : CertLine) (sink : SinkShown) (waiting : List ℕ) → TellsAt Lean in_cover header sink waiting (told ++ value_alone)
+      → TellsAt Lean in_cover header sink waiting (told ++ cover_event k cover)
+  told_with_labels in_cover header sink waiting tells = record {
+    kept = tells.kept ∙ same_behind;
+    taken = tells.taken;
+    bytes = tells.bytes;
+    text = ap (λ (lines : List CertLine). cert_text (header ∷ lines)) (sym same_lines) ∙ tells.text;
+    spelled = subst (λ (lines : List CertLine). All IsLine lines) same_lines tells.spelled;
+  }
+
+-- a log that wants no labels leaves them out
+pub leaves_out : (version : Version) (in_cover : Bool) (header : CertLine) (sink : SinkShown) (waiting : List ℕ) → wants_labels_of version ≡ false
+    → LeavesLabelsOut (log_over version in_cover header sink waiting)
+leaves_out Full in_cover header sink waiting none = absurd (cc none)
+leaves_out Lean in_cover header sink waiting none = λ told k cover. told_with_labels told k cover in_cover header sink waiting
 
 -- there is no line
 pub none_added : (sink : SinkShown) (waiting whole : List ℕ) → Holds sink waiting whole → Holds sink waiting (whole ++ [])

@@ -3,11 +3,11 @@
 use Rattle.std.specs.Prelude.{ℕ, ◌≡◌, ⊤, Bool, false, List, [], ◌∷◌, ◌++◌, All, Some}
 use Rattle.tail_outside.specs.Shown.{SinkShown}
 use Rattle.branch_marks.specs.declared.event.Event.{Event}
-use Rattle.branch_marks.specs.Events.{IsNotable}
 use Rattle.branch_marks.specs.LogShown.{LogShown}
 use Rattle.cert_lines.specs.declared.cert_line.CertLine.{CertLine}
 use Rattle.cert_lines.specs.declared.version.Version.{Version}
 use Rattle.cert_lines.specs.declared.version.Version.TheVariants.{Full, Lean}
+use Rattle.cert_lines.specs.Grammar.{IsLine}
 use Rattle.cert_lines.specs.Spelling.{spelling}
 use Rattle.cert_lines.specs.Text.{cert_text}
 use Rattle.cert_writer.specs.EventLines.{event_lines, in_cover_behind}
@@ -25,13 +25,13 @@ abbrev pub IsKept : Version → Bool → List Event → Type 0
 IsKept Full in_cover told = ⊤
 IsKept Lean in_cover told = in_cover ≡ in_cover_behind false told
 
--- what the sink took and the lines that wait are the header's line and the lines of the events, each of which a line spells
+-- what the sink took and the lines that wait are the header's line and the lines of the events, each of which can be spelled
 pub record TellsAt (version : Version) (in_cover : Bool) (header : CertLine) (sink : SinkShown) (waiting : List ℕ) (told : List Event) : Type 0 where
   pub kept : IsKept version in_cover told
   pub taken : List ℕ
   pub bytes : sink.told ≡ Some taken
   pub text : event_text version header told ≡ taken ++ waiting
-  pub spelled : All IsNotable told
+  pub spelled : All IsLine (event_lines version told)
 
 -- the sink took a front of the lines of the list and of one event more
 pub record IsTornAt (version : Version) (in_cover : Bool) (header : CertLine) (sink : SinkShown) (told : List Event) (event : Event) : Type 0 where

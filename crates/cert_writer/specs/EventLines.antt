@@ -31,6 +31,11 @@ abbrev pub line_for : Version → Bool → Event → Option CertLine
 line_for Full in_cover event = Some (line.Event event)
 line_for Lean in_cover event = lean_line in_cover event
 
+-- whether the labels of covers have lines, so that they are wanted
+abbrev pub wants_labels_of : Version → Bool
+wants_labels_of Full = true
+wants_labels_of Lean = false
+
 -- the lines of events, before which a label is a cover's or not
 abbrev pub lean_lines : Bool → List Event → List CertLine
 lean_lines in_cover [] = []

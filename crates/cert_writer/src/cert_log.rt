@@ -221,6 +221,7 @@ impl<S: Sink> TreeLog for CertLog<S> {
     ghost use Rattle.cert_lines.specs.declared.cert_line.CertLine.TheVariants.{Header};
     ghost use Rattle.cert_lines.specs.Version.{number_of_version};
     ghost use Rattle.cert_writer.specs.CertText.{log_over};
+    ghost use Rattle.cert_writer.specs.EventLines.{wants_labels_of};
 
     ghost shows = { λ c. log_over c.version c.in_cover (Header (number_of_version c.version) c.activities c.aircraft c.counters) (S.shows c.sink) c.waiting };
 
@@ -234,11 +235,11 @@ impl<S: Sink> TreeLog for CertLog<S> {
         true
     }
 
-    // Also in a lean certificate: the labels of a stuck leaf have their lines.
+    // In a lean certificate no label of a cover has a line.
     fn wants_labels(&self) -> bool
-        ensures all { result ≡ true }
+        ensures exact { result ≡ wants_labels_of self.now.version }
     {
-        true
+        matches!(self.version, Version::Full)
     }
 
     fn note(&mut self, event: &Event) -> Result<(), LogFail> {

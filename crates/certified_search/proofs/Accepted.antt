@@ -17,7 +17,6 @@ use Rattle.tail_book.specs.CostTable.{costs_of}
 use Rattle.tail_book.specs.Fliers.{flier, fliers_of}
 use Rattle.tail_book.specs.inside.Fliers.{FliersFly, PlansOfTheirFliers}
 use Rattle.tail_book.specs.inside.Sound.{IsBook}
-use Rattle.branch_marks.specs.Events.{IsNotable}
 use Rattle.branch_marks.specs.ProofTree.{Tree}
 use Rattle.branch_marks.specs.declared.event.Event.{Event}
 use Rattle.branch_tree.specs.GrownTree.{IsGrownTree}
@@ -43,7 +42,7 @@ use Rattle.certified_search.specs.OrderedTree.{IsTreeIn}
 use Rattle.certified_search.specs.SearchText.{search_lines, search_text}
 use Rattle.certified_search.specs.declared.order.Order.{Order}
 use Rattle.certified_search.specs.declared.order.Order.TheVariants.{DepthFirst, LeastBound}
-use Rattle.certified_search.proofs.Spelled.{claim_good, events_good, header_good, plan_good}
+use Rattle.certified_search.proofs.Spelled.{claim_good, header_good, plan_good}
 use Rattle.certified_search.proofs.TreeSpelling.{told_in, told_lines, told_shows}
 
 -- who flies each activity, where the outcome has a plan
@@ -119,9 +118,9 @@ grown_in searched best LeastBound table book limit outcome nodes (tree, is, same
 
 module _ (bounded : GrownTreesAreBounded) (trees : ShownNodesAreTrees) (lean : WholeTreesAreLean) (fly : FliersFly) (again : PlansOfTheirFliers) (most : LegalPlansCostAtMost) where
   pub accepted : (version : Version) (book : BookSeen) → IsBook book → (limit : Limit) (outcome : Outcome) (count : ℕ) (closing nodes : List Node)
-      → IsGrownTree (costs_of book) book limit outcome count closing nodes → IsTrueOutcome book outcome → All IsNotable (events_of nodes)
+      → IsGrownTree (costs_of book) book limit outcome count closing nodes → IsTrueOutcome book outcome → All IsLine (event_lines version (events_of nodes))
       → Accepts book (search_text version book (events_of nodes) outcome) (claim_of outcome)
-  accepted version book sound limit outcome count closing nodes is truth notable =
+  accepted version book sound limit outcome count closing nodes is truth spelled =
       let told = events_of nodes in
       let (proof, shown, reached, same) =
       trees (costs_of book) book (claimed (costs_of book) outcome) nodes (bounded (costs_of book) book limit outcome count closing nodes is) in
@@ -130,7 +129,7 @@ module _ (bounded : GrownTreesAreBounded) (trees : ShownNodesAreTrees) (lean : W
       same_lines version book told proof outcome (sym same) in
       let good : All IsLine (search_lines version book told outcome) =
       All-cons IsLine (header_of (number_of_version version) book) (event_lines version told ++ (plan_lines (fliers_in book outcome) ++ line.Claim (claim_of outcome) ∷ [])) (header_good version book sound)
-      (All-append IsLine (event_lines version told) (plan_lines (fliers_in book outcome) ++ line.Claim (claim_of outcome) ∷ []) (events_good version told notable)
+      (All-append IsLine (event_lines version told) (plan_lines (fliers_in book outcome) ++ line.Claim (claim_of outcome) ∷ []) spelled
       (All-append IsLine (plan_lines (fliers_in book outcome)) (line.Claim (claim_of outcome) ∷ []) (plans_spelled book sound fly again outcome truth)
       (All-cons IsLine (line.Claim (claim_of outcome)) [] (claim_good book sound most limit count closing is.final outcome is.answered truth) (All-nil IsLine)))) in (
         number_of_version version,

@@ -1,9 +1,8 @@
--- Each line of a search's certificate is one that a certificate may have. The numbers of a book are few, its events are
--- ones that a line spells, and its fliers are aircraft. The claim is left: the cost of a legal plan is limited, and a
+-- Each line of a search's certificate is one that a certificate may have. Those of its events are: the log wrote them. The numbers of a
+-- book are few, and its fliers are aircraft. The claim is left: the cost of a legal plan is limited, and a
 -- bound that is left lies below the final target, so rounded up to whole costs it is at most the target.
-use Rattle.std.proofs.Common.{◌+◌, ◌^◌, ◌<◌, ◌≤◌, inl, inr, Bool, true, false, ℕ, List, [], ◌∷◌, length, Some, refl, arith}
-use Rattle.std.proofs.lemmas.List.Elements.{All-append, All-cons, All-head, All-map, All-nil, All-tail}
-use Rattle.std.specs.Option.{option_to_list}
+use Rattle.std.proofs.Common.{◌+◌, ◌^◌, ◌<◌, ◌≤◌, inl, inr, ℕ, List, [], ◌∷◌, length, Some, refl, arith}
+use Rattle.std.proofs.lemmas.List.Elements.{All-cons, All-head, All-nil, All-tail}
 use Rattle.std.specs.Prelude.{All}
 use Rattle.tail_book.specs.Seen.{BookSeen}
 use Rattle.tail_book.specs.Truth.{IsTrueOutcome, claim_of}
@@ -12,9 +11,6 @@ use Rattle.tail_book.specs.declared.outcome.Outcome.TheVariants.{Optimal, Infeas
 use Rattle.tail_book.specs.inside.Bounds.{LegalPlansCostAtMost}
 use Rattle.tail_book.specs.CostTable.{costs_of}
 use Rattle.tail_book.specs.inside.Sound.{IsBook}
-use Rattle.branch_marks.specs.Events.{IsNotable}
-use Rattle.branch_marks.specs.declared.event.Event.{Event}
-use Rattle.branch_marks.specs.declared.event.Event.TheVariants as events
 use Rattle.branch_tree.specs.Closing.{IsLeftAt, IsLowest}
 use Rattle.node_leaves.specs.Node.{Ending, Hole, Stuck, Bounded, Split, Node}
 use Rattle.branch_tree.specs.SearchTree.{IsOutcomeOf}
@@ -27,7 +23,6 @@ use Rattle.cert_lines.specs.declared.version.Version.TheVariants.{Full, Lean}
 use Rattle.cert_lines.specs.PlanLines.{fly_lines, plan_lines}
 use Rattle.cert_lines.specs.Version.{number_of_version}
 use Rattle.cert_checker.specs.Certificate.{header_of}
-use Rattle.cert_writer.specs.EventLines.{event_lines, in_cover_after, lean_line, lean_lines}
 
 version_good : (version : Version) → IsVersion (number_of_version version)
 version_good Full = inl refl
@@ -35,31 +30,6 @@ version_good Lean = inr refl
 
 pub header_good : (version : Version) (book : BookSeen) → IsBook book → IsLine (header_of (number_of_version version) book)
 header_good version book sound = (version_good version, omega (arith, sound.few_activities), omega (arith, sound.few_tails), omega (arith, sound.rules.few_counters))
-
-one_good : (cert : CertLine) → IsLine cert → All IsLine (cert ∷ [])
-one_good cert good = All-cons IsLine cert [] good (All-nil IsLine)
-
--- an event has one line in a lean certificate, or none
-lean_good : (before : Bool) (event : Event) → IsNotable event → All IsLine (option_to_list (lean_line before event))
-lean_good before events.Bound notable = one_good line.Lean tt
-lean_good before (events.Cover k value) notable = All-nil IsLine
-lean_good true (events.Label at weight counters) notable = All-nil IsLine
-lean_good false (events.Label at weight counters) notable = one_good (line.Event (events.Label at weight counters)) notable
-lean_good before (events.Fact fact) notable = one_good (line.Event (events.Fact fact)) notable
-lean_good before (events.Split pair) notable = one_good (line.Event (events.Split pair)) notable
-lean_good before (events.Hole a) notable = one_good (line.Event (events.Hole a)) notable
-lean_good before (events.Stuck k) notable = one_good (line.Event (events.Stuck k)) notable
-lean_good before (events.Dual a value) notable = one_good (line.Event (events.Dual a value)) notable
-
-lean_all_good : (before : Bool) (told : List Event) → All IsNotable told → All IsLine (lean_lines before told)
-lean_all_good before [] notable = All-nil IsLine
-lean_all_good before (event ∷ told) notable =
-    All-append IsLine (option_to_list (lean_line before event)) (lean_lines (in_cover_after before event) told) (lean_good before event (All-head IsNotable event told notable))
-    (lean_all_good (in_cover_after before event) told (All-tail IsNotable event told notable))
-
-pub events_good : (version : Version) (told : List Event) → All IsNotable told → All IsLine (event_lines version told)
-events_good Full told notable = All-map IsLine line.Event told notable
-events_good Lean told notable = lean_all_good false told notable
 
 flies_good : (a : ℕ) (fliers : List ℕ) → a + length fliers < 2 ^ 32 → All (λ k. k < 2 ^ 32) fliers → All IsLine (fly_lines a fliers)
 flies_good a [] few small = All-nil IsLine

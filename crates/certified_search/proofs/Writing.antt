@@ -1,8 +1,10 @@
 -- What a sink holds of a certificate after each of its parts: the header, the events of the search, the plan and the
 -- claim. Each part comes behind the ones before, so where one fails the sink holds a front of what was due: of a begun
 -- tree while the search runs, and of the whole certificate once it has ended.
-use Rattle.std.proofs.Common.{◌≡◌, ◌∙◌, inl, inr, Bool, false, ℕ, List, [], ◌∷◌, ◌++◌, map, Option, Some, None, refl, sym, ap, subst, append_assoc, arith}
+use Rattle.std.proofs.Common.{◌≡◌, ◌∙◌, inl, inr, Bool, false, ℕ, List, [], ◌∷◌, ◌++◌, map, Option, Some, None, refl, sym, ap, subst, append_assoc}
 use Rattle.std.proofs.lemmas.List.{append-nil, map-append}
+use Rattle.std.proofs.lemmas.List.Elements.{All-nil}
+use Rattle.std.specs.Prelude.{All}
 use Rattle.tail_book.specs.Lookup.{activities}
 use Rattle.tail_book.specs.Seen.{BookSeen}
 use Rattle.tail_book.specs.declared.outcome.Outcome.{Outcome}
@@ -22,6 +24,7 @@ use Rattle.cert_lines.specs.declared.cert_line.CertLine.{CertLine}
 use Rattle.cert_lines.specs.declared.cert_line.CertLine.TheVariants as line
 use Rattle.cert_lines.specs.declared.version.Version.{Version}
 use Rattle.cert_lines.specs.declared.version.Version.TheVariants.{Full, Lean}
+use Rattle.cert_lines.specs.Grammar.{IsLine}
 use Rattle.cert_lines.specs.Text.{cert_text}
 use Rattle.cert_lines.specs.Version.{number_of_version}
 use Rattle.cert_checker.specs.Certificate.{header_of}
@@ -65,6 +68,10 @@ none_told : (version : Version) (header : CertLine) → event_text version heade
 none_told Full header = refl
 none_told Lean header = refl
 
+none_spelled : (version : Version) → All IsLine (event_lines version [])
+none_spelled Full = All-nil IsLine
+none_spelled Lean = All-nil IsLine
+
 -- the header was written
 pub begun_tells : (version : Version) (in_cover : Bool) (header : CertLine) (old new : SinkShown) → in_cover ≡ false → old.told ≡ Some []
     → Adds old.told new.told (cert_text (header ∷ [])) → TellsAt version in_cover header new [] []
@@ -73,7 +80,7 @@ begun_tells version in_cover header old new outside empty adds = record {
   taken = cert_text (header ∷ []);
   bytes = added old.told new.told [] (cert_text (header ∷ [])) empty adds;
   text = none_told version header ∙ sym (append-nil (cert_text (header ∷ [])));
-  spelled = λ i d less. absurd (omega (arith, less));
+  spelled = none_spelled version;
 }
 
 -- the same, where the log has the numbers of the header that was written

@@ -7,13 +7,13 @@ use Rattle.tail_book.specs.Truth.{claim_of}
 use Rattle.tail_book.specs.declared.outcome.Outcome.{Outcome}
 use Rattle.tail_book.specs.CostTable.{costs_of}
 use Rattle.tail_book.specs.inside.Sound.{IsBook}
-use Rattle.branch_marks.specs.Events.{IsNotable}
 use Rattle.branch_marks.specs.declared.event.Event.{Event}
 use Rattle.node_leaves.specs.Node.{Node}
 use Rattle.node_leaves.specs.NodeEvents.{events_of}
 use Rattle.branch_tree.specs.declared.limit.Limit.{Limit}
 use Rattle.cert_lines.specs.declared.cert_line.CertLine.{CertLine}
 use Rattle.cert_lines.specs.declared.version.Version.{Version}
+use Rattle.cert_lines.specs.Grammar.{IsLine}
 use Rattle.cert_lines.specs.Text.{cert_text}
 use Rattle.cert_lines.specs.Version.{number_of_version}
 use Rattle.cert_checker.specs.Certificate.{Accepts, header_of}
@@ -30,9 +30,10 @@ search_lines version book events outcome =
 abbrev pub search_text : Version → BookSeen → List Event → Outcome → List ℕ
 search_text version book events outcome = cert_text (search_lines version book events outcome)
 
--- where lines spell the events of a tree in either order, its text in either version is accepted for what its outcome claims
+-- where the lines of the events of a tree in either order can be spelled, its text in either version is accepted for what its outcome
+-- claims
 abbrev pub SearchTreesAreAccepted : Type 0
 SearchTreesAreAccepted =
     (book : BookSeen) → IsBook book → (limit : Limit) (order : Order) (version : Version) (outcome : Outcome) (nodes : List Node)
-    → IsTreeIn order (costs_of book) book limit outcome nodes → All IsNotable (events_of nodes)
+    → IsTreeIn order (costs_of book) book limit outcome nodes → All IsLine (event_lines version (events_of nodes))
     → Accepts book (search_text version book (events_of nodes) outcome) (claim_of outcome)

@@ -4,7 +4,7 @@
 -- told: both are first covers.
 use Rattle.std.proofs.Common.{◌≡◌, ◌∙◌, ℕ, ℤ, pos, ◌+◌, ◌<◌, ◌≤◌, arith, List, [], ◌∷◌, ◌++◌, length, length-append, take, get_or, refl, sym, ap, subst, append-nil}
 use Rattle.std.proofs.lemmas.List.{take_more, map-append}
-use Rattle.std.proofs.lemmas.List.Elements.{All-head}
+use Rattle.std.proofs.lemmas.List.Elements.{All-cons, All-head, All-nil}
 use Rattle.std.specs.Prelude.{All}
 use Rattle.tail_book.specs.Seen.{BookSeen}
 use Rattle.tail_book.specs.TableSeen.{CostTableSeen}
@@ -37,6 +37,18 @@ module _ (table : CostTableSeen) (book : BookSeen) (marks : List Fact) (duals : 
   first_with covers (cover ∷ []) k count less first few shown =
       first_more covers k cover count less first (All-head (IsShownCover table book marks k duals) cover [] shown)
   first_with covers (cover ∷ other ∷ begun) k count less first few shown = absurd (omega (arith, few))
+
+  -- a front of one cover, which is shown
+  pub cut_at_one : (k : ℕ) (cover : Cover) (old new : LogShown) → IsShownCover table book marks k duals cover
+      → NotesFront old new (cover_event k cover) → IsCutAtCover table book marks k duals old new
+  cut_at_one k cover old new shown front =
+      let is = IsShownCover table book marks k duals in
+      record {
+        begun = cover ∷ [];
+        few = omega arith;
+        shown = All-cons is cover [] shown (All-nil is);
+        front = subst (λ (es : List Event). NotesFront old new es) (sym (cover_one k cover)) front;
+      }
 
   module _ (values : List ℤ) (all : length values ≡ aircraft book) where
     pub covers_none : (log : LogShown) → AreCoversBefore table book marks duals values 0 log log

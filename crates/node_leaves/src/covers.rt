@@ -1,29 +1,30 @@
 //! The covers of a bound, and what shows a stuck aircraft, told to a log.
 //!
-//! What weighs least is known before: an aircraft is priced again for its labels alone, so that no more than one store of
-//! them is ever held. Its events are listed before the first of them is told.
+//! What weighs least is known before, and told first: an aircraft is priced again for its labels alone, so that no more
+//! than one store of them is ever held. They are listed before the first of them is told.
 //!
-//! A log that wants no events is told none, and then no aircraft is priced again: that covers with these values are there
-//! is a law of `branch_marks`, and nobody reads them.
+//! A log that wants no events is told none, and one that wants no labels of covers only their values. No aircraft is
+//! priced again for either: that covers with these values are there is a law of `branch_marks`, and nobody reads them.
 
-ghost use Rattle.std.specs.Prelude.{◌≡◌, ◌<◌, ◌∷◌, All, IfOk, OnOk, OnErr, IsErrOf};
+ghost use Rattle.std.specs.Prelude.{◌≡◌, ◌<◌, ◌∷◌, [], All, IfOk, OnOk, OnErr, IsErrOf};
 ghost use Rattle.tail_book.specs.Lookup.{aircraft};
 ghost use Rattle.tail_book.specs.CostTable.{IsTableFor};
 ghost use Rattle.branch_marks.specs.Bound.{AreLeastWeights};
 ghost use Rattle.branch_marks.specs.DeadEnds.{IsStuck};
-ghost use Rattle.branch_marks.specs.Events.{IsNotable};
-ghost use Rattle.branch_marks.specs.ProofTree.{IsShownCover, IsShownStuck, zero_duals};
+ghost use Rattle.branch_marks.specs.Events.{IsLineValue, IsNotable};
+ghost use Rattle.branch_marks.specs.ProofTree.{IsShownStuck, zero_duals};
 ghost use Rattle.branch_marks.specs.Settled.{AreDuals};
-ghost use Rattle.branch_marks.specs.TreeLog.{IsLater, WriteHasFailed};
+ghost use Rattle.branch_marks.specs.TreeLog.{Notes, NotesFront, IsLater, WriteHasFailed};
 ghost use Rattle.branch_marks.specs.Weights.{IsLeastWeight};
 ghost use Rattle.pricing.specs.Rows.{labels_of};
-ghost use Rattle.branch_marks.specs.TreeEvents.{cover_event, dual_events, stuck_events};
-ghost use Rattle.node_leaves.specs.inside.Leaf.{priced_cover, IsReady, IsCoverNoted, IsStuckNoted, IsCutAtCover, IsCutAtCovers, IsCutAtLeaf, AreCoversOf, IsBoundNoted};
+ghost use Rattle.branch_marks.specs.TreeEvents.{dual_events, label_events, stuck_events};
+ghost use Rattle.node_leaves.specs.inside.Leaf.{IsReady, IsCoverNoted, IsStuckNoted, IsCutAtCover, IsCutAtCovers, IsCutAtLeaf, AreCoversOf, IsBoundNoted};
+ghost use Rattle.node_leaves.specs.inside.PricedStore.{ShowsLowValues};
 
-use crate::node_events::{list_duals, list_labels, list_one, list_value};
-use crate::notes::note_all;
+use crate::node_events::{list_duals, list_labels, list_one};
+use crate::notes::{note_all, note_one};
 use crate::{NodePricer, Stop, laws};
-use branch_marks::laws::{low_bounds_are_shown, stuck_is_shown};
+use branch_marks::laws::{low_bounds_are_shown, low_weights_are_shown, stuck_is_shown};
 use branch_marks::{Event, Marks, TreeLog};
 use connection_net::Net;
 use label_store::laws::every_store_is_sound;
@@ -31,8 +32,8 @@ use std::alloc::Global;
 use tail_book::laws::{every_book_is_sound, every_cost_table_is_sound};
 use tail_book::{Book, CostTable, Duals, Memory};
 
-// The events of the cover of an aircraft with this value, which is its least weight.
-fn cover_of(
+// The events of the labels of an aircraft's cover, which show each value that no route of it undercuts.
+fn family_of(
     alloc: Global,
     book: &Book,
     table: &CostTable,
@@ -40,15 +41,13 @@ fn cover_of(
     marks: &Marks,
     duals: &Duals,
     k: u32,
-    value: &i64,
     prices: &mut NodePricer,
 ) -> Result<Vec<Event>, Memory>
     requires ready { IsReady table.now book.now net.now marks.now prices.old }
     requires duals { AreDuals table.now book.now duals.now.values }
     requires aircraft { k < aircraft book.now }
-    requires least { IsLeastWeight table.now book.now marks.now.facts k duals.now.values value.now }
-    ensures shown { IfOk result (λ _. IsShownCover table.now book.now marks.now.facts k duals.now.values (priced_cover value.now prices.new.store)) }
-    ensures events { IfOk result (λ events. events.items ≡ cover_event k (priced_cover value.now prices.new.store)) }
+    ensures shows { IfOk result (λ _. ShowsLowValues table.now book.now marks.now.facts k duals.now.values (labels_of prices.new.store)) }
+    ensures events { IfOk result (λ events. events.items ≡ label_events (labels_of prices.new.store)) }
     ensures notable { IfOk result (λ events. All IsNotable events.items) }
     ensures ready { IsReady table.now book.now net.now marks.now prices.new }
 {
@@ -57,11 +56,9 @@ fn cover_of(
     laws::priced_families_are_shown();
     laws::priced_ends_are_low();
     laws::priced_labels_are_spelled();
-    laws::least_weights_are_spelled();
     prices.fill(book, table, net, marks, duals, k)?;
     every_store_is_sound(&prices.store);
     let mut events = Vec::new(alloc);
-    list_value(&mut events, k, value)?;
     list_labels(&mut events, &prices.store, book.activities.len())?;
     Ok(events)
 }
@@ -100,7 +97,21 @@ fn stuck_of(
     Ok(events)
 }
 
-// Notes the cover of an aircraft with this value, which is its least weight.
+// Notes the value of an aircraft's cover.
+fn note_value<L: TreeLog>(k: u32, value: &i64, log: &mut L) -> Result<(), Stop>
+    requires value { IsLineValue value.now }
+    ensures noted { OnOk result (Notes (L.shows log.old) (L.shows log.new) (Event.Cover k value.now ∷ [])) }
+    ensures cut { OnErr result (NotesFront (L.shows log.old) (L.shows log.new) (Event.Cover k value.now ∷ [])) }
+    ensures later { IsLater (L.shows log.old) (L.shows log.new) }
+    ensures beside { L.beside log.old log.new }
+    ensures cause { IsErrOf result Stop.Log → WriteHasFailed (L.shows log.old) (L.shows log.new) }
+{
+    let event = Event::Cover(k, *value);
+    note_one(log, &event)
+}
+
+// Notes the cover of an aircraft with this value, which is its least weight. Where the log wants no labels of it the
+// aircraft isn't priced.
 fn note_cover<L: TreeLog>(
     alloc: Global,
     book: &Book,
@@ -124,11 +135,21 @@ fn note_cover<L: TreeLog>(
     ensures cause { IsErrOf result Stop.Log → WriteHasFailed (L.shows log.old) (L.shows log.new) }
     ensures ready { IsReady table.now book.now net.now marks.now prices.new }
 {
-    let events = match cover_of(alloc, book, table, net, marks, duals, k, value, prices) {
-        Ok(events) => events,
+    every_book_is_sound(book);
+    every_cost_table_is_sound(table);
+    laws::least_weights_are_spelled();
+    low_weights_are_shown();
+    if let Err(stop) = note_value(k, value, log) {
+        return Err(stop);
+    }
+    if !log.wants_labels() {
+        return Ok(());
+    }
+    let labels = match family_of(alloc, book, table, net, marks, duals, k, prices) {
+        Ok(labels) => labels,
         Err(_) => return Err(Stop::Memory),
     };
-    if let Err(stop) = note_all(log, &events) {
+    if let Err(stop) = note_all(log, &labels) {
         return Err(stop);
     }
     Ok(())

@@ -60,15 +60,6 @@ fn list_dual(events: &mut Vec<Event>, a: u32, dual: &i64) -> Result<(), Memory>
     list_one(events, Event::Dual(a, *dual))
 }
 
-/// Puts the value of a cover, in thousandths of a cost unit, at the end of a list.
-pub fn list_value(events: &mut Vec<Event>, k: u32, value: &i64) -> Result<(), Memory>
-    requires list { All IsNotable events.old.items }
-    requires value { IsLineValue value.now }
-    ensures { OnOk result (Lists events.old.items events.new.items (Event.Cover k value.now ∷ [])) }
-{
-    list_one(events, Event::Cover(k, *value))
-}
-
 // Puts the label of a row at the end of a list.
 fn list_label(events: &mut Vec<Event>, at: u32, row: &[i64]) -> Result<(), Memory>
     requires list { All IsNotable events.old.items }

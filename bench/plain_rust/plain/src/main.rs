@@ -1,9 +1,11 @@
-//! Plans the tables of a folder as the planner does, without a certificate.
+//! Plans the tables of a folder as the planner does, and judges a certificate as the checker does.
 //!
-//! usage: plain FOLDER [--nodes N] [--best] [--plan], or plain TIMETABLE FLEET RULES [--nodes N] [--best] [--plan]
+//! usage: plain FOLDER [--nodes N] [--best] [--plan] [--cert FILE [--lean]], or with three tables in place of the folder;
+//! with --check FILE nothing is planned, and the certificate in this file is judged.
 //! With TRACE=1 the events of the tree are told on standard error, each with processor seconds.
 
 mod book;
+mod certificates;
 
 use best_first::search_best;
 use branch_marks::{Event, LogFail, TreeLog};
@@ -86,39 +88,74 @@ fn show(book: &Book, outcome: &Outcome, with_plan: bool) {
     }
 }
 
-fn main() {
-    let mut names = Vec::new();
-    let (mut limit, mut best, mut with_plan) = (Limit::Free, false, false);
-    let mut words = std::env::args().skip(1);
+struct Task {
+    names: Vec<String>,
+    limit: Limit,
+    best: bool,
+    with_plan: bool,
+    certificate: Option<String>,
+    lean: bool,
+    checked: Option<String>,
+}
+
+fn task_of(mut words: impl Iterator<Item = String>) -> Task {
+    let mut task = Task {
+        names: Vec::new(),
+        limit: Limit::Free,
+        best: false,
+        with_plan: false,
+        certificate: None,
+        lean: false,
+        checked: None,
+    };
     while let Some(word) = words.next() {
         match word.as_str() {
-            "--nodes" => limit = Limit::Nodes(words.next().expect("a number").parse().expect("a number")),
-            "--best" => best = true,
-            "--plan" => with_plan = true,
-            _ => names.push(word),
+            "--nodes" => task.limit = Limit::Nodes(words.next().expect("a number").parse().expect("a number")),
+            "--best" => task.best = true,
+            "--plan" => task.with_plan = true,
+            "--cert" => task.certificate = Some(words.next().expect("a file")),
+            "--lean" => task.lean = true,
+            "--check" => task.checked = Some(words.next().expect("a file")),
+            _ => task.names.push(word),
         }
     }
-    if names.len() == 1 {
-        let folder = names.remove(0);
-        names = ["timetable.csv", "fleet.csv", "rules.toml"].map(|name| format!("{folder}/{name}")).to_vec();
+    if task.names.len() == 1 {
+        let folder = task.names.remove(0);
+        task.names = ["timetable.csv", "fleet.csv", "rules.toml"].map(|name| format!("{folder}/{name}")).to_vec();
     }
-    assert!(names.len() == 3, "usage: plain FOLDER [--nodes N] [--best] [--plan]");
-    let texts: Vec<String> = names.iter().map(|name| std::fs::read_to_string(name).expect(name)).collect();
-    let book = book::book_of(&texts[0], &texts[1], &texts[2]);
-    let table = CostTable::of(Global, &book).expect("memory");
+    assert!(task.names.len() == 3, "usage: plain FOLDER [--nodes N] [--best] [--plan] [--cert FILE [--lean]] [--check FILE]");
+    task
+}
+
+fn search_for(book: &Book, task: &Task) -> Outcome {
+    let table = CostTable::of(Global, book).expect("memory");
+    if let Some(name) = &task.certificate {
+        return certificates::plan(book, &table, task.limit, task.best, task.lean, name);
+    }
     let mut log = Trace {
         told: std::env::var("TRACE").is_ok_and(|value| value == "1"),
         events: 0,
         facts: 0,
     };
-    let begun = seconds();
-    let found = if best {
-        search_best(Global, &book, &table, limit, &mut log)
+    let found = if task.best {
+        search_best(Global, book, &table, task.limit, &mut log)
     } else {
-        search(Global, &book, &table, limit, &mut log)
+        search(Global, book, &table, task.limit, &mut log)
     };
-    let outcome = found.expect("no stop");
+    found.expect("no stop")
+}
+
+fn main() {
+    let task = task_of(std::env::args().skip(1));
+    let texts: Vec<String> = task.names.iter().map(|name| std::fs::read_to_string(name).expect(name)).collect();
+    let book = book::book_of(&texts[0], &texts[1], &texts[2]);
+    if let Some(name) = &task.checked {
+        certificates::check(&book, name);
+        return;
+    }
+    let begun = seconds();
+    let outcome = search_for(&book, &task);
     let ended = seconds();
-    show(&book, &outcome, with_plan);
+    show(&book, &outcome, task.with_plan);
     println!("seconds {:.3} (search {:.3})", ended, ended - begun);
 }

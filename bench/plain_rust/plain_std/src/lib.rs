@@ -4,6 +4,7 @@
 pub mod alloc;
 mod at;
 pub mod indexmap;
+pub mod itoa;
 mod iter_more;
 mod probe;
 pub mod std_alloc;

@@ -20,8 +20,6 @@ use Rattle.branch_marks.specs.Settled.{AreDuals, AreRoutesOfWeights}
 use Rattle.branch_marks.specs.TreeLog.{Notes, NotesFront}
 use Rattle.branch_marks.specs.Weights.{IsLeastWeight}
 use Rattle.branch_marks.specs.inside.MarkTables.{AreMarksOf}
-use Rattle.label_store.specs.Seen.{StoreSeen}
-use Rattle.pricing.specs.Rows.{labels_of}
 use Rattle.pricing.specs.inside.Prepared.{IsPricerOf}
 use Rattle.route_search.specs.Search.{IsSearchOf}
 use Rattle.node_leaves.specs.declared.node_pricer.NodePricer.{NodePricer}
@@ -54,10 +52,6 @@ abbrev pub ArePrices : CostTableSeen → BookSeen → List Fact → List ℤ →
 ArePrices table book marks duals (all.Least values routes) =
     AreLeastWeights table book marks duals values.items × AreRoutesOfWeights table book marks duals values.items routes.items
 ArePrices table book marks duals (all.Stuck k) = (k < aircraft book) × IsStuck book marks k
-
--- the cover with this value that the labels of a priced store make
-abbrev pub priced_cover : ℤ → StoreSeen → Cover
-priced_cover value store = record { value = value; family = labels_of store }
 
 -- a cover of aircraft k with this value is shown and told
 abbrev pub IsCoverNoted : CostTableSeen → BookSeen → List Fact → ℕ → List ℤ → ℤ → LogShown → LogShown → Type 0

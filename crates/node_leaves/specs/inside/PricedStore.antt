@@ -1,5 +1,5 @@
 -- What a priced store shows: its labels are a family of a certificate, and a line spells each of them.
--- For src/node_pricer.rt and src/laws.rt.
+-- For src/node_pricer.rt, src/covers.rt and src/laws.rt.
 use Rattle.std.specs.Prelude.{◌≡◌, ◌+◌, ◌<◌, ℕ, ℤ, List, length}
 use Rattle.tail_book.specs.Seen.{BookSeen}
 use Rattle.tail_book.specs.TableSeen.{CostTableSeen}
@@ -9,7 +9,8 @@ use Rattle.tail_book.specs.inside.Sound.{IsBook}
 use Rattle.branch_marks.specs.declared.fact.Fact.{Fact}
 use Rattle.branch_marks.specs.DeadEnds.{IsStuck}
 use Rattle.branch_marks.specs.Families.{IsClosedFamily, EndsAtLeast, HasNoEnd}
-use Rattle.branch_marks.specs.ProofTree.{IsShownFamily}
+use Rattle.branch_marks.specs.Labels.{Label}
+use Rattle.branch_marks.specs.ProofTree.{IsShownCover, IsShownFamily}
 use Rattle.branch_marks.specs.Settled.{AreDuals}
 use Rattle.branch_marks.specs.Weights.{WeighsAtLeast}
 use Rattle.label_store.specs.Seen.{StoreSeen}
@@ -33,6 +34,11 @@ PricedFamiliesAreShown = (table : CostTableSeen) (book : BookSeen) (marks : List
 abbrev pub PricedEndsAreLow : Type 0
 PricedEndsAreLow = (table : CostTableSeen) (book : BookSeen) (marks : List Fact) (k : ℕ) (duals : List ℤ) (store : StoreSeen) (low : ℤ) → IsStore store
     → IsPricedStore table book marks k duals store → WeighsAtLeast table book marks k duals low → EndsAtLeast marks k (labels_of store) low
+
+-- the family shows each value that no route of aircraft k undercuts
+abbrev pub ShowsLowValues : CostTableSeen → BookSeen → List Fact → ℕ → List ℤ → List Label → Type 0
+ShowsLowValues table book marks k duals family =
+    (low : ℤ) → WeighsAtLeast table book marks k duals low → IsShownCover table book marks k duals (record { value = low; family = family })
 
 -- and there is none where the aircraft is stuck
 abbrev pub StuckHaveNoEnd : Type 0

@@ -623,16 +623,40 @@ pub const SPLIT: &str =
 
 pub const BARE_LEAF: &str = "tailcert 1 1 0 0\nbound\ndual 0 1001\nclaim limit 2 -\n";
 
+// The same with lean leaves, and a lean certificate of the least cost.
+const LEAN_SPLIT: &str =
+    "tailcert 2 2 1 0\nsplit fly 0 1\nlean\ndual 0 1000\nhole 1\nclaim infeasible\n";
+
+const LEAN_BARE_LEAF: &str = "tailcert 2 1 0 0\nlean\ndual 0 1001\nclaim limit 2 -\n";
+
+const LEAN_LEAST: &str = "tailcert 2 2 2 0\nlean\ndual 0 120000\ndual 1 180000\n\
+plan\nfly 0 1\nfly 1 0\nclaim optimal 240\n";
+
+// What a certificate is of, its book, what legal plans of that cost, and its text.
+type Known = (&'static str, Made, &'static [u64], &'static str);
+
+const KNOWN: &[Known] = &[
+    ("a split", LATE, &[], SPLIT),
+    ("a bare leaf", NOBODY, &[], BARE_LEAF),
+    ("a lean split", LATE, &[], LEAN_SPLIT),
+    ("a lean bare leaf", NOBODY, &[], LEAN_BARE_LEAF),
+    ("a lean least cost", RATES, &[240, 300], LEAN_LEAST),
+];
+
+fn known() -> &'static [Known] {
+    KNOWN
+}
+
 // A certificate with one byte changed, each in turn to six others, never claims what is not true: one of a least cost, of
-// a split, and of a leaf without covers.
+// a split, and of a leaf without covers, and lean ones of these.
 #[test]
 fn one_byte_away(rt: HostRuntime) -> Result<(), Fail> {
     let least = with_lines(rt.alloc(), 0, 0, "")?;
     let place = unsafe_place_of(rt.alloc(), &RATES, &[240, 300], &least)?;
     assert!(rt; place.is_none(), "a least cost, {place:?}");
-    let place = unsafe_place_of(rt.alloc(), &LATE, &[], SPLIT)?;
-    assert!(rt; place.is_none(), "a split, {place:?}");
-    let place = unsafe_place_of(rt.alloc(), &NOBODY, &[], BARE_LEAF)?;
-    assert!(rt; place.is_none(), "a bare leaf, {place:?}");
+    for (about, made, costs, text) in known() {
+        let place = unsafe_place_of(rt.alloc(), made, costs, text)?;
+        assert!(rt; place.is_none(), "{about}, {place:?}");
+    }
     Ok(())
 }

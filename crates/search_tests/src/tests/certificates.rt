@@ -1,9 +1,11 @@
-//! Certificates of books by chance: what a search in either order writes, in either version, is accepted, for what it answers.
+//! Certificates of books that branch, and of books by chance: what a search in either order writes, in either version, is accepted,
+//! for what it answers.
 
 ghost use Rattle.std.specs.Prelude.{◌≡◌};
 ghost use Rattle.tail_book.specs.CostTable.{costs_of};
 
-use super::book_by_chance;
+use super::branching::branching_books;
+use super::{book_by_chance, book_of};
 use branch_tree::Limit;
 use cert_checker::{Verdict, judge};
 use cert_lines::Version;
@@ -76,15 +78,36 @@ fn next_wrong(alloc: Global, dice: &mut Dice, way: Way) -> Option<usize> {
     }
 }
 
-// Three hundred books, depth first and by least bound, with full and with lean certificates.
+// The same of the book of three tables.
+fn first_wrong_in(alloc: Global, texts: &[&str; 3], way: Way) -> Option<usize> {
+    match book_of(alloc, texts) {
+        Some(book) => first_wrong_of(alloc, &book, way),
+        None => Some(0),
+    }
+}
+
+// Depth first and by least bound, with full and with lean certificates.
+const WAYS: [Way; 4] = [
+    (Order::DepthFirst, Version::Full),
+    (Order::DepthFirst, Version::Lean),
+    (Order::LeastBound, Version::Full),
+    (Order::LeastBound, Version::Lean),
+];
+
+#[test]
+fn certificates_of_branching_books_are_accepted(rt: HostRuntime) {
+    for way in WAYS {
+        for (number, (texts, _)) in branching_books().iter().enumerate() {
+            let wrong = first_wrong_in(rt.alloc(), texts, way);
+            assert!(rt; wrong.is_none(), "{way:?}, book {number}, limit {wrong:?}");
+        }
+    }
+}
+
+// Three hundred books.
 #[test]
 fn certificates_are_accepted(rt: HostRuntime) {
-    for &way in &[
-        (Order::DepthFirst, Version::Full),
-        (Order::DepthFirst, Version::Lean),
-        (Order::LeastBound, Version::Full),
-        (Order::LeastBound, Version::Lean),
-    ] {
+    for way in WAYS {
         let mut dice = Dice::new(29);
         for turn in 0..300u32 {
             let wrong = next_wrong(rt.alloc(), &mut dice, way);
