@@ -1,5 +1,5 @@
 #!/usr/bin/env python3
-"""Makes a plain Rust workspace of the search crates of a clone.
+"""Makes a plain Rust workspace of the crates of the search and of certificates of a clone.
 
 usage: plain_rust.py CLONE WORKSPACE [--checked] [--repr-c] [--trace=NAME,NAME..]
 

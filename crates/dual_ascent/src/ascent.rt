@@ -10,7 +10,7 @@ ghost use Rattle.std.specs.Prelude.{◌≡◌, length, None, IfOk};
 ghost use Rattle.branch_marks.specs.Settled.{AreDuals};
 ghost use Rattle.dual_ascent.specs.Ascent.{better};
 
-use crate::climb::{Limits, climb};
+use crate::climb::{Limits, climb, go_on};
 use crate::mixture::Mixture;
 use crate::powers::Powers;
 use restricted_master::Pool;
@@ -54,6 +54,9 @@ const STALLS: u32 = 4;
 
 // So many rounds without a gain cool the ascent, also where its sweeps have not come to rest.
 const PATIENCE: u32 = 2;
+
+// Where sweeps did not come to rest, duals go on along their way at most so often.
+const LEAPS: u32 = 62;
 
 // An ascent between two rounds of pricing cools at most so often.
 const COOLINGS: u32 = 32;
@@ -282,6 +285,7 @@ impl Ascent {
         for _turn in 0..COOLINGS {
             self.is_still = self.climb_once(book, table, pool, duals)?;
             if !self.is_still {
+                self.leap(book, table, pool, duals)?;
                 self.cool_where_promise_is_small(book.tails.len());
                 return Ok(());
             }
@@ -291,6 +295,57 @@ impl Ascent {
             self.cool();
         }
         Ok(())
+    }
+
+    // Goes on from the best duals through these, twice as far each time, as long as the pool promises more.
+    fn leap(
+        &mut self,
+        book: &Book,
+        table: &CostTable,
+        pool: &Pool,
+        duals: &mut Duals,
+    ) -> Result<(), Memory>
+        requires duals { AreDuals table.now book.now duals.old.values }
+        ensures kept { self.new ≡ self.old }
+        ensures duals { AreDuals table.now book.now duals.new.values }
+    {
+        for _turn in 0..LEAPS {
+            if !self.leap_once(book, table, pool, duals)? {
+                return Ok(());
+            }
+        }
+        Ok(())
+    }
+
+    // Goes twice as far from the best duals, where the pool promises more there. Answers whether it does.
+    fn leap_once(
+        &mut self,
+        book: &Book,
+        table: &CostTable,
+        pool: &Pool,
+        duals: &mut Duals,
+    ) -> Result<bool, Memory>
+        requires duals { AreDuals table.now book.now duals.old.values }
+        ensures kept { self.new ≡ self.old }
+        ensures duals { AreDuals table.now book.now duals.new.values }
+    {
+        let limits = Limits {
+            center: self.best.as_slice(),
+            radius: self.radius,
+            most: self.most,
+        };
+        let mut there = Duals {
+            values: duals.values.clone()?,
+        };
+        go_on(book, table, limits, &mut there);
+        let m = book.tails.len();
+        let sum = self.mixture.sum_over(pool, there.values.as_slice(), m)?;
+        if !self.promised.is_some_and(|promised| promised < sum) {
+            return Ok(false);
+        }
+        self.promised = Some(sum);
+        duals.values.copy_from_slice(there.values.as_slice());
+        Ok(true)
     }
 
     // Cools where sweeps did not come to rest, but the pool promises so little that no more is to be had at this temperature.

@@ -27,6 +27,13 @@ pub struct Limits<'a> {
 }
 
 impl Limits<'_> {
+    // The dual of an activity, gone twice as far from the trusted one, within the limits.
+    fn further(&self, a: usize, value: i64) -> i64 {
+        let center = self.center.get(a).copied().unwrap_or(0);
+        let way = value.saturating_sub(center);
+        self.within(a, value.saturating_add(way))
+    }
+
     // The dual of an activity, moved to within the limits.
     fn within(&self, a: usize, value: i64) -> i64 {
         let center = self.center.get(a).copied().unwrap_or(0);
@@ -114,6 +121,18 @@ fn sweep(
         }
     }
     Ok(moved)
+}
+
+/// Moves each dual twice as far from the trusted one, within the limits and the box.
+pub fn go_on(book: &Book, table: &CostTable, limits: Limits<'_>, duals: &mut Duals)
+    requires duals { AreDuals table.now book.now duals.old.values }
+    ensures duals { AreDuals table.now book.now duals.new.values }
+{
+    let n = duals.values.len();
+    for a in 0..n {
+        let value = limits.further(a, duals.values[a]);
+        put(book, table, duals, a, value);
+    }
 }
 
 /// Sweeps over mixtures of a temperature until little moves, and answers whether it came to that.

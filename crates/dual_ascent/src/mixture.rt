@@ -218,16 +218,24 @@ impl Mixture {
 
     /// The sum of duals, and of the least weight of each aircraft's routes that take part, in thousandths of a cost unit.
     pub fn sum(&self, duals: &[i64]) -> i128 {
-        let mut sum = 0i128;
-        for dual in duals {
-            sum = sum.saturating_add(*dual as i128);
-        }
+        let mut sum = total(duals);
         for owner in self.owners.iter() {
             if let Some(least) = least(self.mixed.as_slice(), *owner) {
                 sum = sum.saturating_add(least as i128);
             }
         }
         sum
+    }
+
+    /// The same over all routes of a pool: the sum of duals, and of the least weight of each aircraft's routes.
+    pub fn sum_over(
+        &mut self,
+        pool: &Pool,
+        duals: &[i64],
+        aircraft: usize,
+    ) -> Result<i128, Memory> {
+        self.weigh_all(pool, duals, aircraft)?;
+        Ok(total(duals).saturating_add(total(self.least.as_slice())))
     }
 
     // Measures an aircraft's masses from its least weight.
@@ -359,6 +367,15 @@ fn least(mixed: &[Mixed], owner: Owner) -> Option<i64> {
         least = Some(least.map_or(route.weight, |known: i64| known.min(route.weight)));
     }
     least
+}
+
+// The sum of numbers.
+fn total(numbers: &[i64]) -> i128 {
+    let mut sum = 0i128;
+    for number in numbers {
+        sum = sum.saturating_add(*number as i128);
+    }
+    sum
 }
 
 // The mass of a weight that is so far above its base.
