@@ -10,6 +10,7 @@ mod labels;
 mod prices;
 mod questions;
 mod routes;
+mod shortages;
 mod weights;
 
 use tail_book::*;

@@ -2,10 +2,13 @@
 //!
 //! usage: plain FOLDER [--nodes N] [--best] [--plan] [--cert FILE [--lean]], or with three tables in place of the folder;
 //! with --check FILE nothing is planned, and the certificate in this file is judged.
+//! `plain repair TIMETABLE FLEET RULES PLAN` repairs a published plan; with --why nothing is planned, and it tells what is short.
 //! With TRACE=1 the events of the tree are told on standard error, each with processor seconds.
 
 mod book;
 mod certificates;
+mod repairs;
+mod shortages;
 
 use best_first::search_best;
 use branch_marks::{Event, LogFail, TreeLog};
@@ -96,6 +99,8 @@ struct Task {
     certificate: Option<String>,
     lean: bool,
     checked: Option<String>,
+    repaired: Option<String>,
+    why: bool,
 }
 
 fn task_of(mut words: impl Iterator<Item = String>) -> Task {
@@ -107,6 +112,8 @@ fn task_of(mut words: impl Iterator<Item = String>) -> Task {
         certificate: None,
         lean: false,
         checked: None,
+        repaired: None,
+        why: false,
     };
     while let Some(word) = words.next() {
         match word.as_str() {
@@ -115,9 +122,14 @@ fn task_of(mut words: impl Iterator<Item = String>) -> Task {
             "--plan" => task.with_plan = true,
             "--cert" => task.certificate = Some(words.next().expect("a file")),
             "--lean" => task.lean = true,
+            "--why" => task.why = true,
             "--check" => task.checked = Some(words.next().expect("a file")),
             _ => task.names.push(word),
         }
+    }
+    if task.names.len() == 5 && task.names[0] == "repair" {
+        task.repaired = task.names.pop();
+        task.names.remove(0);
     }
     if task.names.len() == 1 {
         let folder = task.names.remove(0);
@@ -151,6 +163,14 @@ fn main() {
     let book = book::book_of(&texts[0], &texts[1], &texts[2]);
     if let Some(name) = &task.checked {
         certificates::check(&book, name);
+        return;
+    }
+    if let Some(name) = &task.repaired {
+        repairs::tell_repair(&book, name);
+        return;
+    }
+    if task.why {
+        shortages::tell_shortage(&book);
         return;
     }
     let begun = seconds();

@@ -220,6 +220,16 @@ impl Weights {
         least
     }
 
+    /// The most that a route has of some activities beyond others, each of them as bits.
+    pub fn most(&self, asked: u32, brought: u32) -> i64 {
+        let mut most = 0i64;
+        for (number, _) in self.routes.as_slice() {
+            let had = i64::from((*number & asked).count_ones());
+            most = most.max(had.saturating_sub(i64::from((*number & brought).count_ones())));
+        }
+        most
+    }
+
     /// Adds to each weight the fees of the route's connections.
     pub fn add_fees(&mut self, book: &Book, quotas: &[Quota], fees: &[i64]) {
         for row in self.routes.iter_mut() {
