@@ -1,5 +1,5 @@
 -- What the words mean, at command lines that are written out. The rows show the three names in their order, the two
--- options in each way to write them, the flags, a trial, and what is refused: too few words or too many, a dash in front, a
+-- options in each way to write them, the flags, a trial, a question why no plan is legal, and what is refused: too few words or too many, a dash in front, a
 -- limit that is no number, an option or a flag twice, a flag with a value, a lean certificate without its file, and any
 -- other option.
 use Rattle.std.proofs.Common.{◌≡◌, ℕ, List, [], ◌∷◌, Option, Some, None, codes, refl}
@@ -10,6 +10,7 @@ use Rattle.certified_search.specs.declared.order.Order.TheVariants.{DepthFirst, 
 use Rattle.run_frame.specs.Tables.{NamesSeen}
 use Rattle.tailplan.proofs.WordLaws.{named}
 use Rattle.tailplan.specs.Tasks.{TaskNamesSeen}
+use Rattle.tailplan.specs.WhyWords.{why_of}
 use Rattle.tailplan.specs.Words.{run_of, seed_of}
 
 -- the words after the program's name
@@ -174,3 +175,14 @@ trials : (seed_of (codes "tailplan" ∷ codes "trial" ∷ codes "0" ∷ []) ≡ 
     × (after_name (codes "./trial" ∷ codes "f" ∷ codes "r" ∷ []) ≡ named (codes "./trial") (codes "f") (codes "r"))
 unfolding clap_on_literals run_of seed_of
 trials = (refl, refl, refl, refl, refl, refl, refl, refl, refl)
+
+-- behind the word that asks why no plan is legal stand three tables; a timetable of that name is written as a path
+whys : (why_of (codes "tailplan" ∷ codes "why" ∷ codes "t" ∷ codes "f" ∷ codes "r" ∷ []) ≡ Some t_f_r)
+    × (why_of (codes "tailplan" ∷ codes "why" ∷ codes "t" ∷ codes "f" ∷ []) ≡ None)
+    × (why_of (codes "tailplan" ∷ codes "why" ∷ codes "t" ∷ codes "f" ∷ codes "r" ∷ codes "x" ∷ []) ≡ None)
+    × (why_of (codes "tailplan" ∷ codes "./why" ∷ codes "t" ∷ codes "f" ∷ codes "r" ∷ []) ≡ None)
+    × (why_of (codes "tailplan" ∷ codes "why" ∷ codes "--" ∷ codes "-f" ∷ codes "why" ∷ []) ≡ Some (record { timetable = codes "--"; fleet = codes "-f"; rules = codes "why" }))
+    × (after_name (codes "why" ∷ codes "f" ∷ codes "r" ∷ []) ≡ None)
+    × (after_name (codes "./why" ∷ codes "f" ∷ codes "r" ∷ []) ≡ named (codes "./why") (codes "f") (codes "r"))
+unfolding clap_on_literals run_of why_of
+whys = (refl, refl, refl, refl, refl, refl, refl)

@@ -8,3 +8,5 @@ pub mod TrialRuns
 pub mod TrialWords
 pub mod RepairWords
 pub mod RepairPromised
+pub mod WhyWords
+pub mod WhyPromised

@@ -13,16 +13,17 @@ use Rattle.tailplan.specs.RepairPromises.{JudgesRepair, RefusesTexts}
 use Rattle.tailplan.specs.RepairTexts.{RepairNamesSeen}
 use Rattle.tailplan.specs.RepairWords.{is_repair, names_behind, repair_of}
 use Rattle.tailplan.specs.Tasks.{TaskNamesSeen}
+use Rattle.tailplan.specs.WhyWords.{is_why}
 use Rattle.tailplan.specs.Words.{command, is_trial, names_in, run_of, seed_of}
 
-none_of : (trial repair : Bool) (names : Option TaskNamesSeen) → repair ≡ true → (if trial || repair then None else names) ≡ None
-none_of true repair names asks = refl
-none_of false true names asks = refl
-none_of false false names asks = absurd (cc asks)
+none_of : (trial repair why : Bool) (names : Option TaskNamesSeen) → repair ≡ true → (if trial || (repair || why) then None else names) ≡ None
+none_of true repair why names asks = refl
+none_of false true why names asks = refl
+none_of false false why names asks = absurd (cc asks)
 
 pub no_tables : (words : List (List ℕ)) → is_repair words ≡ true → run_of words ≡ None
 unfolding run_of
-no_tables words asks = none_of (is_trial words) (is_repair words) (option_and_then names_in (matched command words)) asks
+no_tables words asks = none_of (is_trial words) (is_repair words) (is_why words) (option_and_then names_in (matched command words)) asks
 
 -- a word is not both of two words
 pub no_seed : (words : List (List ℕ)) → is_repair words ≡ true → seed_of words ≡ None
@@ -45,7 +46,7 @@ pub no_repair : (words : List (List ℕ)) → is_repair words ≡ false → repa
 unfolding repair_of
 no_repair words other = not_asked (is_repair words) (names_behind words) other
 
-held_nowhere : {N X : Type 0} (given : Option N) (held : N → Option X) (x : X) → given ≡ None → IsHeld given held x → ⊥
+pub held_nowhere : {N X : Type 0} (given : Option N) (held : N → Option X) (x : X) → given ≡ None → IsHeld given held x → ⊥
 held_nowhere given held x none there = let both = sym none ∙ there.1 in absurd (cc both)
 
 -- of the tables nothing is said in a repair

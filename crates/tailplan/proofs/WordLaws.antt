@@ -1,6 +1,6 @@
 -- What the words mean, whatever the names are. The reading computes for names that are not known: behind two dashes
--- nothing of them is looked at, and without these only that the first sign is no dash. Two cases are left to tests: the
--- first name may ask for a trial, or for a repair.
+-- nothing of them is looked at, and without these only that the first sign is no dash. Three cases are left to tests: the
+-- first name may ask for a trial, for a repair, or why no plan is legal.
 use Rattle.std.proofs.Common.{Bool, true, false, ◌||◌, ◌==◌, ◌≡◌, ◌∙◌, ℕ, List, [], ◌∷◌, bytes_eq, Option, Some, None, codes, if◌then◌else◌, refl, sym, ap}
 use Rattle.std.specs.Prelude.{option_and_then}
 use Rattle.clap.proofs.OnLiterals.{clap_on_literals}
@@ -11,6 +11,7 @@ use Rattle.certified_search.specs.declared.order.Order.TheVariants.{DepthFirst}
 use Rattle.run_frame.specs.Words.{matched}
 use Rattle.tailplan.specs.RepairWords.{is_repair}
 use Rattle.tailplan.specs.Tasks.{TaskNamesSeen}
+use Rattle.tailplan.specs.WhyWords.{is_why}
 use Rattle.tailplan.specs.Words.{command, is_trial, names_in, run_of}
 
 -- the words name these files, no limit, no order but the usual one, and no certificate's file
@@ -39,23 +40,25 @@ plain_matched : (program timetable fleet rules_file : List ℕ) (t f r : ℕ) �
 unfolding clap_on_literals
 plain_matched program timetable fleet rules_file t f r et ef er = rw (et, et, ef, ef, er, er) refl
 
-not_asked : (trial repair : Bool) (names : Option TaskNamesSeen) → trial ≡ false → repair ≡ false → (if trial || repair then None else names) ≡ names
-not_asked true repair names is other = absurd (cc is)
-not_asked false true names is other = absurd (cc other)
-not_asked false false names is other = refl
+not_asked : (trial repair why : Bool) (names : Option TaskNamesSeen) → trial ≡ false → repair ≡ false → why ≡ false → (if trial || (repair || why) then None else names) ≡ names
+not_asked true repair why names is other third = absurd (cc is)
+not_asked false true why names is other third = absurd (cc other)
+not_asked false false true names is other third = absurd (cc third)
+not_asked false false false names is other third = refl
 
--- what the command matched gives the names, where no trial and no repair are asked for
-pub names_given : (words : List (List ℕ)) (app : App) (given : Option (List Row)) (rows : List Row) → is_trial words ≡ false → is_repair words ≡ false → app ≡ command
+-- what the command matched gives the names, where nothing else is asked for
+pub names_given : (words : List (List ℕ)) (app : App) (given : Option (List Row)) (rows : List Row) → is_trial words ≡ false → is_repair words ≡ false → is_why words ≡ false → app ≡ command
     → given ≡ matched app words → given ≡ Some rows → run_of words ≡ names_in rows
 unfolding run_of
-names_given words app given rows no_trial no_repair same told some =
-    not_asked (is_trial words) (is_repair words) (option_and_then names_in (matched command words)) no_trial no_repair
+names_given words app given rows no_trial no_repair no_why same told some =
+    not_asked (is_trial words) (is_repair words) (is_why words) (option_and_then names_in (matched command words)) no_trial no_repair no_why
     ∙ ap (λ (found : Option (List Row)). option_and_then names_in found) (ap (λ (one : App). matched one words) (sym same) ∙ sym told ∙ some)
 
--- and they are the names where the first asks for no trial and no repair
+-- and they are the names where the first asks for nothing else
 plain_names : (program timetable fleet rules_file : List ℕ) (t f r : ℕ) → (t == 45) ≡ false → (f == 45) ≡ false → (r == 45) ≡ false
-    → bytes_eq (t ∷ timetable) (codes "trial") ≡ false → bytes_eq (t ∷ timetable) (codes "repair") ≡ false → run_of (program ∷ (t ∷ timetable) ∷ (f ∷ fleet) ∷ (r ∷ rules_file) ∷ []) ≡ named (t ∷ timetable) (f ∷ fleet) (r ∷ rules_file)
+    → bytes_eq (t ∷ timetable) (codes "trial") ≡ false → bytes_eq (t ∷ timetable) (codes "repair") ≡ false
+    → bytes_eq (t ∷ timetable) (codes "why") ≡ false → run_of (program ∷ (t ∷ timetable) ∷ (f ∷ fleet) ∷ (r ∷ rules_file) ∷ []) ≡ named (t ∷ timetable) (f ∷ fleet) (r ∷ rules_file)
 unfolding run_of
-plain_names program timetable fleet rules_file t f r et ef er no_trial no_repair =
+plain_names program timetable fleet rules_file t f r et ef er no_trial no_repair no_why =
     let words = program ∷ (t ∷ timetable) ∷ (f ∷ fleet) ∷ (r ∷ rules_file) ∷ [] in
-    not_asked (is_trial words) (is_repair words) (option_and_then names_in (matched command words)) no_trial no_repair ∙ plain_matched program timetable fleet rules_file t f r et ef er
+    not_asked (is_trial words) (is_repair words) (is_why words) (option_and_then names_in (matched command words)) no_trial no_repair no_why ∙ plain_matched program timetable fleet rules_file t f r et ef er

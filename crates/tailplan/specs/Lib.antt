@@ -9,5 +9,8 @@ pub mod RepairWords
 pub mod RepairCases
 pub mod RepairAnswers
 pub mod RepairPromises
+pub mod WhyWords
+pub mod WhyAnswers
+pub mod WhyPromises
 pub mod Trials
 pub mod inside

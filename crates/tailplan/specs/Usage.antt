@@ -9,3 +9,7 @@ usage_line = codes "usage: tailplan TIMETABLE FLEET RULES [--nodes N] [--cert FI
 -- the words of a repair
 abbrev pub repair_usage_line : List ℕ
 repair_usage_line = codes "usage: tailplan repair TIMETABLE FLEET RULES PLAN" ++ newline
+
+-- the words that ask why no plan is legal
+abbrev pub why_usage_line : List ℕ
+why_usage_line = codes "usage: tailplan why TIMETABLE FLEET RULES" ++ newline

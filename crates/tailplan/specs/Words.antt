@@ -16,6 +16,7 @@ use Rattle.run_frame.specs.Words.{matched, optional, tables_command, tables_in}
 use Rattle.seed_tables.specs.declared.trial.TheConstants.{SEED_LIMIT}
 use Rattle.tailplan.specs.RepairWords.{is_repair}
 use Rattle.tailplan.specs.Tasks.{TaskNamesSeen}
+use Rattle.tailplan.specs.WhyWords.{is_why}
 use Rattle.tailplan.specs.declared.words.TheConstants.{NODE_LIMIT}
 
 -- a flag, which may be given, once and without a value
@@ -69,9 +70,10 @@ is_trial [] = false
 is_trial (program ∷ []) = false
 is_trial (program ∷ word ∷ rest) = bytes_eq word (codes "trial")
 
--- the names that the words give; words that the command refuses give none, nor do those that ask for a trial or a repair
+-- the names that the words give; words that the command refuses give none, nor do those that ask for a trial, for a repair, or
+-- why no plan is legal
 unfoldable pub run_of : List (List ℕ) → Option TaskNamesSeen
-run_of words = if is_trial words || is_repair words then None else option_and_then names_in (matched command words)
+run_of words = if is_trial words || (is_repair words || is_why words) then None else option_and_then names_in (matched command words)
 
 -- a seed is a number, and any other text is refused
 abbrev pub seeded : Result ℕ Bad → Option ℕ

@@ -1,5 +1,6 @@
 -- What only proofs, and calls further in, cite.
 pub mod Repairs
+pub mod Whys
 pub mod Outcomes
 pub mod Tasks
 pub mod Ending

@@ -5,6 +5,8 @@
 mod answer;
 mod answered;
 mod book_plan;
+mod explained;
+mod explaining;
 mod repair_run;
 mod repair_texts;
 mod repair_words;
@@ -13,9 +15,12 @@ mod run;
 mod tasks;
 mod trial;
 mod usage;
+mod why_run;
+mod why_words;
 mod words;
 
 pub use repair_words::{RepairNames, repair_of};
 pub use run::solve_run;
 pub use trial::{Checker, Judge, Tried, is_accepted, run_trial};
+pub use why_words::why_of;
 pub use words::{NODE_LIMIT, TaskNames, run_of, seed_of};

@@ -1,5 +1,5 @@
 //! A whole run: the words, the three tables, the search for a least plan with its certificate, and what is printed; or a trial,
-//! or a repair.
+//! or a repair, or why no plan is legal.
 
 ghost use Rattle.std.specs.Prelude.{◌≡◌, ◌≤◌, IfOk, IfSome, IsErr, IsSome, IsTrue, None, Ok, false};
 ghost use Rattle.tail_book.specs.Faults.{HasRisen};
@@ -16,6 +16,8 @@ ghost use Rattle.tailplan.specs.Promises.{JudgesBook, Promise, RefusesTables};
 ghost use Rattle.tailplan.specs.RepairAnswers.{MayReadPlan};
 ghost use Rattle.tailplan.specs.RepairPromises.{JudgesRepair, RefusesTexts};
 ghost use Rattle.tailplan.specs.Trials.{RefusesWords, RunPromise};
+ghost use Rattle.tailplan.specs.WhyAnswers.{MayReadWhy};
+ghost use Rattle.tailplan.specs.WhyPromises.{JudgesWhy, RefusesWhy};
 ghost use Rattle.tailplan.specs.Words.{run_of, seed_of};
 ghost use Rattle.tailplan.specs.inside.Ending.{KeepsFiles, LeavesFile};
 
@@ -25,6 +27,8 @@ use crate::repair_run::run_repair;
 use crate::repair_words::is_repair;
 use crate::tasks::Task;
 use crate::trial::{Checker, run_trial};
+use crate::why_run::run_why;
+use crate::why_words::is_why;
 use crate::words::{run_of, seed_of};
 use run_frame::{Answer, Ran, book_of, read_tables};
 use std::alloc::Global;
@@ -33,7 +37,7 @@ use tail_outside::{Files, ReadFail, Sink};
 /// Plans the timetable, the fleet and the rules that the words name: prints a legal plan of least cost, or that no
 /// plan is legal, or, at a limit of nodes, a bound with the best plan found, or why the words or a table are refused. A
 /// certificate is written where the words name a file for it. The files are handed back as they stand. Where the words ask
-/// for a trial it is run, and no file is touched; where they ask for a repair, files are only read.
+/// for a trial it is run, and no file is touched; where they ask for a repair, or why no plan is legal, files are only read.
 pub fn solve_run<F: Files, S: Sink>(
     alloc: Global,
     words: &[String],
@@ -42,6 +46,7 @@ pub fn solve_run<F: Files, S: Sink>(
 ) -> Ran<F>
     requires tables { MayUse (spelled words.now) (F.shows files) }
     requires plan { MayReadPlan (spelled words.now) (F.shows files) }
+    requires why { MayReadWhy (spelled words.now) (F.shows files) }
 
     // What the status says, and the causes of faults.
     ensures promised { RunPromise F.shows S.shows words.now files result.files out.old out.new result.status.0 }
@@ -54,6 +59,8 @@ pub fn solve_run<F: Files, S: Sink>(
     ensures judged { JudgesBook (spelled words.now) (F.shows files) result.status.0 }
     ensures texts_refused { RefusesTexts (spelled words.now) (F.shows files) result.status.0 }
     ensures repaired { JudgesRepair (spelled words.now) (F.shows files) result.status.0 }
+    ensures why_refused { RefusesWhy (spelled words.now) (F.shows files) result.status.0 }
+    ensures explained { JudgesWhy (spelled words.now) (F.shows files) result.status.0 }
 
     // What stays, and what the certificate's file is left with.
     ensures others { OnlyCertificate (cert_of (spelled words.now)) (F.shows files) (F.shows result.files) }
@@ -66,6 +73,9 @@ pub fn solve_run<F: Files, S: Sink>(
 {
     if is_repair(words) {
         return run_repair(alloc, words, files, out);
+    }
+    if is_why(words) {
+        return run_why(alloc, words, files, out);
     }
     match seed_of(words) {
         None => run_tables(alloc, words, files, out),

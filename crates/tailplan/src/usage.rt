@@ -1,8 +1,8 @@
-//! The lines that are printed where the words are refused: the words of a run over tables, and where they ask for a repair the
-//! words of that. Those of a trial are not among them, and no line says which words were wrong.
+//! The lines that are printed where the words are refused: the words of a run over tables, and where they ask for a repair, or why
+//! no plan is legal, the words of that. Those of a trial are not among them, and no line says which words were wrong.
 
 ghost use Rattle.std.specs.Prelude.{◌≡◌};
-ghost use Rattle.tailplan.specs.Usage.{repair_usage_line, usage_line};
+ghost use Rattle.tailplan.specs.Usage.{repair_usage_line, usage_line, why_usage_line};
 
 /// The words that the program takes, as one line.
 pub fn usage_line() -> &'static [u8]
@@ -16,4 +16,11 @@ pub fn repair_usage_line() -> &'static [u8]
     ensures { result.now ≡ repair_usage_line }
 {
     b"usage: tailplan repair TIMETABLE FLEET RULES PLAN\n"
+}
+
+/// The words that ask why no plan is legal, as one line.
+pub fn why_usage_line() -> &'static [u8]
+    ensures { result.now ≡ why_usage_line }
+{
+    b"usage: tailplan why TIMETABLE FLEET RULES\n"
 }

@@ -8,6 +8,7 @@ ghost use Rattle.tailplan.specs.Words.{command, is_given, is_trial, limit_of, na
 ghost use Rattle.tailplan.specs.inside.Tasks.{task_names_seen};
 
 use crate::repair_words::is_repair;
+use crate::why_words::is_why;
 use branch_tree::Limit;
 use cert_lines::Version;
 use certified_search::Order;
@@ -145,13 +146,13 @@ pub fn seed_of(words: &[String]) -> Option<u64>
     }
 }
 
-/// The names of the tables, the limit, the order and the version, or nothing where the words are refused or ask for a trial or a
-/// repair. The words begin with the program's name.
+/// The names of the tables, the limit, the order and the version, or nothing where the words are refused or ask for a trial,
+/// for a repair, or why no plan is legal. The words begin with the program's name.
 #[tactic(auto, unfolding(crate::specs::Words::run_of))]
 pub fn run_of<'a>(alloc: Global, words: &'a [String]) -> Result<Option<TaskNames<'a>>, Memory>
     ensures { IfOk result (λ names. option_map task_names_seen names ≡ run_of (spelled words.now)) }
 {
-    if is_trial(words) || is_repair(words) {
+    if is_trial(words) || is_repair(words) || is_why(words) {
         return Ok(None);
     }
     match matched(command(alloc)?, words)? {

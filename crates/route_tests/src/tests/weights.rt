@@ -102,7 +102,10 @@ fn paid(quotas: &[Quota], fees: &[i64], activity: &Activity, free: Option<i64>) 
 // What the connections of six activities pay, those whose bits a number has.
 fn all_paid(book: &Book, quotas: &[Quota], fees: &[i64], number: u32) -> i64 {
     let (mut sum, mut free) = (0i64, None);
-    for (a, activity) in (0..6u32).zip(&book.activities) {
+    for a in 0..6u32 {
+        let Some(activity) = book.activities.get(a as usize) else {
+            return sum;
+        };
         if number >> a & 1 == 1 {
             sum = sum.saturating_add(paid(quotas, fees, activity, free));
             free = Some(activity.end);

@@ -18,6 +18,7 @@ mod repairs;
 mod rooms;
 mod trials;
 mod week;
+mod whys;
 mod words;
 
 use crate::tests::runs::{self, Program};

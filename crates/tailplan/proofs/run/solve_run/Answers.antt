@@ -1,9 +1,11 @@
 use Rattle.std.proofs.Common.{◌≡◌, Some, false, rules, true}
 use Rattle.run_frame.specs.Spelled.{spelled}
 use Rattle.tailplan.specs.RepairWords.{is_repair}
+use Rattle.tailplan.specs.WhyWords.{is_why}
 use Rattle.tailplan.specs.Words.{seed_of}
 use Rattle.tailplan.proofs.RepairWords.{no_refusal as no_refusal_in_repair, no_repair_judged, no_repair_refused, no_touch, no_verdict as no_verdict_in_repair}
 use Rattle.tailplan.proofs.TrialWords.{left_alone, no_refusal, no_verdict}
+use Rattle.tailplan.proofs.WhyWords as why
 use Rattle.tailplan.proofs.run.solve_run.Goals as goal
 
 -- a repair: of tables and of a seed nothing is said
@@ -56,3 +58,60 @@ returns-in-Some-clause-judged g c =
 
 pub returns-in-Some-clause-left : goal.returns-in-Some-clause-left
 returns-in-Some-clause-left g c = left_alone (spelled c.args.words.now) (g.F.Files.shows c.args.files)
+
+-- why no plan is legal: of the tables of another run, of a repair and of a seed nothing is said
+pub returns-then-is_why-clause-tables_refused : goal.returns-then-is_why-clause-tables_refused
+returns-then-is_why-clause-tables_refused g c =
+    let asks : is_why (spelled c.args.words.now) ≡ true = search rules in
+    why.no_refusal (spelled c.args.words.now) (g.F.Files.shows c.args.files) c.run_why.result.status.0 asks
+
+pub returns-then-is_why-clause-judged : goal.returns-then-is_why-clause-judged
+returns-then-is_why-clause-judged g c =
+    let asks : is_why (spelled c.args.words.now) ≡ true = search rules in
+    why.no_verdict (spelled c.args.words.now) (g.F.Files.shows c.args.files) c.run_why.result.status.0 asks
+
+pub returns-then-is_why-clause-texts_refused : goal.returns-then-is_why-clause-texts_refused
+returns-then-is_why-clause-texts_refused g c =
+    let asks : is_why (spelled c.args.words.now) ≡ true = search rules in
+    why.no_repair_refused (spelled c.args.words.now) (g.F.Files.shows c.args.files) c.run_why.result.status.0 asks
+
+pub returns-then-is_why-clause-repaired : goal.returns-then-is_why-clause-repaired
+returns-then-is_why-clause-repaired g c =
+    let asks : is_why (spelled c.args.words.now) ≡ true = search rules in
+    why.no_repair_judged (spelled c.args.words.now) (g.F.Files.shows c.args.files) c.run_why.result.status.0 asks
+
+pub returns-then-is_why-clause-untouched : goal.returns-then-is_why-clause-untouched
+returns-then-is_why-clause-untouched g c =
+    let asks : is_why (spelled c.args.words.now) ≡ true = search rules in
+    why.no_touch (spelled c.args.words.now) _ asks
+
+-- and nothing of this is said in another run
+pub returns-then-is_repair-clause-why_refused : goal.returns-then-is_repair-clause-why_refused
+returns-then-is_repair-clause-why_refused g c =
+    let asks : is_repair (spelled c.args.words.now) ≡ true = search rules in
+    why.no_why_refused (spelled c.args.words.now) (g.F.Files.shows c.args.files) c.run_repair.result.status.0 (why.no_why_in_repair (spelled c.args.words.now) asks)
+
+pub returns-then-is_repair-clause-explained : goal.returns-then-is_repair-clause-explained
+returns-then-is_repair-clause-explained g c =
+    let asks : is_repair (spelled c.args.words.now) ≡ true = search rules in
+    why.no_why_judged (spelled c.args.words.now) (g.F.Files.shows c.args.files) c.run_repair.result.status.0 (why.no_why_in_repair (spelled c.args.words.now) asks)
+
+pub returns-in-None-clause-why_refused : goal.returns-in-None-clause-why_refused
+returns-in-None-clause-why_refused g c =
+    let other : is_why (spelled c.args.words.now) ≡ false = search rules in
+    why.no_why_refused (spelled c.args.words.now) (g.F.Files.shows c.args.files) c.run_tables.result.status.0 (why.no_why (spelled c.args.words.now) other)
+
+pub returns-in-None-clause-explained : goal.returns-in-None-clause-explained
+returns-in-None-clause-explained g c =
+    let other : is_why (spelled c.args.words.now) ≡ false = search rules in
+    why.no_why_judged (spelled c.args.words.now) (g.F.Files.shows c.args.files) c.run_tables.result.status.0 (why.no_why (spelled c.args.words.now) other)
+
+pub returns-in-Some-clause-why_refused : goal.returns-in-Some-clause-why_refused
+returns-in-Some-clause-why_refused g c =
+    let other : is_why (spelled c.args.words.now) ≡ false = search rules in
+    why.no_why_refused (spelled c.args.words.now) (g.F.Files.shows c.args.files) c.run_trial.result.0 (why.no_why (spelled c.args.words.now) other)
+
+pub returns-in-Some-clause-explained : goal.returns-in-Some-clause-explained
+returns-in-Some-clause-explained g c =
+    let other : is_why (spelled c.args.words.now) ≡ false = search rules in
+    why.no_why_judged (spelled c.args.words.now) (g.F.Files.shows c.args.files) c.run_trial.result.0 (why.no_why (spelled c.args.words.now) other)

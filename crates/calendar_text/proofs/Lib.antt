@@ -1,0 +1,3 @@
+pub mod CivilDays
+pub mod ReadBack
+pub mod Worked
