@@ -66,13 +66,13 @@ fn followed(fliers: &[u32; 8], b: usize) -> Option<usize>
     requires { b < 8 }
     ensures { IfSome result (λ a. a < 8) }
 {
-    let mut last = None;
-    for a in 0..b {
+    for back in 0..b {
+        let a = b - 1 - back;
         if fliers[a] == fliers[b] {
-            last = Some(a);
+            return Some(a);
         }
     }
-    last
+    None
 }
 
 fn is_short_on_day(times: &Times, a: usize, b: usize, quota: &Quota) -> bool

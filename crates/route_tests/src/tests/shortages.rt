@@ -67,13 +67,29 @@ enum Told {
     Wrong,
 }
 
+// What is told of what is found, where a plan is legal or none.
+fn told_found(
+    alloc: Global,
+    book: &Book,
+    found: &FoundShortage,
+    has_plan: bool,
+) -> Result<Told, Memory> {
+    if has_plan || !is_true(alloc, book, found)? {
+        return Ok(Told::Wrong);
+    }
+    Ok(Told::Cause(found.cause))
+}
+
 fn told_of(alloc: Global, book: &Book) -> Result<Told, Memory> {
-    let found = find_shortage(alloc, book)?;
-    match (least_plan(alloc, book)?, found) {
-        (Outcome::Infeasible, Some(it)) if is_true(alloc, book, &it)? => Ok(Told::Cause(it.cause)),
-        (Outcome::Infeasible, None) => Ok(Told::Nothing),
-        (Outcome::Optimal(_, _), None) => Ok(Told::Plan),
-        _ => Ok(Told::Wrong),
+    let has_plan = match least_plan(alloc, book)? {
+        Outcome::Optimal(_, _) => true,
+        Outcome::Infeasible => false,
+        _ => return Ok(Told::Wrong),
+    };
+    match find_shortage(alloc, book)? {
+        Some(found) => told_found(alloc, book, &found, has_plan),
+        None if has_plan => Ok(Told::Plan),
+        None => Ok(Told::Nothing),
     }
 }
 
