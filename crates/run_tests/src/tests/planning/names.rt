@@ -1,6 +1,9 @@
-//! What the words of the planner give: the names of three tables, the limit and the certificate's name, or the seed of a trial.
+//! What the words of the planner give: the names of three tables, the limit, the order and the certificate's version and name, or
+//! the seed of a trial.
 
 use branch_tree::Limit;
+use cert_lines::Version;
+use certified_search::Order;
 use run_frame::TableNames;
 use small_texts::words_of;
 use std::alloc::Global;
@@ -15,6 +18,8 @@ fn limited<'a>(timetable: &'a str, fleet: &'a str, rules: &'a str, limit: Limit)
             rules,
         },
         limit,
+        order: Order::DepthFirst,
+        version: Version::Full,
         cert: None,
     }
 }
@@ -122,6 +127,48 @@ fn certificates_have_names(rt: HostRuntime) -> Result<(), Fail> {
     Ok(())
 }
 
+// Flags stand where options may, and a lean certificate has a name.
+#[test]
+fn flags_choose_order_and_version(rt: HostRuntime) -> Result<(), Fail> {
+    let rows: &[(&[&str], Order, Version, Option<&str>)] = &[
+        (
+            &["tailplan", "t", "f", "r", "--best"],
+            Order::LeastBound,
+            Version::Full,
+            None,
+        ),
+        (
+            &["tailplan", "--best", "t", "f", "r", "--cert", "c"],
+            Order::LeastBound,
+            Version::Full,
+            Some("c"),
+        ),
+        (
+            &["tailplan", "t", "--lean", "f", "r", "--cert=c"],
+            Order::DepthFirst,
+            Version::Lean,
+            Some("c"),
+        ),
+        (
+            &["tailplan", "--lean", "--cert", "c", "--best", "t", "f", "r"],
+            Order::LeastBound,
+            Version::Lean,
+            Some("c"),
+        ),
+    ];
+    for &(words, order, version, cert) in rows {
+        let names = TaskNames {
+            order,
+            version,
+            cert,
+            ..named("t", "f", "r")
+        };
+        let are_read = are_read_as(rt.alloc(), words, Some(names))?;
+        assert!(rt; are_read, "{words:?}");
+    }
+    Ok(())
+}
+
 // Other numbers of names, names that begin with a dash, flags, and options without a value or twice.
 #[test]
 fn other_words_are_refused(rt: HostRuntime) -> Result<(), Fail> {
@@ -159,6 +206,9 @@ fn other_words_are_refused(rt: HostRuntime) -> Result<(), Fail> {
         &["tailplan", "t", "f", "r", "--cert", "-c"],
         &["tailplan", "t", "f", "r", "--cert", "c", "--cert", "c"],
         &["tailplan", "--cert", "t", "f", "r"],
+        &["tailplan", "t", "f", "r", "--lean"],
+        &["tailplan", "t", "f", "r", "--best", "--best"],
+        &["tailplan", "why", "f", "r"],
         &["tailplan", "trial", "f", "r"],
         &["tailplan", "trial", "1"],
         &["tailplan", "trial"],
