@@ -1,4 +1,4 @@
--- The whole tree of a depth-first search, and what its outcome has to do with it. For certified_search/src/certified.rt.
+-- The whole tree of a depth-first search, and what its outcome has to do with it. For best_first/src/growth.rt.
 use Rattle.std.specs.Prelude.{◌≡◌, ◌⊎◌, ℕ, ◌≤◌, ⊤, List, [], ◌∷◌, ◌++◌, length, Some, None}
 use Rattle.tail_book.specs.Seen.{BookSeen}
 use Rattle.tail_book.specs.TableSeen.{CostTableSeen}

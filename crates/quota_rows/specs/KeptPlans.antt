@@ -47,7 +47,7 @@ HasNoKeptPlan book quotas = (plan : List (List ℕ)) → ¬ IsKeptPlan book quot
 abbrev pub KeptCostAtLeastBy : Costs → BookSeen → List Quota → ℕ → Type 0
 KeptCostAtLeastBy costs book quotas low = (plan : List (List ℕ)) → IsKeptPlan book quotas plan → low ≤ costs plan
 
--- a least plan that keeps the quotas: it is legal, keeps them, and costs this, and no legal plan that keeps them costs less
+-- a least plan under quotas: it is a kept plan of this cost, which bounds what each kept plan costs from below
 pub record IsLeastKeptBy (cost_of : Costs) (book : BookSeen) (quotas : List Quota) (cost : ℕ) (plan : List (List ℕ)) : Type 0 where
   pub kept : IsKeptPlan book quotas plan
   pub costs : cost_of plan ≡ cost
