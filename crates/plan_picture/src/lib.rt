@@ -10,6 +10,7 @@ pub mod laws;
 mod layout;
 mod moved;
 mod picture;
+pub mod pieces;
 mod rows;
 mod shares;
 mod stops;

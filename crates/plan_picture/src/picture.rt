@@ -169,7 +169,8 @@ fn add_body(
     Ok(())
 }
 
-fn width_of(book: &Book) -> u64
+/// The width of a picture, in units.
+pub fn width_of(book: &Book) -> u64
     ensures value { result ≡ width_of book.now }
     ensures range { result < 10_000_000_000 }
 {
@@ -227,8 +228,8 @@ fn add_strips_front(
     Ok(())
 }
 
-// Adds what stands before the rows in what the strips show parts of.
-fn add_whole_front(
+/// Adds what stands before the rows in what the strips show parts of.
+pub fn add_whole_front(
     alloc: Global,
     width: u64,
     height: u64,
@@ -242,7 +243,8 @@ fn add_whole_front(
     Ok(())
 }
 
-fn open_line(alloc: Global, width: u64, height: u64) -> Result<Line, Memory>
+/// The head of a picture of this size.
+pub fn open_line(alloc: Global, width: u64, height: u64) -> Result<Line, Memory>
     requires width { width < 10_000_000_000 }
     requires height { height < 10_000_000_000_000 }
     ensures { IfOk result (λ line. line ≡ open_line width height) }
@@ -276,7 +278,8 @@ fn grid_line(alloc: Global, width: u64, height: u64) -> Result<Line, Memory>
     Ok(line)
 }
 
-fn add_days(alloc: Global, first: i64, days: u64, lines: &mut Vec<Line>) -> Result<(), Memory>
+/// Adds the dates of so many days.
+pub fn add_days(alloc: Global, first: i64, days: u64, lines: &mut Vec<Line>) -> Result<(), Memory>
     requires first { IsNear first }
     requires few { days < 700_000 }
     ensures { OnOk result (lines.new.items ≡ lines.old.items ++ day_lines first days) }

@@ -21,7 +21,8 @@ use std::alloc::Global;
 use tail_book::{Book, Memory, Place, Route};
 use tail_text::Line;
 
-fn head_line(
+/// The head of a row: its name in bold, what stands beside that, and more below.
+pub fn head_line(
     alloc: Global,
     row: u64,
     width: u64,

@@ -32,7 +32,15 @@ pub fn strip_top(height: u64, d: u64) -> u64
     ABOVE + d * strip_height(height)
 }
 
-fn part(alloc: Global, height: u64, d: u64, from: u64, to: u64, width: u64) -> Result<Line, Memory>
+/// A part of what all strips show, so wide from one place on, in the strip of a day from another place on.
+pub fn part(
+    alloc: Global,
+    height: u64,
+    d: u64,
+    from: u64,
+    to: u64,
+    width: u64,
+) -> Result<Line, Memory>
     requires height { height < 10_000_000 }
     requires few { d < 100_000 }
     ensures { IfOk result (λ line. line ≡ part height d from to width) }

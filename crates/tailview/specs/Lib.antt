@@ -5,4 +5,9 @@ pub mod Cases
 pub mod Answers
 pub mod Promises
 pub mod Drawn
+pub mod ShortageWords
+pub mod ShortageTexts
+pub mod ShortageAnswers
+pub mod ShortagePromises
+pub mod ViewPromises
 pub mod inside

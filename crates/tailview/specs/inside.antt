@@ -1,2 +1,3 @@
 -- What only proofs, and calls further in, cite.
 pub mod Texts
+pub mod Shortages

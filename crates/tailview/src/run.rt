@@ -1,5 +1,5 @@
-//! A whole run: the words, the files, the audit of the plan, and the picture that is printed. A step that fails gives
-//! the answer, so the first cause is what is told.
+//! A whole run: the words, the files, the audit of the plan, and the picture that is printed; or a run that draws a shortage. A step
+//! that fails gives the answer, so the first cause is what is told.
 
 ghost use Rattle.std.specs.Prelude.{◌≡◌, ◌≤◌, None, false, IfOk};
 ghost use Rattle.tail_outside.specs.Outside.{OnlyRead, PieceHasFailed, ReadHasFailed};
@@ -10,11 +10,15 @@ ghost use Rattle.run_frame.specs.Spelled.{spelled};
 ghost use Rattle.run_frame.specs.declared.answer.Answer.TheVariants.{ReadFailed};
 ghost use Rattle.tailview.specs.Answers.{AreJudged, AreRefused, IsTrueAnswer, MayRead, view_in};
 ghost use Rattle.tailview.specs.Promises.{JudgesPlan, Promise, RefusesTexts};
+ghost use Rattle.tailview.specs.ShortageAnswers.{MayReadShortage};
+ghost use Rattle.tailview.specs.ViewPromises.{JudgesFiles, RefusesFiles, RefusesWords, ViewPromise};
 ghost use Rattle.tailview.specs.Words.{names_of};
 ghost use Rattle.tailview.specs.Drawn.{drawn_rules};
 
 use crate::answer::Judged;
 use crate::before::{homes_before, plan_before};
+use crate::shortage_run::run_shortage;
+use crate::shortage_words::is_shortage;
 use crate::texts::{Texts, read_texts};
 use crate::usage::usage_line;
 use crate::words::names_of;
@@ -32,21 +36,44 @@ use tail_text::Stopped;
 /// Draws the plan by the tables that the words name: prints the picture of what is kept of it, with what it costs where
 /// it breaks no rule and else with the rules that it breaks, or why the words, a table or a plan's file are refused.
 /// Where a plan that was published before is named, what another aircraft flew in it is marked and counted.
+/// Where the words begin with a shortage's file, its picture is printed.
 /// The files are handed back as they stand.
 pub fn view_run<F: Files, S: Sink>(alloc: Global, words: &[String], files: F, out: &mut S) -> Ran<F>
-    requires { MayRead (spelled words.now) (F.shows files) }
+    requires plan { MayRead (spelled words.now) (F.shows files) }
+    requires shortage { MayReadShortage (spelled words.now) (F.shows files) }
 
     // What the status says, and the causes of faults.
-    ensures promised { Promise (spelled words.now) (F.shows files) (S.shows out.old) (S.shows out.new) result.status.0 }
+    ensures promised { ViewPromise (spelled words.now) (F.shows files) (S.shows out.old) (S.shows out.new) result.status.0 }
     ensures read_failed { result.status.0 ≡ 5 → ReadHasFailed (F.shows files) (F.shows result.files) }
     ensures write_failed { result.status.0 ≡ 6 → PieceHasFailed (S.shows out.old) (S.shows out.new) }
 
     // When each status comes.
+    ensures words_refused { RefusesWords (spelled words.now) result.status.0 }
+    ensures texts_refused { RefusesFiles (spelled words.now) (F.shows files) result.status.0 }
+    ensures judged { JudgesFiles (spelled words.now) (F.shows files) result.status.0 }
+
+    // What stays.
+    ensures same { OnlyRead (F.shows files) (F.shows result.files) }
+    ensures beside { S.beside out.old out.new }
+    ensures ceases { (S.shows out.new).ceased ≡ false → (S.shows out.old).ceased ≡ false }
+    ensures counts { (S.shows out.old).faults ≤ (S.shows out.new).faults }
+{
+    if is_shortage(words) {
+        run_shortage(alloc, words, files, out)
+    } else {
+        run_plan(alloc, words, files, out)
+    }
+}
+
+// A run that draws a plan.
+fn run_plan<F: Files, S: Sink>(alloc: Global, words: &[String], files: F, out: &mut S) -> Ran<F>
+    requires { MayRead (spelled words.now) (F.shows files) }
+    ensures promised { Promise (spelled words.now) (F.shows files) (S.shows out.old) (S.shows out.new) result.status.0 }
+    ensures read_failed { result.status.0 ≡ 5 → ReadHasFailed (F.shows files) (F.shows result.files) }
+    ensures write_failed { result.status.0 ≡ 6 → PieceHasFailed (S.shows out.old) (S.shows out.new) }
     ensures words_refused { names_of (spelled words.now) ≡ None → IsUnlessStopped 2 result.status.0 }
     ensures texts_refused { RefusesTexts (spelled words.now) (F.shows files) result.status.0 }
     ensures judged { JudgesPlan (spelled words.now) (F.shows files) result.status.0 }
-
-    // What stays.
     ensures same { OnlyRead (F.shows files) (F.shows result.files) }
     ensures beside { S.beside out.old out.new }
     ensures ceases { (S.shows out.new).ceased ≡ false → (S.shows out.old).ceased ≡ false }

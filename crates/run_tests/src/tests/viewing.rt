@@ -4,5 +4,6 @@ mod faults;
 mod fixtures;
 mod moved;
 mod pictures;
+mod shortages;
 mod strips;
 mod words;

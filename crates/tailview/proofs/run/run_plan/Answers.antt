@@ -3,7 +3,7 @@ use Rattle.run_frame.specs.inside.Answer.{IsPrinted, audit_status, status_of}
 use Rattle.run_frame.specs.Spelled.{spelled}
 use Rattle.tailview.specs.Answers.{answer_text}
 use Rattle.tailview.proofs.Promised.{judged, piece_failed, promise, read_failed, texts_refused, words_refused}
-use Rattle.tailview.proofs.run.view_run.Goals as goal
+use Rattle.tailview.proofs.run.run_plan.Goals as goal
 
 pub returns-clause-promised : goal.returns-clause-promised
 returns-clause-promised g c =

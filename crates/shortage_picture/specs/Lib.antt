@@ -1,0 +1,6 @@
+pub mod Sides
+pub mod Fixed
+pub mod Lanes
+pub mod Span
+pub mod Strips
+pub mod Picture

@@ -1,0 +1,4 @@
+pub mod Told
+pub mod BookIds
+pub mod ShortageText
+pub mod inside

@@ -1,0 +1,2 @@
+-- What only proofs, and calls further in, cite.
+pub mod OfBook
