@@ -1,0 +1,2 @@
+pub mod TieCounts
+pub mod OnceLemmas
