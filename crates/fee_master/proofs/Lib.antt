@@ -1,0 +1,17 @@
+mod Members
+mod LeastBelow
+mod OwnRoutes
+mod WithRoutes
+mod Shifted
+mod Changed
+mod Climbing
+mod Products
+mod Least
+mod BelowSums
+mod Tangents
+mod Paid
+mod Fair
+mod Rises
+mod Looking
+mod SumBound
+mod PoolSettled

@@ -1,0 +1,3 @@
+pub mod PoolSum
+pub mod SettledFees
+pub mod inside

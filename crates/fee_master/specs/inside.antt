@@ -1,0 +1,4 @@
+-- What only proofs, and calls further in, cite.
+pub mod Uses
+pub mod Lines
+pub mod Settling
