@@ -11,7 +11,8 @@ late       five flights are 90 minutes late, and so is their way back
 cancelled  two flights there and back and the last flight of a route are cancelled, and a pair like the first is flown three hours later
 closed     an airport is closed for two hours: what would leave or land there then does so at their end
 
-PROGRAM is the planner, bin/tailplan where none is named, and LIMIT another time than 60 seconds. Told are, for each disruption, how many
+PROGRAM is the planner, bin/tailplan where none is named, LIMIT another time than 60 seconds for a repair, and PLANNING another than 300
+for the plan that is published. With NODES that plan is the one found within so many nodes. Told are, for each disruption, how many
 repairs were proved least, how many have no legal plan, and how many had no end, with the seconds of a processor of the proved ones.
 """
 
@@ -161,7 +162,7 @@ def names_in(folder):
     return [os.path.join(folder, name) for name in ("timetable.csv", "fleet.csv", "rules.toml")]
 
 
-def time_table(program, limit, family, size, seed, work, found):
+def time_table(program, limits, family, size, seed, work, found):
     """Plans the tables of a seed, disrupts them and repairs the plan."""
     activities, aircraft = size.split("x")
     made = os.path.join(work, "made")
@@ -169,8 +170,9 @@ def time_table(program, limit, family, size, seed, work, found):
     tables = Tables(made)
     tables.add_reserves()
     tables.write(made)
-    plan, _ = run([program, *names_in(made)], limit)
-    if not plan.startswith("optimal"):
+    nodes = ["--nodes", os.environ["NODES"]] if "NODES" in os.environ else []
+    plan, _ = run([program, *names_in(made), *nodes], limits["PLANNING"])
+    if ":" not in plan:
         return
     published = os.path.join(work, "published.txt")
     with open(published, "w", encoding="utf-8") as file:
@@ -179,25 +181,33 @@ def time_table(program, limit, family, size, seed, work, found):
         changed = Tables(made)
         DISRUPT[kind](Dice(seed * 31 + KINDS.index(kind)), changed, changed.routes(plan))
         changed.write(os.path.join(work, kind))
-        printed, took = run([program, "repair", *names_in(os.path.join(work, kind)), published], limit)
+        printed, took = run([program, "repair", *names_in(os.path.join(work, kind)), published], limits["LIMIT"])
         found[kind].append((printed.split()[0] if printed.split() else "nothing", took))
+
+
+def told(runs):
+    """How runs ended, and the seconds of those that were proved least."""
+    proved = sorted(took for word, took in runs if word == "repaired")
+    counts = dict(collections.Counter(word for word, _ in runs))
+    if not proved:
+        return f"{counts}"
+    return f"{counts}; of those repaired {statistics.median(proved):.2f} s in the middle, {proved[len(proved) * 9 // 10]:.2f} at nine of ten"
 
 
 def main(words):
     if len(words) < 3:
         sys.exit("usage: time_repairs.py FIRST LAST ACTIVITIESxAIRCRAFT [FAMILY ..]")
     os.environ["TAILPLAN_QUIET"] = "1"
-    program, limit = os.environ.get("PROGRAM", os.path.join(HERE, "..", "bin", "tailplan")), float(os.environ.get("LIMIT", "60"))
+    program = os.environ.get("PROGRAM", os.path.join(HERE, "..", "bin", "tailplan"))
+    limits = {name: float(os.environ.get(name, seconds)) for name, seconds in (("LIMIT", 60), ("PLANNING", 300))}
     found = collections.defaultdict(list)
     for family in words[3:] or FAMILIES:
         for seed in range(int(words[0]), int(words[1]) + 1):
             with tempfile.TemporaryDirectory() as work:
-                time_table(program, limit, family, words[2], seed, work, found)
+                time_table(program, limits, family, words[2], seed, work, found)
     for kind, runs in found.items():
-        proved = sorted(took for word, took in runs if word == "repaired")
-        counts = collections.Counter(word for word, _ in runs)
-        told = f"{statistics.median(proved):.2f} s in the middle, {proved[len(proved) * 9 // 10]:.2f} at nine of ten" if proved else "none"
-        print(f"{kind} {words[2]}: {dict(counts)}; of those repaired {told}", flush=True)
+        print(f"{kind} {words[2]}: {told(runs)}")
+    print(f"all {words[2]}: {told([run for runs in found.values() for run in runs])}", flush=True)
 
 
 if __name__ == "__main__":

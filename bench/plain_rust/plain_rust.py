@@ -16,7 +16,7 @@ import sys
 
 SEARCH = "tail_book turn_rules maint_counters label_cells connection_net branch_marks open_branches floor_rows propagator label_store \
 pricing route_search plan_audit dive_heuristic restricted_master dual_ascent pool_plans plan_finder node_leaves branch_tree best_first tail_text tail_outside cert_lines cert_checker cert_writer certified_search \
-plan_homes plan_report plan_repair plan_shortage shortage_suspects shortage_finder".split()
+plan_homes plan_report plan_remains plan_repair plan_shortage shortage_suspects shortage_finder".split()
 HERE = os.path.dirname(os.path.abspath(__file__))
 # Crates of the kit that the shim stands for, as modules of plain_std.
 SHIMMED = {"indexmap", "itoa", "std_alloc"}

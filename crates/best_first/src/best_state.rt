@@ -84,7 +84,8 @@ impl BestState {
         let slots = root_alone(alloc, book)?;
         let routes = Routes::new(alloc)?;
         let best = Best::none(table);
-        let tools = NodeTools::new(alloc, book, table)?;
+        let mut tools = NodeTools::new(alloc, book, table)?;
+        tools.raises = true;
         Ok(BestState {
             net,
             marks,

@@ -5,13 +5,11 @@
 //! More facts let no bound fall: so where the bound under which the place was opened reaches the target, nothing is left, and where
 //! nobody is told either, nothing is priced.
 
-ghost use Rattle.std.specs.Prelude.{◌≡◌, ◌++◌, ◌∷◌, [], true, List, None, IfOk, OnErr, IsErrOf};
+ghost use Rattle.std.specs.Prelude.{◌≡◌, ◌∷◌, [], true, List, None, IfOk, OnErr, IsErrOf};
 ghost use Rattle.branch_marks.specs.Bound.{bound_of, Passes};
 ghost use Rattle.branch_marks.specs.TreeLog.{IsLater, TellsNothing, WriteHasFailed};
-ghost use Rattle.branch_tree.specs.Closing.{IsLowest};
-ghost use Rattle.node_leaves.specs.Node.{Node};
 ghost use Rattle.node_leaves.specs.Stops.{StopsIn};
-ghost use Rattle.node_leaves.specs.inside.Leaf.{AnswersLeaf, IsReady};
+ghost use Rattle.node_leaves.specs.inside.Leaf.{IsReady};
 ghost use Rattle.best_first.specs.BestTree.{Owed};
 ghost use Rattle.best_first.specs.inside.Links.{AreLinks};
 ghost use Rattle.best_first.specs.inside.Slots.{IsSlot, IsSlotAt};
@@ -22,27 +20,11 @@ use crate::placing::go_to_slot;
 use crate::slots::Slot;
 use branch_marks::laws::{least_weights_exist, low_bounds_are_shown, stuck_is_shown, sums_exist};
 use branch_marks::{Marks, TreeLog};
-use branch_tree::{NodePricer, PricedLeaf, Stop, bound_below, passes, price_leaf};
+use branch_tree::{NodePricer, Stop, lower, passes, price_leaf};
 use connection_net::Net;
 use std::alloc::Global;
 use tail_book::laws::every_book_is_sound;
 use tail_book::{Book, CostTable};
-
-// The least bound that is left, with one leaf more.
-fn lower(low: Option<u64>, priced: PricedLeaf, target: u64) -> Option<u64>
-    ensures { (nodes : List Node) (node : Node) → IsLowest target nodes low → AnswersLeaf node.ending priced → IsLowest target (nodes ++ node ∷ []) result }
-{
-    let PricedLeaf::Bounded(sum) = priced else {
-        return low;
-    };
-    let Some(units) = bound_below(sum, target) else {
-        return low;
-    };
-    match low {
-        None => Some(units),
-        Some(least) => { if least <= units { low } else { Some(units) } }
-    }
-}
 
 // Whether a slot need not be priced: nobody is told of it, and it was opened under a bound that reaches the target.
 fn need_not_price<L: TreeLog>(slot: &Slot, target: u64, log: &L) -> bool

@@ -1,5 +1,5 @@
-//! Plans that are looked for at the root, once its bound has stalled, and below it near a best plan that is new. One within a cost
-//! unit of the bound ends the search there.
+//! Plans that are looked for once the bound of a node has stalled: at the root by dives, and below it near a best plan that is new. A
+//! root that began warm has a plan near the best one, so it looks there. One within a cost unit of the bound ends the search.
 
 ghost use Rattle.std.specs.Prelude.{◌≡◌, ◌≤◌};
 ghost use Rattle.tail_book.specs.CostTable.{IsTableFor};
@@ -9,7 +9,7 @@ ghost use Rattle.branch_marks.specs.inside.MarkTables.{AreMarksOf};
 ghost use Rattle.node_leaves.specs.Target.{IsBest};
 ghost use Rattle.node_leaves.specs.inside.FittingPool.{IsFittingPool};
 
-use crate::Best;
+use crate::{Best, WarmStart};
 use branch_marks::Marks;
 use connection_net::Net;
 use plan_finder::{Problem, Sought, exchange, find_by_dives};
@@ -28,8 +28,29 @@ fn work_for(book: &Book, each: u64) -> u64 {
     (book.activities.len() as u64).saturating_mul(each)
 }
 
-/// Looks for a plan that undercuts the best one, with the pool and the duals that an ascent left. The pool gets its routes.
-pub fn seek_plan(
+/// How a plan that undercuts the best one is looked for.
+#[derive(Clone, Copy)]
+pub enum Way {
+    /// By dives, whatever the best one is.
+    Dives,
+    /// Near the best one.
+    Near,
+    /// Not at all.
+    Nowhere,
+}
+
+/// The way for a node, which knows whether there is a plan, and whether a new one was found in its rounds.
+pub fn way_to_plans(warm: Option<&WarmStart>, has_plan: bool, is_root: bool, is_new: bool) -> Way {
+    match warm {
+        Some(_) if has_plan => Way::Near,
+        Some(warm) => { if warm.dives { Way::Dives } else { Way::Nowhere } }
+        None if is_root => Way::Dives,
+        None => { if is_new { Way::Near } else { Way::Nowhere } }
+    }
+}
+
+// Looks for a plan that undercuts the best one, with the pool and the duals that an ascent left. The pool gets its routes.
+fn seek_plan(
     alloc: Global,
     book: &Book,
     table: &CostTable,
@@ -92,4 +113,33 @@ pub fn exchange_near(
         best.take(book, table, found.plan, &found.cost);
     }
     Ok(())
+}
+
+/// Looks for a plan that undercuts the best one in such a way, with the pool and the duals that an ascent left.
+pub fn look_for_plans(
+    alloc: Global,
+    book: &Book,
+    table: &CostTable,
+    net: &Net,
+    marks: &Marks,
+    pool: &mut Pool,
+    duals: &Duals,
+    best: &mut Best,
+    way: Way,
+) -> Result<(), Memory>
+    requires table { IsTableFor book.now table.now }
+    requires net { net.now ≡ net_of book.now }
+    requires marks { AreMarksOf book.now marks.now }
+    requires duals { AreDuals table.now book.now duals.now.values }
+    requires pool { IsFittingPool table.now book.now marks.now.facts pool.old }
+    requires best { IsBest table.now book.now best.old.plan best.old.target }
+    ensures pool { IsFittingPool table.now book.now marks.now.facts pool.new }
+    ensures best { IsBest table.now book.now best.new.plan best.new.target }
+    ensures falls { best.new.target ≤ best.old.target }
+{
+    match way {
+        Way::Dives => seek_plan(alloc, book, table, net, marks, pool, duals, best),
+        Way::Near => exchange_near(alloc, book, table, net, marks, duals, best),
+        Way::Nowhere => Ok(()),
+    }
 }

@@ -22,6 +22,7 @@ mod step_start;
 mod tools;
 mod tree_search;
 mod visit;
+mod warm_start;
 
 pub use branch_marks::{bound_below, passes};
 pub use limit::Limit;
@@ -31,6 +32,8 @@ pub use node_leaves::{
 };
 pub use open_places::OpenPlaces;
 pub use optimum::least_plan;
+pub use second_pass::lower;
 pub use step::Step;
 pub use tools::NodeTools;
 pub use tree_search::{search, search_from};
+pub use warm_start::WarmStart;

@@ -9,7 +9,7 @@ ghost use Rattle.branch_marks.specs.Settled.{AreDuals};
 ghost use Rattle.branch_marks.specs.TreeLog.{IsLater, WriteHasFailed};
 ghost use Rattle.branch_marks.specs.inside.MarkTables.{AreMarksOf};
 ghost use Rattle.dive_heuristic.specs.Dive.{HasNoHole};
-ghost use Rattle.dive_heuristic.specs.Divers.{IsDiverOf};
+ghost use Rattle.dive_heuristic.specs.Divers.{IsDiverFor, IsDiverOf};
 ghost use Rattle.branch_tree.specs.Step.{IsLegalPool, IsTrueStep, IsVisit, RisesFrom};
 ghost use Rattle.node_leaves.specs.Place.{open_place};
 ghost use Rattle.node_leaves.specs.Stops.{StopsIn};
@@ -18,7 +18,7 @@ ghost use Rattle.node_leaves.specs.inside.Leaf.{IsReady};
 ghost use Rattle.branch_tree.specs.inside.StepParts.{AreToolsFor, EndRisesFrom, IsEndFound, IsFollowed, IsLeaf};
 ghost use Rattle.node_leaves.specs.inside.FittingPool.{IsFittingPool};
 
-use crate::cheaper_plans::{exchange_near, seek_plan};
+use crate::cheaper_plans::{look_for_plans, way_to_plans};
 use crate::node_bound::{Weighed, weigh};
 use crate::rounds::ascend;
 use crate::settled::settle_node;
@@ -26,10 +26,12 @@ use crate::split::dive_and_take;
 use crate::step::NodeEnd;
 use crate::step_end::note_end;
 use crate::step_start::{keep_fitting, shut_and_tell};
-use crate::{Best, NodePricer, NodeTools, Step, Stop};
+use crate::warm_start::put_duals;
+use crate::{Best, NodePricer, NodeTools, Step, Stop, WarmStart};
 use branch_marks::laws::{sums_exist, sums_never_fall};
 use branch_marks::{Event, Marks, TreeLog};
 use connection_net::Net;
+use dive_heuristic::Diver;
 use node_leaves::{demand_duals, first_duals, note_one, shortage_duals};
 use propagator::Closed;
 use restricted_master::Pool;
@@ -131,7 +133,70 @@ fn try_demands(
     Ok(None)
 }
 
-// First duals at the root, and a dive from there under them, whose plan lowers the target. The root may end before that.
+// The end of the root, where counting shows it, or one of the sets of activities that ask for more than is there.
+fn try_sets(
+    alloc: Global,
+    book: &Book,
+    table: &CostTable,
+    net: &Net,
+    marks: &Marks,
+    pool: &Pool,
+    duals: &mut Duals,
+    best: &mut Best,
+    prices: &mut NodePricer,
+) -> Result<Option<NodeEnd>, Memory>
+    requires ready { IsReady table.now book.now net.now marks.now prices.old }
+    requires duals { AreDuals table.now book.now duals.old.values }
+    requires best { IsBest table.now book.now best.old.plan best.old.target }
+    ensures end { IfOk result (λ end. IfSome end (IsEndFound table.now book.now marks.now.facts duals.new.values best.new.target)) }
+    ensures ready { IsReady table.now book.now net.now marks.now prices.new }
+    ensures duals { AreDuals table.now book.now duals.new.values }
+    ensures best { IsBest table.now book.now best.new.plan best.new.target }
+    ensures falls { best.new.target ≤ best.old.target }
+{
+    let end = try_shortage(alloc, book, table, net, marks, pool, duals, best, prices)?;
+    if end.is_some() {
+        return Ok(end);
+    }
+    try_demands(alloc, book, table, net, marks, pool, duals, best, prices)
+}
+
+// First duals, and a dive under them, whose plan lowers the target.
+fn first_dive(
+    alloc: Global,
+    book: &Book,
+    table: &CostTable,
+    net: &Net,
+    marks: &Marks,
+    duals: &mut Duals,
+    best: &mut Best,
+    diver: &mut Diver,
+) -> Result<(), Memory>
+    requires table { IsTableFor book.now table.now }
+    requires net { net.now ≡ net_of book.now }
+    requires marks { AreMarksOf book.now marks.now }
+    requires duals { AreDuals table.now book.now duals.old.values }
+    requires best { IsBest table.now book.now best.old.plan best.old.target }
+    requires diver { IsDiverFor book.now table.now marks.now.facts diver.old }
+    ensures diver { IsDiverFor book.now table.now marks.now.facts diver.new }
+    ensures duals { AreDuals table.now book.now duals.new.values }
+    ensures best { IsBest table.now book.now best.new.plan best.new.target }
+    ensures falls { best.new.target ≤ best.old.target }
+{
+    duals.values = first_duals(alloc, book, table, marks)?.values;
+    let dived = dive_and_take(alloc, book, table, net, marks, duals, best, diver);
+    diver.forget();
+    let _ = dived?;
+    Ok(())
+}
+
+// A warm start is for the root alone.
+fn warm_at_root(warm: &Option<WarmStart>, is_root: bool) -> Option<&WarmStart> {
+    if is_root { warm.as_ref() } else { None }
+}
+
+// The duals with which the rounds of the root begin: those of a warm start, or else first duals, with a dive under them. The root
+// may end before that.
 fn begin_root(
     alloc: Global,
     book: &Book,
@@ -152,39 +217,17 @@ fn begin_root(
     ensures best { IsBest table.now book.now best.new.plan best.new.target }
     ensures falls { best.new.target ≤ best.old.target }
 {
-    let end = try_shortage(
-        alloc,
-        book,
-        table,
-        net,
-        marks,
-        pool,
-        duals,
-        best,
-        &mut tools.prices,
-    )?;
+    let prices = &mut tools.prices;
+    let end = try_sets(alloc, book, table, net, marks, pool, duals, best, prices)?;
     if end.is_some() {
         return Ok(end);
     }
-    let end = try_demands(
-        alloc,
-        book,
-        table,
-        net,
-        marks,
-        pool,
-        duals,
-        best,
-        &mut tools.prices,
-    )?;
-    if end.is_some() {
-        return Ok(end);
+    if let Some(warm) = &tools.warm {
+        put_duals(book, table, warm, duals);
+        return Ok(None);
     }
-    duals.values = first_duals(alloc, book, table, marks)?.values;
     let diver = &mut tools.diver;
-    let dived = dive_and_take(alloc, book, table, net, marks, duals, best, diver);
-    tools.diver.forget();
-    let _ = dived?;
+    first_dive(alloc, book, table, net, marks, duals, best, diver)?;
     Ok(None)
 }
 
@@ -266,25 +309,17 @@ fn find_end(
         return Ok(end);
     }
     let target = best.target;
+    let warm = warm_at_root(&tools.warm, is_root);
+    let raises = tools.raises;
+    let prices = &mut tools.prices;
     let ascended = ascend(
-        alloc,
-        book,
-        table,
-        net,
-        marks,
-        pool,
-        duals,
-        best,
-        &mut tools.prices,
+        alloc, book, table, net, marks, pool, duals, best, prices, warm, raises,
     )?;
     if let Some(end) = leaf_of(ascended) {
         return Ok(end);
     }
-    if is_root {
-        seek_plan(alloc, book, table, net, marks, pool, duals, best)?;
-    } else if best.target < target {
-        exchange_near(alloc, book, table, net, marks, duals, best)?;
-    }
+    let way = way_to_plans(warm, best.plan.is_some(), is_root, best.target < target);
+    look_for_plans(alloc, book, table, net, marks, pool, duals, best, way)?;
     settle_node(
         alloc, book, table, net, marks, pool, &from, duals, best, tools,
     )

@@ -16,7 +16,7 @@ ghost use Rattle.branch_tree.specs.inside.NodeBound.{IsWeighedNode};
 use crate::new_routes::add_routes;
 use crate::node_bound::{Weighed, weigh};
 use crate::step::NodeEnd;
-use crate::{Best, NodePricer};
+use crate::{Best, NodePricer, WarmStart};
 use branch_marks::{Marks, passes};
 use connection_net::Net;
 use dual_ascent::Ascent;
@@ -31,6 +31,11 @@ use tail_book::{Book, COST_UNIT, CostTable, Duals, Memory};
 const MOST_ROUNDS: u32 = 200;
 
 const ROUNDS_BELOW: u32 = 30;
+
+// Where bounds are to be raised: how warm an ascent below the root begins, and how far it goes, in thousandths of a cost unit.
+const WARM: i64 = 1_000;
+
+const FAR: i64 = 15_000;
 
 // Plans are looked for in the pool from this temperature on, in thousandths of a cost unit, and for so many turns. While there is
 // no plan, that is done again once the ascent has cooled to so many hundredths of where it was then, and always once it is cold.
@@ -200,19 +205,22 @@ fn round(
 }
 
 // An ascent for a node: from first duals where the pool is empty, as at the root, and else from duals that are good for the
-// node above.
+// node above. A warm start says how it begins.
 fn begin_ascent(
     alloc: Global,
     table: &CostTable,
     duals: &Duals,
+    warm: Option<&WarmStart>,
     is_below: bool,
+    raises: bool,
 ) -> Result<Ascent, Memory>
     ensures { IfOk result (λ ascent. ascent.best ≡ duals.now.values) }
 {
-    if is_below {
-        Ascent::again(alloc, table, duals)
-    } else {
-        Ascent::new(alloc, table, duals)
+    match warm {
+        Some(warm) => Ascent::starting(alloc, table, duals, warm.temperature, warm.radius),
+        None if is_below && raises => Ascent::starting(alloc, table, duals, WARM, FAR),
+        None if is_below => Ascent::again(alloc, table, duals),
+        None => Ascent::new(alloc, table, duals),
     }
 }
 
@@ -284,7 +292,7 @@ fn first_look(
     }
 }
 
-// What the rounds of a node begin with. Only the root has something of its own.
+// What the rounds of a node begin with, unless its duals are known to be good. Only the root has something of its own.
 fn begin(
     alloc: Global,
     book: &Book,
@@ -295,7 +303,7 @@ fn begin(
     duals: &mut Duals,
     best: &mut Best,
     prices: &mut NodePricer,
-    is_below: bool,
+    is_known: bool,
 ) -> Result<Option<NodeEnd>, Memory>
     requires ready { IsReady table.now book.now net.now marks.now prices.old }
     requires duals { AreDuals table.now book.now duals.old.values }
@@ -308,14 +316,15 @@ fn begin(
     ensures best { IsBest table.now book.now best.new.plan best.new.target }
     ensures falls { best.new.target ≤ best.old.target }
 {
-    if is_below {
+    if is_known {
         Ok(None)
     } else {
         first_look(alloc, book, table, net, marks, pool, duals, best, prices)
     }
 }
 
-/// Ascends from duals, round by round. Without an end the duals are then the best that were priced.
+/// Ascends from duals, round by round. Without an end the duals are then the best that were priced. Where bounds are to be raised it goes
+/// further from the first duals below the root.
 pub fn ascend(
     alloc: Global,
     book: &Book,
@@ -326,6 +335,8 @@ pub fn ascend(
     duals: &mut Duals,
     best: &mut Best,
     prices: &mut NodePricer,
+    warm: Option<&WarmStart>,
+    raises: bool,
 ) -> Result<Option<NodeEnd>, Memory>
     requires ready { IsReady table.now book.now net.now marks.now prices.old }
     requires duals { AreDuals table.now book.now duals.old.values }
@@ -339,13 +350,14 @@ pub fn ascend(
     ensures falls { best.new.target ≤ best.old.target }
 {
     let is_below = pool.count() > 0;
+    let is_known = is_below || warm.is_some();
     let begun = begin(
-        alloc, book, table, net, marks, pool, duals, best, prices, is_below,
+        alloc, book, table, net, marks, pool, duals, best, prices, is_known,
     )?;
     if begun.is_some() {
         return Ok(begun);
     }
-    let mut ascent = begin_ascent(alloc, table, duals, is_below)?;
+    let mut ascent = begin_ascent(alloc, table, duals, warm, is_below, raises)?;
     let most = if is_below { ROUNDS_BELOW } else { MOST_ROUNDS };
     let mut tried = i64::MAX;
     for _round in 0..most {

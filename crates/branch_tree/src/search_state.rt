@@ -9,7 +9,8 @@ ghost use Rattle.node_leaves.specs.Target.{no_target};
 ghost use Rattle.branch_tree.specs.inside.OpenPlaces.{places_of};
 ghost use Rattle.branch_tree.specs.inside.SearchParts.{IsStateFor};
 
-use crate::{Best, NodeTools, OpenPlaces};
+use crate::warm_start::fitting;
+use crate::{Best, NodeTools, OpenPlaces, WarmStart};
 use connection_net::Net;
 use restricted_master::Pool;
 use std::alloc::Global;
@@ -26,12 +27,13 @@ pub struct SearchState {
 }
 
 impl SearchState {
-    /// A search that has not begun: the root alone is open, and there is no plan but the start.
+    /// A search that has not begun: the root alone is open, and there is no plan but the start. A warm start is for the root.
     pub fn new(
         alloc: Global,
         book: &Book,
         table: &CostTable,
         start: Option<&Plan>,
+        warm: Option<WarmStart>,
     ) -> Result<SearchState, Memory>
         requires table { IsTableFor book.now table.now }
         requires legal { IfSome start (λ plan. IsLegalPlan book.now plan.now) }
@@ -40,12 +42,14 @@ impl SearchState {
         ensures first { IfOk result (λ state. state.best.target ≤ no_target table.now) }
         ensures within { IfOk result (λ state. IfSome start.entry (λ plan. state.best.target ≤ plan_cost_in table.now book.now plan.now)) }
     {
+        let mut tools = NodeTools::new(alloc, book, table)?;
+        tools.warm = fitting(book, warm);
         Ok(SearchState {
             net: Net::new(alloc, book)?,
             places: OpenPlaces::with_root(alloc, book)?,
             pool: Pool::new(alloc)?,
             best: Best::from_start(alloc, book, table, start)?,
-            tools: NodeTools::new(alloc, book, table)?,
+            tools,
         })
     }
 }

@@ -16,8 +16,8 @@ use branch_marks::TreeLog;
 use std::alloc::Global;
 use tail_book::{Book, CostTable};
 
-// The least bound that is left, with one leaf more.
-fn lower(low: Option<u64>, priced: PricedLeaf, target: u64) -> Option<u64>
+/// The least bound that is left below the target, with one leaf more.
+pub fn lower(low: Option<u64>, priced: PricedLeaf, target: u64) -> Option<u64>
     ensures { (nodes : List Node) (node : Node) → IsLowest target nodes low → AnswersLeaf node.ending priced → IsLowest target (nodes ++ node ∷ []) result }
 {
     let PricedLeaf::Bounded(sum) = priced else {

@@ -6,16 +6,21 @@ ghost use Rattle.tail_book.specs.CostTable.{IsTableFor};
 ghost use Rattle.dive_heuristic.specs.Divers.{IsFreeFor};
 ghost use Rattle.node_leaves.specs.inside.Leaf.{IsNodePricerOf};
 
-use crate::NodePricer;
+use crate::{NodePricer, WarmStart};
 use dive_heuristic::Diver;
 use std::alloc::Global;
 use tail_book::{Book, CostTable, Memory};
 
-/// A pricer for the rounds of a node and for what is told of it, and a diver, whose propagator shuts its marks.
+/// A pricer for the rounds of a node and for what is told of it, and a diver, whose propagator shuts its marks; and how its rounds
+/// begin and end.
 #[derive(Drop)]
 pub struct NodeTools {
     pub prices: NodePricer,
     pub diver: Diver,
+    /// What the root begins with in place of first duals.
+    pub warm: Option<WarmStart>,
+    /// Whether ascents below the root go further from the duals of their place, so that bounds rise.
+    pub raises: bool,
 }
 
 impl NodeTools {
@@ -27,6 +32,11 @@ impl NodeTools {
     {
         let prices = NodePricer::new(alloc, book, table)?;
         let diver = Diver::new(alloc, book, table)?;
-        Ok(NodeTools { prices, diver })
+        Ok(NodeTools {
+            prices,
+            diver,
+            warm: None,
+            raises: false,
+        })
     }
 }

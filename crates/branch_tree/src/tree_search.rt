@@ -18,7 +18,7 @@ use crate::first_pass::grow;
 use crate::laws::search_trees_are_true;
 use crate::search_state::SearchState;
 use crate::second_pass::close;
-use crate::{Best, Limit, Stop};
+use crate::{Best, Limit, Stop, WarmStart};
 use branch_marks::TreeLog;
 use std::alloc::Global;
 use tail_book::laws::{
@@ -53,6 +53,7 @@ pub fn search_from<L: TreeLog>(
     table: &CostTable,
     limit: Limit,
     start: Option<&Plan>,
+    warm: Option<WarmStart>,
     log: &mut L,
 ) -> Result<Outcome, Stop>
     requires table { IsTableFor book.now table.now }
@@ -70,7 +71,7 @@ pub fn search_from<L: TreeLog>(
     every_cost_table_is_sound(table);
     legal_plans_cost_at_most_in();
     search_trees_are_true();
-    let mut state = match SearchState::new(alloc, book, table, start) {
+    let mut state = match SearchState::new(alloc, book, table, start, warm) {
         Ok(state) => state,
         Err(_) => return Err(Stop::Memory),
     };
@@ -102,5 +103,5 @@ pub fn search<L: TreeLog>(
     ensures beside { L.beside log.old log.new }
     ensures cause { IsErrOf result Stop.Log → WriteHasFailed (L.shows log.old) (L.shows log.new) }
 {
-    search_from(alloc, book, table, limit, None, log)
+    search_from(alloc, book, table, limit, None, None, log)
 }

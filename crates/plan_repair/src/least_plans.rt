@@ -11,8 +11,9 @@ ghost use Rattle.plan_repair.specs.inside.Found.{IsFewest, IsLeastOrNone};
 
 use crate::laws::raised_plans_cost;
 use crate::raised::{no_costs, raised};
+use crate::warm_duals::warm_for_moves;
 use branch_marks::NoLog;
-use branch_tree::{Limit, search_from};
+use branch_tree::{Limit, WarmStart, search_from};
 use std::alloc::Global;
 use tail_book::laws::{
     every_book_is_sound, every_cost_table_is_sound, legal_plans_cost_at_most_in,
@@ -26,18 +27,27 @@ pub struct LeastPlan {
     pub cost: u64,
 }
 
-/// A plan of least cost by a table, searched from a legal plan on, or nothing where no plan is legal.
+/// A plan of least cost by a table, searched from a legal plan and a warm start on, or nothing where no plan is legal.
 pub fn least_plan_in(
     alloc: Global,
     book: &Book,
     table: &CostTable,
     start: Option<&Plan>,
+    warm: WarmStart,
 ) -> Result<Option<LeastPlan>, Memory>
     requires table { IsTableFor book.now table.now }
     requires legal { IfSome start (λ plan. IsLegalPlan book.now plan.now) }
     ensures { IfOk result (IsLeastOrNone table.now book.now) }
 {
-    match search_from(alloc, book, table, Limit::Free, start, &mut NoLog) {
+    match search_from(
+        alloc,
+        book,
+        table,
+        Limit::Free,
+        start,
+        Some(warm),
+        &mut NoLog,
+    ) {
         Ok(Outcome::Optimal(plan, cost)) => Ok(Some(LeastPlan { plan, cost })),
         Ok(Outcome::Infeasible) => Ok(None),
         Ok(Outcome::Between { .. } | Outcome::Above { .. }) => unreachable!(),
@@ -45,11 +55,13 @@ pub fn least_plan_in(
     }
 }
 
-/// A plan with the fewest moves, searched from a legal plan on. Its cost is the number of its moves.
+/// A plan with the fewest moves, searched from a legal plan on, where these activities can be kept at home. Its cost is the number of
+/// its moves.
 pub fn fewest_moves(
     alloc: Global,
     book: &Book,
     homes: &[Option<u32>],
+    kept: &[bool],
     start: &Plan,
 ) -> Result<LeastPlan, Memory>
     requires few { activities book.now ≤ REPAIR_LIMIT }
@@ -62,7 +74,8 @@ pub fn fewest_moves(
     let none = no_costs(alloc, book)?;
     every_cost_table_is_sound(&none);
     let table = raised(alloc, book, &none, homes, 1)?;
-    match least_plan_in(alloc, book, &table, Some(start))? {
+    let warm = warm_for_moves(alloc, book, homes, kept)?;
+    match least_plan_in(alloc, book, &table, Some(start), warm)? {
         Some(found) => Ok(found),
         None => unreachable!(),
     }

@@ -2,6 +2,7 @@
 #![tactic(auto)]
 
 mod answer;
+mod any_plans;
 pub mod laws;
 mod least_plans;
 mod moved;
@@ -9,6 +10,7 @@ mod raised;
 mod repairing;
 mod report;
 mod rungs;
+mod warm_duals;
 
 pub use answer::Repair;
 pub use moved::moves;

@@ -1,7 +1,7 @@
 //! The repair of a plan: the legal plan with the fewest moves that costs least among these.
 //!
-//! It is found by searches over tables in which moves are raised. The published plan itself is where they begin, if it is
-//! still legal.
+//! It is found by searches over tables in which moves are raised. They begin with the published plan, where that is still legal, or
+//! else with a legal plan near it, and with duals by which each activity that stays at home is worth what it costs there.
 
 ghost use Rattle.std.specs.Prelude.{◌≡◌, ◌≤◌, IfOk, IfSome, length};
 ghost use Rattle.tail_book.specs.Lookup.{activities};
@@ -10,10 +10,17 @@ ghost use Rattle.tail_book.specs.CostTable.{costs_of};
 ghost use Rattle.plan_homes.specs.Moves.{AreHomesFor};
 ghost use Rattle.plan_repair.specs.declared.raised.TheConstants.{REPAIR_LIMIT};
 ghost use Rattle.plan_repair.specs.LeastRepair.{IsTrueRepair};
+ghost use Rattle.plan_repair.specs.inside.Found.{IsTrueBegin};
 
 use crate::answer::Repair;
+use crate::any_plans::{Begin, any_plan};
+use crate::raised::{no_costs, raised};
 use crate::rungs::{first_raise, highest, least_at, settled};
+use branch_marks::Marks;
+use connection_net::Net;
 use plan_audit::audit_plan;
+use plan_finder::Problem;
+use plan_remains::{Remains, near_plan, remains_of};
 use std::alloc::Global;
 use tail_book::laws::{every_book_is_sound, own_costs_are_for_book};
 use tail_book::{Book, CostTable, Memory, Plan, plan_by};
@@ -54,6 +61,51 @@ fn home_plan(
     }
 }
 
+// What is left of the published plan, and a legal plan near it, if one is found soon.
+fn look_near(
+    alloc: Global,
+    book: &Book,
+    homes: &[Option<u32>],
+) -> Result<(Remains, Option<Plan>), Memory>
+    requires few { activities book.now ≤ REPAIR_LIMIT }
+    ensures { IfOk result (λ found. IfSome found.1 (IsLegalPlan book.now)) }
+{
+    let none = no_costs(alloc, book)?;
+    let table = raised(alloc, book, &none, homes, 1)?;
+    let net = Net::new(alloc, book)?;
+    let marks = Marks::new(alloc, book)?;
+    let problem = Problem {
+        book,
+        table: &table,
+        net: &net,
+    };
+    let left = remains_of(alloc, &problem, &marks, homes)?;
+    let plan = near_plan(alloc, &problem, &marks, homes, &left)?;
+    Ok((left, plan))
+}
+
+// What is known before the searches: the published plan itself, where it is legal, or else a plan near it, or any.
+fn begin(
+    alloc: Global,
+    book: &Book,
+    own: &CostTable,
+    homes: &[Option<u32>],
+    near: Option<Plan>,
+) -> Result<Begin, Memory>
+    requires own { own.now ≡ costs_of book.now }
+    requires homes { AreHomesFor book.now homes.now }
+    requires near { IfSome near (IsLegalPlan book.now) }
+    ensures { IfOk result (IsTrueBegin book.now) }
+{
+    if let Some(plan) = home_plan(alloc, book, own, homes)? {
+        return Ok(Begin::From(plan));
+    }
+    match near {
+        Some(plan) => Ok(Begin::From(plan)),
+        None => any_plan(alloc, book),
+    }
+}
+
 /// Repairs a published plan for a book of at most 1,000 activities, of which it takes the home of each activity: a legal
 /// plan that moves as few of them as can be, and costs as little as it can with these moves, or that no plan is legal.
 pub fn repair(alloc: Global, book: &Book, homes: &[Option<u32>]) -> Result<Repair, Memory>
@@ -62,12 +114,17 @@ pub fn repair(alloc: Global, book: &Book, homes: &[Option<u32>]) -> Result<Repai
     ensures { IfOk result (IsTrueRepair book.now homes.now) }
 {
     let own = CostTable::of(alloc, book)?;
-    let start = home_plan(alloc, book, &own, homes)?;
+    let (left, near) = look_near(alloc, book, homes)?;
+    let start = match begin(alloc, book, &own, homes, near)? {
+        Begin::From(plan) => Some(plan),
+        Begin::Open => None,
+        Begin::Infeasible => return Ok(Repair::Infeasible),
+    };
     let raise = first_raise(&own, highest(book));
-    let Some(first) = least_at(alloc, book, &own, homes, raise, start.as_ref())? else {
+    let Some(first) = least_at(alloc, book, &own, homes, &left.kept, raise, start.as_ref())? else {
         return Ok(Repair::Infeasible);
     };
-    let best = settled(alloc, book, &own, homes, first, raise)?;
+    let best = settled(alloc, book, &own, homes, &left.kept, first, raise)?;
     Ok(Repair::Done {
         plan: best.plan,
         moves: best.moves,

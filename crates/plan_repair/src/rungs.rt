@@ -9,6 +9,7 @@ ghost use Rattle.std.specs.Prelude.{◌≡◌, ◌<◌, ◌≤◌, IfOk, IfSome}
 ghost use Rattle.tail_book.specs.Lookup.{activities};
 ghost use Rattle.tail_book.specs.Plan.{IsLegalPlan};
 ghost use Rattle.tail_book.specs.CostTable.{costs_of};
+ghost use Rattle.plan_homes.specs.Moves.{AreHomesFor};
 ghost use Rattle.plan_repair.specs.declared.raised.TheConstants.{RAISE_LIMIT, REPAIR_LIMIT};
 ghost use Rattle.plan_repair.specs.inside.Found.{IsFewest, IsLeastPlan};
 ghost use Rattle.plan_repair.specs.inside.Raised.{raised};
@@ -18,6 +19,7 @@ use crate::laws::{highest_is_fewest, least_of_fewest_is_repair, raised_plans_cos
 use crate::least_plans::{LeastPlan, fewest_moves, least_plan_in};
 use crate::moved::moves;
 use crate::raised::raised;
+use crate::warm_duals::warm_at;
 use std::alloc::Global;
 use tail_book::laws::{every_book_is_sound, own_costs_are_for_book, own_costs_of_legal_plans};
 use tail_book::limits::LEG_COST_LIMIT;
@@ -87,16 +89,19 @@ fn counted(book: &Book, homes: &[Option<u32>], raise: u64, plan: Plan, cost: u64
     }
 }
 
-/// A plan that costs least with each move raised by so much, searched from a legal plan on, or nothing where no plan is legal.
+/// A plan that costs least with each move raised by so much, searched from a legal plan on, where these activities can be kept at home;
+/// or nothing where no plan is legal.
 pub fn least_at(
     alloc: Global,
     book: &Book,
     own: &CostTable,
     homes: &[Option<u32>],
+    kept: &[bool],
     raise: u64,
     start: Option<&Plan>,
 ) -> Result<Option<Priced>, Memory>
     requires own { own.now ≡ costs_of book.now }
+    requires homes { AreHomesFor book.now homes.now }
     requires few { activities book.now ≤ REPAIR_LIMIT }
     requires low { 1 ≤ raise }
     requires high { raise ≤ RAISE_LIMIT }
@@ -105,7 +110,8 @@ pub fn least_at(
 {
     own_costs_are_for_book();
     let table = raised(alloc, book, own, homes, raise)?;
-    match least_plan_in(alloc, book, &table, start)? {
+    let warm = warm_at(alloc, book, own, homes, kept, raise)?;
+    match least_plan_in(alloc, book, &table, start, warm)? {
         Some(LeastPlan { plan, cost }) => Ok(Some(counted(book, homes, raise, plan, cost))),
         None => Ok(None),
     }
@@ -117,11 +123,13 @@ fn climb(
     book: &Book,
     own: &CostTable,
     homes: &[Option<u32>],
+    kept: &[bool],
     first: Priced,
     first_raise: u64,
     fewest: &LeastPlan,
 ) -> Result<Priced, Memory>
     requires own { own.now ≡ costs_of book.now }
+    requires homes { AreHomesFor book.now homes.now }
     requires few { activities book.now ≤ REPAIR_LIMIT }
     requires low { 1 ≤ first_raise }
     requires high { first_raise ≤ highest book.now }
@@ -136,7 +144,7 @@ fn climb(
     let (mut best, mut raise) = (first, first_raise);
     'rungs: while best.moves > fewest.cost {
         raise = next_raise(raise, most);
-        match least_at(alloc, book, own, homes, raise, Some(&fewest.plan))? {
+        match least_at(alloc, book, own, homes, kept, raise, Some(&fewest.plan))? {
             Some(next) => best = next,
             None => unreachable!(),
         }
@@ -150,10 +158,12 @@ pub fn settled(
     book: &Book,
     own: &CostTable,
     homes: &[Option<u32>],
+    kept: &[bool],
     first: Priced,
     first_raise: u64,
 ) -> Result<Priced, Memory>
     requires own { own.now ≡ costs_of book.now }
+    requires homes { AreHomesFor book.now homes.now }
     requires few { activities book.now ≤ REPAIR_LIMIT }
     requires low { 1 ≤ first_raise }
     requires high { first_raise ≤ highest book.now }
@@ -164,6 +174,6 @@ pub fn settled(
     if first.moves == 0 {
         return Ok(first);
     }
-    let fewest = fewest_moves(alloc, book, homes, &first.plan)?;
-    climb(alloc, book, own, homes, first, first_raise, &fewest)
+    let fewest = fewest_moves(alloc, book, homes, kept, &first.plan)?;
+    climb(alloc, book, own, homes, kept, first, first_raise, &fewest)
 }

@@ -1,10 +1,13 @@
--- A plan of least cost by a table, and one with the fewest moves. For src/least_plans.rt.
-use Rattle.std.specs.Prelude.{ℕ, ◌≡◌, ◌≤◌, List, Option, None, Some}
+-- A plan of least cost by a table, one with the fewest moves, and what is known of plans before. For src/least_plans.rt and
+-- src/any_plans.rt.
+use Rattle.std.specs.Prelude.{ℕ, ◌≡◌, ◌≤◌, ⊤, List, Option, None, Some}
 use Rattle.tail_book.specs.Seen.{BookSeen}
 use Rattle.tail_book.specs.TableSeen.{CostTableSeen}
 use Rattle.tail_book.specs.Plan.{IsLegalPlan}
 use Rattle.tail_book.specs.Truth.{CostsAtLeastIn, HasNoPlan, IsPlanIn}
 use Rattle.plan_homes.specs.Moves.{moves}
+use Rattle.plan_repair.specs.declared.any_plans.Begin.{Begin}
+use Rattle.plan_repair.specs.declared.any_plans.Begin.TheVariants.{From, Open, Infeasible}
 use Rattle.plan_repair.specs.declared.least_plans.LeastPlan.{LeastPlan}
 
 -- the plan is legal and costs this by the table, and no legal plan costs less
@@ -26,3 +29,9 @@ pub record IsFewest (book : BookSeen) (homes : List (Option ℕ)) (found : Least
   pub legal : IsLegalPlan book found.plan
   pub count : moves homes found.plan ≡ found.cost
   pub least : MovesAtLeast book homes found.cost
+
+-- a plan with which a repair begins is legal; and where none is said to be, none is
+abbrev pub IsTrueBegin : BookSeen → Begin → Type 0
+IsTrueBegin book (From plan) = IsLegalPlan book plan
+IsTrueBegin book Open = ⊤
+IsTrueBegin book Infeasible = HasNoPlan book

@@ -1,5 +1,6 @@
 //! Searches that begin with a legal plan: on a book that is known by hand, with its least plan and with a dearer one, and on
-//! books that make the search branch, with the plan that another search holds at its limit.
+//! books that make the search branch, with the plan that another search holds at its limit. On these also searches that begin warm,
+//! with whatever duals.
 
 ghost use Rattle.std.specs.Prelude.{IfSome};
 ghost use Rattle.tail_book.specs.Plan.{IsLegalPlan};
@@ -9,24 +10,26 @@ use super::book_of;
 use super::branching::branching_books;
 use super::worked::{AT_ONCE, CHEAP_AND_DEAR, RULES};
 use branch_marks::NoLog;
-use branch_tree::{Limit, search_from};
+use branch_tree::{Limit, WarmStart, search_from};
+use dice::Dice;
 use plan_audit::audit_plan;
 use small_books::costs;
 use std::alloc::Global;
 use tail_book::*;
 
-// What a search with this start claims.
+// What a search with these starts claims.
 fn claim_with(
     alloc: Global,
     book: &Book,
     table: &CostTable,
     limit: Limit,
     start: Option<&Plan>,
+    warm: Option<WarmStart>,
 ) -> Option<Claim>
     requires table { IsTableFor book.now table.now }
     requires legal { IfSome start (λ plan. IsLegalPlan book.now plan.now) }
 {
-    match search_from(alloc, book, table, limit, start, &mut NoLog) {
+    match search_from(alloc, book, table, limit, start, warm, &mut NoLog) {
         Ok(outcome) => Some(claim_of(&outcome)),
         Err(_) => None,
     }
@@ -40,13 +43,14 @@ fn claim_from(
     limit: Limit,
     start: &Plan,
     cost: u64,
+    warm: Option<WarmStart>,
 ) -> Option<Claim>
     requires { IsTableFor book.now table.now }
 {
     match audit_plan(alloc, book, table, start) {
         Ok(Some(found)) => {
             if found == cost {
-                claim_with(alloc, book, table, limit, Some(start))
+                claim_with(alloc, book, table, limit, Some(start), warm)
             } else {
                 None
             }
@@ -142,7 +146,7 @@ fn claim_from_start(
     requires { IsTableFor book.now table.now }
 {
     match plan_of(alloc, start.flights) {
-        Ok(plan) => claim_from(alloc, book, table, limit, &plan, start.cost),
+        Ok(plan) => claim_from(alloc, book, table, limit, &plan, start.cost, None),
         Err(_) => None,
     }
 }
@@ -153,7 +157,7 @@ fn claim_by(alloc: Global, book: &Book, table: &CostTable, row: Row) -> Option<C
 {
     match row.start {
         Some(start) => claim_from_start(alloc, book, table, row.limit, start),
-        None => claim_with(alloc, book, table, row.limit, None),
+        None => claim_with(alloc, book, table, row.limit, None, None),
     }
 }
 
@@ -179,41 +183,167 @@ fn dearer_starts_are_undercut(rt: HostRuntime) {
 }
 
 // What a search claims that begins with the plan of an outcome, if that has one.
-fn claim_after(alloc: Global, book: &Book, table: &CostTable, outcome: &Outcome) -> Option<Claim>
+fn claim_after(
+    alloc: Global,
+    book: &Book,
+    table: &CostTable,
+    outcome: &Outcome,
+    warm: Option<WarmStart>,
+) -> Option<Claim>
     requires { IsTableFor book.now table.now }
 {
     match outcome {
-        Outcome::Optimal(plan, cost) => { claim_from(alloc, book, table, Limit::Free, plan, *cost) }
+        Outcome::Optimal(plan, cost) => {
+            claim_from(alloc, book, table, Limit::Free, plan, *cost, warm)
+        }
         Outcome::Between { plan, high, .. } => {
-            claim_from(alloc, book, table, Limit::Free, plan, *high)
+            claim_from(alloc, book, table, Limit::Free, plan, *high, warm)
         }
         Outcome::Infeasible | Outcome::Above { .. } => {
-            claim_with(alloc, book, table, Limit::Free, None)
+            claim_with(alloc, book, table, Limit::Free, None, warm)
         }
     }
 }
 
 // The same of the outcome at a limit.
-fn claim_after_limit(alloc: Global, book: &Book, table: &CostTable, limit: Limit) -> Option<Claim>
+fn claim_after_limit(
+    alloc: Global,
+    book: &Book,
+    table: &CostTable,
+    limit: Limit,
+    warm: Option<WarmStart>,
+) -> Option<Claim>
     requires { IsTableFor book.now table.now }
 {
-    match search_from(alloc, book, table, limit, None, &mut NoLog) {
-        Ok(outcome) => claim_after(alloc, book, table, &outcome),
+    match search_from(alloc, book, table, limit, None, None, &mut NoLog) {
+        Ok(outcome) => claim_after(alloc, book, table, &outcome, warm),
         Err(_) => None,
     }
 }
 
-fn claim_again(alloc: Global, book: &Book, limit: Limit) -> Option<Claim> {
+// A warm start by chance, of duals between so many thousandths to both sides of 0, each as many times that; so many duals are missing.
+#[derive(Clone, Copy)]
+struct Warmth {
+    spread: u32,
+    times: i64,
+    missing: usize,
+    temperature: i64,
+    radius: i64,
+    dives: bool,
+}
+
+fn warmths() -> &'static [Warmth] {
+    WARMTHS
+}
+
+// Near the costs; far past the box; none too many; and temperatures and radii that make no sense.
+const WARMTHS: &[Warmth] = &[
+    Warmth {
+        spread: 400_000,
+        times: 1,
+        missing: 0,
+        temperature: 1000,
+        radius: 5000,
+        dives: true,
+    },
+    Warmth {
+        spread: 400_000,
+        times: 1,
+        missing: 0,
+        temperature: 1000,
+        radius: 5000,
+        dives: false,
+    },
+    Warmth {
+        spread: 4_000_000_000,
+        times: 1 << 30,
+        missing: 0,
+        temperature: 1,
+        radius: 0,
+        dives: true,
+    },
+    Warmth {
+        spread: 400_000,
+        times: 1,
+        missing: 1,
+        temperature: 1000,
+        radius: 5000,
+        dives: true,
+    },
+    Warmth {
+        spread: 400_000,
+        times: 1,
+        missing: 0,
+        temperature: i64::MIN,
+        radius: i64::MIN,
+        dives: true,
+    },
+    Warmth {
+        spread: 400_000,
+        times: 1,
+        missing: 0,
+        temperature: i64::MAX,
+        radius: i64::MAX,
+        dives: true,
+    },
+];
+
+// A dual by chance.
+fn next_dual(dice: &mut Dice, warmth: &Warmth) -> i64 {
+    let dual = i64::from(dice.below(warmth.spread.max(1))) - i64::from(warmth.spread / 2);
+    dual.saturating_mul(warmth.times)
+}
+
+fn warm_by_chance(
+    alloc: Global,
+    book: &Book,
+    dice: &mut Dice,
+    warmth: &Warmth,
+) -> Result<WarmStart, Memory> {
+    let mut duals = Vec::new(alloc);
+    for _ in warmth.missing..book.activities.len() {
+        duals.push(next_dual(dice, warmth))?;
+    }
+    Ok(WarmStart {
+        duals,
+        temperature: warmth.temperature,
+        radius: warmth.radius,
+        dives: warmth.dives,
+    })
+}
+
+// A warm start of a book, where one is wanted.
+fn warm_of(alloc: Global, book: &Book, warmth: Option<&Warmth>) -> Option<WarmStart> {
+    match warm_by_chance(alloc, book, &mut Dice::new(31), warmth?) {
+        Ok(warm) => Some(warm),
+        Err(_) => None,
+    }
+}
+
+fn claim_again(alloc: Global, book: &Book, limit: Limit, warmth: Option<&Warmth>) -> Option<Claim> {
+    let warm = warm_of(alloc, book, warmth);
     match costs(alloc, book) {
-        Ok(table) => claim_after_limit(alloc, book, &table, limit),
+        Ok(table) => claim_after_limit(alloc, book, &table, limit, warm),
         Err(_) => None,
     }
 }
 
-fn claim_again_of(alloc: Global, texts: &[&str; 3], limit: Limit) -> Option<Claim> {
+fn claim_again_of(
+    alloc: Global,
+    texts: &[&str; 3],
+    limit: Limit,
+    warmth: Option<&Warmth>,
+) -> Option<Claim> {
     match book_of(alloc, texts) {
-        Some(book) => claim_again(alloc, &book, limit),
+        Some(book) => claim_again(alloc, &book, limit, warmth),
         None => None,
+    }
+}
+
+fn claim_wanted(least: Option<u64>) -> Claim {
+    match least {
+        Some(cost) => Claim::Optimal(cost),
+        None => Claim::Infeasible,
     }
 }
 
@@ -221,13 +351,29 @@ fn claim_again_of(alloc: Global, texts: &[&str; 3], limit: Limit) -> Option<Clai
 #[test]
 fn starts_keep_the_least_cost(rt: HostRuntime) {
     for (number, (texts, least)) in branching_books().iter().enumerate() {
-        let claim = match *least {
-            Some(cost) => Claim::Optimal(cost),
-            None => Claim::Infeasible,
-        };
         for limit in &[Limit::Nodes(1), Limit::Free] {
-            let found = claim_again_of(rt.alloc(), texts, *limit);
-            assert!(rt; found == Some(claim), "book {number}, {limit:?}");
+            let found = claim_again_of(rt.alloc(), texts, *limit, None);
+            assert!(rt;
+                found == Some(claim_wanted(*least)),
+                "book {number}, {limit:?}"
+            );
+        }
+    }
+}
+
+// Whatever duals a search begins with, and however its ascent begins there, it ends with the least cost: with no plan to begin with, and
+// with the plan of a search that has ended.
+#[test]
+fn warm_starts_keep_the_least_cost(rt: HostRuntime) {
+    for (number, (texts, least)) in branching_books().iter().enumerate() {
+        for (row, warmth) in warmths().iter().enumerate() {
+            for limit in &[Limit::Nodes(0), Limit::Free] {
+                let found = claim_again_of(rt.alloc(), texts, *limit, Some(warmth));
+                assert!(rt;
+                    found == Some(claim_wanted(*least)),
+                    "book {number}, {row}, {limit:?}"
+                );
+            }
         }
     }
 }

@@ -9,6 +9,6 @@ returns-clause-state c = record {
   places = search rules;
   pool = no_routes c.args.table.now c.args.book.now c.in_ok-new-2.field-0 c.in_ok-new-2.ensures;
   best = search rules;
-  prices = c.in_ok-new-3.ensures.prices;
-  diver = ([], c.in_ok-new-3.ensures.diver []);
+  prices = c.in_ok-tools.ensures.prices;
+  diver = ([], c.in_ok-tools.ensures.diver []);
 }

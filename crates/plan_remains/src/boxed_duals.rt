@@ -1,0 +1,38 @@
+//! Numbers as duals of a table: each the nearest in its box.
+
+ghost use Rattle.std.specs.Prelude.{◌≡◌, ◌++◌, ◌∷◌, [], length, IfOk, OnOk};
+ghost use Rattle.tail_book.specs.Lookup.{activities};
+ghost use Rattle.tail_book.specs.CostTable.{IsInBox};
+ghost use Rattle.branch_marks.specs.Settled.{AreDuals};
+
+use std::alloc::Global;
+use tail_book::{Book, CostTable, Duals, Memory};
+
+// The nearest number in the box.
+fn nearest(table: &CostTable, value: i64) -> i64
+    ensures { IsInBox table.now result }
+{
+    let end = table.box_end();
+    value.clamp(-end, end)
+}
+
+// Puts a dual at the end of a list.
+fn push_dual(duals: &mut Vec<i64>, dual: &i64) -> Result<(), Memory>
+    ensures { OnOk result (duals.new.items ≡ duals.old.items ++ dual.now ∷ []) }
+{
+    duals.push(*dual)?;
+    Ok(())
+}
+
+/// These numbers, one for each activity and in thousandths of a cost unit, as duals.
+pub fn boxed(alloc: Global, book: &Book, table: &CostTable, values: &[i64]) -> Result<Duals, Memory>
+    requires { length values.now ≡ activities book.now }
+    ensures { IfOk result (λ duals. AreDuals table.now book.now duals.values) }
+{
+    let mut duals = Vec::new(alloc);
+    for a in 0..values.len() {
+        let dual = nearest(table, values[a]);
+        push_dual(&mut duals, &dual)?;
+    }
+    Ok(Duals { values: duals })
+}
