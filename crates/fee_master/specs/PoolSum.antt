@@ -1,5 +1,6 @@
 -- The Lagrangian sum over a pool with fees: all duals, and the least weight with fees of each aircraft's routes in the pool, less
 -- what the fees come to where each quota is used as often as it may be. In thousandths of a cost unit.
+-- For src/settling.rt, src/fee_weights.rt and others.
 use Rattle.std.specs.Prelude.{◌≡◌, ◌<◌, ◌≤ℤ◌, ℕ, zero, suc, ℤ, pos, if◌then◌else◌, Bool, List, map, length, Option, Some, None}
 use Rattle.std.specs.List.{range_with_len}
 use Rattle.std.specs.Option.{unwrap_or}
