@@ -4,7 +4,6 @@
 //! They only suggest. The duals are brought into the box and priced like others, so whatever they are, the outcome is true.
 
 ghost use Rattle.std.specs.Prelude.{◌<◌, length};
-ghost use Rattle.tail_book.specs.CostTable.{IsInBox};
 ghost use Rattle.branch_marks.specs.Settled.{AreDuals};
 
 use tail_book::{Book, CostTable, Duals};
@@ -30,21 +29,13 @@ pub fn fitting(book: &Book, warm: Option<WarmStart>) -> Option<WarmStart> {
     }
 }
 
-// The nearest number in the box.
-fn nearest(table: &CostTable, value: i64) -> i64
-    ensures { IsInBox table.now result }
-{
-    let end = table.box_end();
-    value.clamp(-end, end)
-}
-
 // Puts a dual, within the box.
 fn put_dual(book: &Book, table: &CostTable, duals: &mut Duals, a: usize, value: i64)
     requires duals { AreDuals table.now book.now duals.old.values }
     requires place { a < length duals.old.values }
     ensures duals { AreDuals table.now book.now duals.new.values }
 {
-    duals.values[a] = nearest(table, value);
+    duals.values[a] = table.boxed(value);
 }
 
 /// Puts the duals of a warm start, each within the box.

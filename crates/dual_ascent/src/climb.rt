@@ -5,7 +5,6 @@
 //! made at any temperature.
 
 ghost use Rattle.std.specs.Prelude.{◌<◌, length};
-ghost use Rattle.tail_book.specs.CostTable.{IsInBox};
 ghost use Rattle.branch_marks.specs.Settled.{AreDuals};
 
 use crate::mixture::{COOL, Mixture};
@@ -44,21 +43,13 @@ impl Limits<'_> {
     }
 }
 
-// The nearest number in the box.
-fn boxed(table: &CostTable, value: i64) -> i64
-    ensures { IsInBox table.now result }
-{
-    let end = table.box_end();
-    value.clamp(-end, end)
-}
-
 // Writes a dual, within the box.
 fn put(book: &Book, table: &CostTable, duals: &mut Duals, a: usize, value: i64)
     requires duals { AreDuals table.now book.now duals.old.values }
     requires place { a < length duals.old.values }
     ensures duals { AreDuals table.now book.now duals.new.values }
 {
-    duals.values[a] = boxed(table, value);
+    duals.values[a] = table.boxed(value);
 }
 
 // Moves the dual of an activity, and answers how far.

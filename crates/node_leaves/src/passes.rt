@@ -6,7 +6,7 @@
 //! clears an aircraft pays a price for each unit. All of this only suggests.
 
 ghost use Rattle.std.specs.Prelude.{◌≡◌, ◌<◌, length};
-ghost use Rattle.tail_book.specs.CostTable.{IsInBox, IsTableFor};
+ghost use Rattle.tail_book.specs.CostTable.{IsTableFor};
 ghost use Rattle.tail_book.specs.Lookup.{aircraft};
 ghost use Rattle.connection_net.specs.Net.{net_of};
 ghost use Rattle.branch_marks.specs.Settled.{AreDuals};
@@ -161,21 +161,13 @@ fn mean_of(duals: &[i64]) -> i64 {
     (sum / (duals.len() as u64).max(1)).min(1 << 40) as i64
 }
 
-// The nearest number in the box.
-fn boxed(table: &CostTable, value: i64) -> i64
-    ensures { IsInBox table.now result }
-{
-    let end = table.box_end();
-    value.clamp(-end, end)
-}
-
 // Writes a dual, within the box.
 fn put_dual(book: &Book, table: &CostTable, duals: &mut Duals, a: usize, value: i64)
     requires duals { AreDuals table.now book.now duals.old.values }
     requires place { a < length duals.old.values }
     ensures duals { AreDuals table.now book.now duals.new.values }
 {
-    duals.values[a] = boxed(table, value);
+    duals.values[a] = table.boxed(value);
 }
 
 // Writes the means of the last duals, within the box.

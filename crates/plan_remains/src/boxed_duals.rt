@@ -2,19 +2,10 @@
 
 ghost use Rattle.std.specs.Prelude.{◌≡◌, ◌++◌, ◌∷◌, [], length, IfOk, OnOk};
 ghost use Rattle.tail_book.specs.Lookup.{activities};
-ghost use Rattle.tail_book.specs.CostTable.{IsInBox};
 ghost use Rattle.branch_marks.specs.Settled.{AreDuals};
 
 use std::alloc::Global;
 use tail_book::{Book, CostTable, Duals, Memory};
-
-// The nearest number in the box.
-fn nearest(table: &CostTable, value: i64) -> i64
-    ensures { IsInBox table.now result }
-{
-    let end = table.box_end();
-    value.clamp(-end, end)
-}
 
 // Puts a dual at the end of a list.
 fn push_dual(duals: &mut Vec<i64>, dual: &i64) -> Result<(), Memory>
@@ -31,7 +22,7 @@ pub fn boxed(alloc: Global, book: &Book, table: &CostTable, values: &[i64]) -> R
 {
     let mut duals = Vec::new(alloc);
     for a in 0..values.len() {
-        let dual = nearest(table, values[a]);
+        let dual = table.boxed(values[a]);
         push_dual(&mut duals, &dual)?;
     }
     Ok(Duals { values: duals })

@@ -1,13 +1,13 @@
 mod Small
 mod Prices
 mod LeastPrices
-mod Listing
-mod Members
-mod LeastBelow
+pub mod Listing
+pub mod Members
+pub mod LeastBelow
 mod PoolLeast
 mod Chosen
 mod OwnLeast
-mod Shifted
+pub mod Shifted
 mod PoolSums
 mod Climbing
 mod FlatPool

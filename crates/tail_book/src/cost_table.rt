@@ -10,7 +10,7 @@ ghost use Rattle.std.specs.List.{list_all};
 ghost use Rattle.tail_book.specs.Lookup.{activities, aircraft};
 ghost use Rattle.tail_book.specs.Cost.{activity_cost, band_cost};
 ghost use Rattle.tail_book.specs.Counters.{flown};
-ghost use Rattle.tail_book.specs.CostTable.{activity_cost_in, activity_costs, box_end, costs_of, greatest_cost_in, IsCostTable};
+ghost use Rattle.tail_book.specs.CostTable.{activity_cost_in, activity_costs, box_end, costs_of, greatest_cost_in, IsCostTable, IsInBox};
 ghost use Rattle.tail_book.specs.inside.SoundTests.{keeps_maxima, sums_fit};
 
 use crate::limits::{BAND_COST_LIMIT, ENTRY_LIMIT};
@@ -169,6 +169,14 @@ impl CostTable {
         ensures { result ≡ pos (box_end self.now) }
     {
         (COST_UNIT * (self.greatest_cost() + 1)) as i64
+    }
+
+    /// The nearest number in the box, in thousandths of a cost unit.
+    pub fn boxed(&self, value: i64) -> i64
+        ensures { IsInBox self.now result }
+    {
+        let end = self.box_end();
+        value.clamp(-end, end)
     }
 }
 
