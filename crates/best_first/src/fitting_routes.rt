@@ -6,7 +6,7 @@ ghost use Rattle.tail_book.specs.Seen.{BookSeen};
 ghost use Rattle.tail_book.specs.TableSeen.{CostTableSeen};
 ghost use Rattle.tail_book.specs.CostTable.{IsTableFor};
 ghost use Rattle.branch_marks.specs.inside.MarkTables.{AreMarksOf};
-ghost use Rattle.branch_tree.specs.Step.{IsLegalPool};
+ghost use Rattle.node_leaves.specs.inside.FittingPool.{IsLegalPool};
 ghost use Rattle.best_first.specs.inside.BestParts.{AreRoutes};
 
 use branch_marks::Marks;

@@ -96,6 +96,12 @@ abbrev pub FollowInTurn : BookSeen → List Fact → List Fact → Type 0
 FollowInTurn book marks [] = ⊤
 FollowInTurn book marks (fact ∷ facts) = Follows book marks fact × FollowInTurn book (marks ++ fact ∷ []) facts
 
+-- marks hold added facts, each of which followed in its turn
+pub record IsFollowed (book : BookSeen) (before after : List Fact) : Type 0 where
+  pub added : List Fact
+  pub marks : after ≡ before ++ added
+  pub follow : FollowInTurn book before added
+
 -- so it is with one fact more that follows at their end
 abbrev pub FollowInTurnWithOneMore : Type 0
 FollowInTurnWithOneMore = (book : BookSeen) (marks facts : List Fact) (fact : Fact)

@@ -5,7 +5,7 @@ pub mod UsedDives
 pub mod Pools
 pub mod NodeStops
 pub mod Visits
-pub mod PairChoices
+pub mod UsedPlans
 pub mod LineFacts
 pub mod Holes
 pub mod Stopping

@@ -20,13 +20,12 @@ use Rattle.restricted_master.specs.Keeping.{fits_entry, KeepsFitting}
 use Rattle.restricted_master.specs.Pool.{HasRoutes}
 use Rattle.restricted_master.specs.Seen.{PoolSeen}
 use Rattle.restricted_master.specs.Pool.{empty_pool}
-use Rattle.branch_tree.specs.Step.{IsLegalPool}
 use Rattle.branch_tree.specs.declared.node_bound.LeastRoutes.{LeastRoutes}
 use Rattle.branch_tree.specs.declared.node_bound.Weighed.{Weighed}
 use Rattle.branch_tree.specs.declared.node_bound.Weighed.TheVariants as weighed
 use Rattle.branch_tree.specs.inside.NodeBound.{LeavesRoom, IsWeighedNode}
 use Rattle.branch_tree.specs.inside.NewRoutes.{entry_of, AddsRoute, HasAll, HasGrown, AreFittingRoutes}
-use Rattle.node_leaves.specs.inside.FittingPool.{IsFittingPool}
+use Rattle.node_leaves.specs.inside.FittingPool.{IsFittingPool, IsLegalPool}
 
 -- a pool that has no route yet
 pub no_routes : (table : CostTableSeen) (book : BookSeen) (pool : PoolSeen) → pool ≡ empty_pool → IsLegalPool table book pool

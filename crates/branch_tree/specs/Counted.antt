@@ -8,7 +8,7 @@ use Rattle.branch_marks.specs.declared.fact.Pair.{Pair}
 use Rattle.branch_marks.specs.Bound.{lagrangian, bound_of, AreLeastWeights, Passes}
 use Rattle.branch_marks.specs.Following.{IsShut}
 use Rattle.branch_marks.specs.Settled.{IsSettled, AreRoutesOfWeights}
-use Rattle.branch_tree.specs.Choice.{IsChosenPair}
+use Rattle.node_leaves.specs.Choice.{IsChosenPair}
 use Rattle.dive_heuristic.specs.declared.answer.Dive.{Dive}
 use Rattle.dive_heuristic.specs.Dive.{IsDiveOf, IsFittingDive}
 use Rattle.node_leaves.specs.Place.{Open}

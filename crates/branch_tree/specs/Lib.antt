@@ -1,4 +1,3 @@
-pub mod Choice
 pub mod Counted
 pub mod Closing
 pub mod SearchTree

@@ -1,20 +1,16 @@
 -- What a step on a node answers: what is true of each answer, and the node that the step visits.
-use Rattle.std.specs.Prelude.{◌≡◌, ℕ, ℤ, pos, ◌<◌, ◌≤ℤ◌, ⊤, List, All}
+use Rattle.std.specs.Prelude.{◌≡◌, ℕ, ℤ, pos, ◌<◌, ◌≤ℤ◌, ⊤, List}
 use Rattle.tail_book.specs.Seen.{BookSeen}
 use Rattle.tail_book.specs.TableSeen.{CostTableSeen}
 use Rattle.tail_book.specs.Lookup.{aircraft}
-use Rattle.tail_book.specs.Route.{IsLegalRoute}
 use Rattle.branch_marks.specs.declared.fact.Fact.{Fact}
 use Rattle.branch_marks.specs.declared.fact.Pair.{Pair}
 use Rattle.branch_marks.specs.Bound.{bound_of, Passes}
 use Rattle.branch_marks.specs.Branches.{IsUndecided}
 use Rattle.branch_marks.specs.DeadEnds.{IsHole, IsStuck}
 use Rattle.branch_marks.specs.LogShown.{LogShown}
-use Rattle.branch_marks.specs.Pool.{Pooled}
 use Rattle.branch_marks.specs.Settled.{IsSum}
 use Rattle.branch_marks.specs.TreeLog.{Notes}
-use Rattle.restricted_master.specs.Pool.{IsPoolFor}
-use Rattle.restricted_master.specs.Seen.{PoolSeen}
 use Rattle.dive_heuristic.specs.declared.answer.Dive.{Dive}
 use Rattle.branch_tree.specs.declared.step.Step.{Step}
 use Rattle.branch_tree.specs.declared.step.Step.TheVariants as step
@@ -22,11 +18,6 @@ use Rattle.branch_tree.specs.Counted.{IsCounted, IsSplitOf}
 use Rattle.node_leaves.specs.Node.{Ending, Hole, Stuck, Bounded, Split, Node, closed_marks}
 use Rattle.node_leaves.specs.NodeEvents.{node_events}
 use Rattle.node_leaves.specs.Place.{Open}
-
--- a pool of the book, each route of which is legal for its aircraft
-pub record IsLegalPool (table : CostTableSeen) (book : BookSeen) (pool : PoolSeen) : Type 0 where
-  pub of_book : IsPoolFor table book pool
-  pub legal : All (λ (entry : Pooled). IsLegalRoute book entry.aircraft entry.route) pool.entries
 
 -- this is the Lagrangian bound of the duals, in thousandths of a cost unit: the larger of their sum and 0
 abbrev pub IsLagrangianBound : CostTableSeen → BookSeen → List Fact → List ℤ → ℤ → Type 0

@@ -15,7 +15,6 @@ mod search_state;
 mod second_pass;
 mod settled;
 mod split;
-mod split_pair;
 mod step;
 mod step_end;
 mod step_start;

@@ -5,18 +5,19 @@
 ghost use Rattle.std.specs.Prelude.{◌≡◌, ◌≤◌, [], ◌∷◌, Some, IfOk, IfSome, OnErr, IsErrOf};
 ghost use Rattle.tail_book.specs.CostTable.{IsTableFor};
 ghost use Rattle.connection_net.specs.Net.{net_of};
+ghost use Rattle.branch_marks.specs.Following.{IsFollowed};
 ghost use Rattle.branch_marks.specs.Settled.{AreDuals};
 ghost use Rattle.branch_marks.specs.TreeLog.{IsLater, WriteHasFailed};
 ghost use Rattle.branch_marks.specs.inside.MarkTables.{AreMarksOf};
 ghost use Rattle.dive_heuristic.specs.Dive.{HasNoHole};
 ghost use Rattle.dive_heuristic.specs.Divers.{IsDiverFor, IsDiverOf};
-ghost use Rattle.branch_tree.specs.Step.{IsLegalPool, IsTrueStep, IsVisit, RisesFrom};
+ghost use Rattle.branch_tree.specs.Step.{IsTrueStep, IsVisit, RisesFrom};
 ghost use Rattle.node_leaves.specs.Place.{open_place};
 ghost use Rattle.node_leaves.specs.Stops.{StopsIn};
 ghost use Rattle.node_leaves.specs.Target.{IsBest};
 ghost use Rattle.node_leaves.specs.inside.Leaf.{IsReady};
-ghost use Rattle.branch_tree.specs.inside.StepParts.{AreToolsFor, EndRisesFrom, IsEndFound, IsFollowed, IsLeaf};
-ghost use Rattle.node_leaves.specs.inside.FittingPool.{IsFittingPool};
+ghost use Rattle.branch_tree.specs.inside.StepParts.{AreToolsFor, EndRisesFrom, IsEndFound, IsLeaf};
+ghost use Rattle.node_leaves.specs.inside.FittingPool.{IsFittingPool, IsLegalPool};
 
 use crate::cheaper_plans::{look_for_plans, way_to_plans};
 use crate::node_bound::{Weighed, weigh};

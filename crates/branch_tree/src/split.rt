@@ -16,12 +16,13 @@ ghost use Rattle.branch_tree.specs.inside.NodeBound.{LeavesRoom};
 use crate::Best;
 use crate::cheaper_plans::exchange_near;
 use crate::node_bound::LeastRoutes;
-use crate::split_pair::chosen_pair;
 use crate::step::NodeEnd;
 use branch_marks::laws::routes_of_weights_are_plan;
 use branch_marks::{Marks, bound_from, passes};
 use connection_net::Net;
+use dive_heuristic::laws::least_routes_fit;
 use dive_heuristic::{Dive, Diver};
+use node_leaves::chosen_pair;
 use std::alloc::Global;
 use tail_book::{Book, CostTable, Duals, Memory};
 
@@ -114,8 +115,9 @@ pub fn split(
     ensures diver { IsDiverOf book.now table.now diver.new }
 {
     routes_of_weights_are_plan();
+    least_routes_fit();
     let tally = &mut diver.tally;
-    let Some(pair) = chosen_pair(book, table, marks, duals, &found.routes, tally) else {
+    let Some(pair) = chosen_pair(book, marks, &found.routes, tally) else {
         return Ok(NodeEnd::Bounded(found.values));
     };
     let dive = dive_and_use(alloc, book, table, net, marks, duals, best, diver)?;

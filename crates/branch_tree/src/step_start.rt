@@ -4,15 +4,14 @@ ghost use Rattle.std.specs.Prelude.{◌≡◌, ◌<◌, All, IfOk, OnOk, OnErr, 
 ghost use Rattle.tail_book.specs.Lookup.{aircraft};
 ghost use Rattle.tail_book.specs.TableSeen.{CostTableSeen};
 ghost use Rattle.connection_net.specs.Net.{net_of};
-ghost use Rattle.branch_marks.specs.Following.{IsShut};
+ghost use Rattle.branch_marks.specs.Following.{IsFollowed, IsShut};
 ghost use Rattle.branch_marks.specs.Pool.{Pooled};
 ghost use Rattle.branch_marks.specs.TreeLog.{IsLater, WriteHasFailed};
 ghost use Rattle.branch_marks.specs.inside.MarkTables.{AreMarksOf};
 ghost use Rattle.propagator.specs.Closed.{IsClosedAt};
 ghost use Rattle.propagator.specs.Keeping.{IsKeptFor};
-ghost use Rattle.branch_tree.specs.Step.{IsLegalPool};
-ghost use Rattle.branch_tree.specs.inside.StepParts.{IsCutAtSteps, IsFollowed, IsShutAndTold};
-ghost use Rattle.node_leaves.specs.inside.FittingPool.{IsFittingPool};
+ghost use Rattle.branch_tree.specs.inside.StepParts.{IsCutAtSteps, IsShutAndTold};
+ghost use Rattle.node_leaves.specs.inside.FittingPool.{IsFittingPool, IsLegalPool};
 
 use crate::Stop;
 use branch_marks::laws::{fits_decides, following_facts_are_of_book};

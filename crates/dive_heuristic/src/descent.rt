@@ -25,7 +25,9 @@ use crate::answer::{DeadEnd, Dive, DiveStep};
 use crate::dive_choice::choice;
 use crate::dive_steps::{choose, propagate};
 use crate::diver::Diver;
-use crate::laws::{choices_are_undecided, fits_with_fewer, more_facts_leave_no_more};
+use crate::laws::{
+    choices_are_undecided, fits_with_fewer, least_routes_fit, more_facts_leave_no_more,
+};
 use crate::least_routes::{FirstRoutes, first_routes, renew};
 use branch_marks::Marks;
 use branch_marks::laws::{branches_leave_fewer, following_facts_are_new};
@@ -65,6 +67,7 @@ fn go_on(
 {
     every_book_is_sound(book);
     choices_are_undecided();
+    least_routes_fit();
     branches_leave_fewer();
     more_facts_leave_no_more();
     fits_with_fewer();

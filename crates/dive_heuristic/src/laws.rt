@@ -1,6 +1,7 @@
 //! Laws of dives: the contract of each function is the law.
 
 ghost use Rattle.dive_heuristic.specs.inside.Kept.{FitsWithFewer, LeastRoutesStay};
+ghost use Rattle.dive_heuristic.specs.LeastRoutes.{LeastRoutesFit};
 ghost use Rattle.dive_heuristic.specs.inside.Laws.{ChoicesAreUndecided, MoreFactsLeaveNoMore};
 
 use branch_marks::laws::facts_leave_no_more;
@@ -17,6 +18,11 @@ pub fn least_routes_stay()
 {
     fits_with_fewer();
 }
+
+/// Least routes are legal and fit.
+pub fn least_routes_fit()
+    ensures { LeastRoutesFit }
+{}
 
 /// What is chosen was undecided.
 pub fn choices_are_undecided()

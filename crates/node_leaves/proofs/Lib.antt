@@ -8,3 +8,4 @@ pub mod LineValues
 pub mod Values
 pub mod FirstCovers
 pub mod LeafStops
+pub mod PairChoices

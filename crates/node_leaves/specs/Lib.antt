@@ -1,3 +1,4 @@
+pub mod Choice
 pub mod Place
 pub mod Node
 pub mod Growth

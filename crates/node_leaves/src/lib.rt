@@ -15,6 +15,7 @@ mod notes;
 mod passes;
 mod root_duals;
 mod shortage;
+mod split_pair;
 mod stop;
 mod suggestions;
 
@@ -27,5 +28,6 @@ pub use notes::{note_all, note_one, note_steps};
 pub use passes::pass_duals;
 pub use root_duals::first_duals;
 pub use shortage::shortage_duals;
+pub use split_pair::chosen_pair;
 pub use stop::Stop;
 pub use suggestions::{add_all_suggestions, cuts_of};

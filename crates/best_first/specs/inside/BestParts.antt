@@ -13,7 +13,7 @@ use Rattle.node_leaves.specs.Target.{IsTarget, IsBest}
 use Rattle.node_leaves.specs.inside.Leaf.{IsNodePricerOf}
 use Rattle.branch_tree.specs.declared.limit.Limit.{Limit}
 use Rattle.branch_tree.specs.SearchTree.{HasReached}
-use Rattle.branch_tree.specs.Step.{IsLegalPool}
+use Rattle.node_leaves.specs.inside.FittingPool.{IsLegalPool}
 use Rattle.best_first.specs.declared.best_state.BestState.{BestState}
 use Rattle.best_first.specs.declared.fitting_routes.Routes.{Routes}
 use Rattle.best_first.specs.declared.links.Link.{Link}

@@ -21,7 +21,7 @@ use Rattle.node_leaves.specs.Node.{Node, branches, closed_marks}
 use Rattle.node_leaves.specs.NodeEvents.{events_of, node_events}
 use Rattle.node_leaves.specs.Place.{Open, root}
 use Rattle.branch_tree.specs.SearchTree.{HasReached}
-use Rattle.branch_tree.specs.Step.{IsLegalPool}
+use Rattle.node_leaves.specs.inside.FittingPool.{IsLegalPool}
 use Rattle.node_leaves.specs.Target.{no_target, IsBest, FallsTo}
 use Rattle.node_leaves.specs.inside.Leaf.{IsNodePricerOf}
 use Rattle.branch_tree.specs.inside.OpenPlaces.{AreOpenPlaces}

@@ -60,12 +60,6 @@ pub record IsCutAtSteps (book : BookSeen) (before : List Fact) (old new : LogSho
   pub follow : FollowInTurn book before steps
   pub front : NotesFront old new (step_events steps)
 
--- the marks hold added facts, each of which followed in its turn
-pub record IsFollowed (book : BookSeen) (before after : List Fact) : Type 0 where
-  pub added : List Fact
-  pub marks : after ≡ before ++ added
-  pub follow : FollowInTurn book before added
-
 -- the end was told with what shows it
 pub record IsEndNoted (table : CostTableSeen) (book : BookSeen) (marks : List Fact) (duals : List ℤ) (target : ℕ) (old new : LogShown)
     (answer : Step) : Type 0 where

@@ -1,4 +1,4 @@
-use Rattle.branch_tree.specs.Step.{IsLegalPool}
+use Rattle.node_leaves.specs.inside.FittingPool.{IsLegalPool}
 use Rattle.best_first.proofs.fitting_routes.add_last.Given as goal
 
 abbrev pub invariant-loop-i : goal.invariant-loop-i

@@ -3,17 +3,18 @@ use Rattle.std.proofs.lemmas.Int.{to_z-of_z}
 use Rattle.std.specs.Int.{w128}
 use Rattle.branch_marks.specs.Bound.{bound_of, Passes}
 use Rattle.branch_marks.specs.Branches.{IsUndecided}
-use Rattle.dive_heuristic.specs.LeastRoutes.{AreLeastRoutes, IsEachInOne}
+use Rattle.dive_heuristic.specs.LeastRoutes.{AreFittingRoutes, IsEachInOne}
 use Rattle.branch_tree.specs.Counted.{IsSplitOf}
 use Rattle.branch_tree.specs.Step.{IsTrueSplit}
-use Rattle.branch_tree.proofs.PairChoices.{least_routes, plan_passes}
+use Rattle.branch_tree.proofs.UsedPlans.{least_routes, plan_passes}
 use Rattle.branch_tree.proofs.split.split.Goals as goal
 
-pub chosen_pair-requires-clause-least : goal.chosen_pair-requires-clause-least
-chosen_pair-requires-clause-least c =
+pub chosen_pair-requires-clause-fitting : goal.chosen_pair-requires-clause-fitting
+chosen_pair-requires-clause-fitting c =
     let table = c.args.table.now in let book = c.args.book.now in let marks = c.args.marks.now.facts in let duals = c.args.duals.now.values in
-    subst (λ (rs : List (List ℕ)). AreLeastRoutes table book marks duals rs) (sym c.deref.ensures.value)
-    (least_routes table book marks duals c.args.found.values.items c.args.found.routes.items c.requires.found.least c.requires.found.attained)
+    subst (λ (rs : List (List ℕ)). AreFittingRoutes book marks rs) (sym c.deref.ensures.value)
+    (c.least_routes_fit.ensures table book marks duals c.args.found.routes.items
+    (least_routes table book marks duals c.args.found.values.items c.args.found.routes.items c.requires.found.least c.requires.found.attained))
 
 -- the routes are a plan, which the target is at most the cost of
 pub returns-in_default-clause-end : goal.returns-in_default-clause-end

@@ -7,8 +7,8 @@ use Rattle.dive_heuristic.proofs.descent.go_on.Goals as goal
 
 pub choose-requires-clause-undecided : goal.choose-requires-clause-undecided
 choose-requires-clause-undecided c =
-    c.choices_are_undecided.ensures c.args.table.now c.args.book.now c.every_book_is_sound.ensures c.args.marks.now.facts c.args.duals.now.values c.args.routes.now.items
-    c.args.k c.args.a c.requires.stands.least c.requires.choice
+    c.choices_are_undecided.ensures c.args.book.now c.every_book_is_sound.ensures c.args.marks.now.facts c.args.routes.now.items c.args.k c.args.a
+    (c.least_routes_fit.ensures c.args.table.now c.args.book.now c.args.marks.now.facts c.args.duals.now.values c.args.routes.now.items c.requires.stands.least) c.requires.choice
 
 -- what is kept is right for one fact more
 pub propagate-requires-clause-kept : goal.propagate-requires-clause-kept
@@ -27,8 +27,8 @@ returns-in-Some-clause-fewer c =
     let forced = c.in_ok-end.ensures.forced in
     fewer_after c.args.table.now c.args.book.now c.args.duals.now.values c.more_facts_leave_no_more.ensures c.branches_leave_fewer.ensures
     c.args.marks.now.facts c.choose.new.marks.facts c.propagate.new.marks.facts forced.added c.args.k c.args.a c.in_ok-choose.ensures.added forced.marks
-    (c.choices_are_undecided.ensures c.args.table.now c.args.book.now c.every_book_is_sound.ensures c.args.marks.now.facts c.args.duals.now.values c.args.routes.now.items
-    c.args.k c.args.a c.requires.stands.least c.requires.choice)
+    (c.choices_are_undecided.ensures c.args.book.now c.every_book_is_sound.ensures c.args.marks.now.facts c.args.routes.now.items c.args.k c.args.a
+    (c.least_routes_fit.ensures c.args.table.now c.args.book.now c.args.marks.now.facts c.args.duals.now.values c.args.routes.now.items c.requires.stands.least) c.requires.choice)
 
 pub returns-clause-goes : goal.returns-clause-goes
 returns-clause-goes c =
@@ -41,5 +41,5 @@ returns-clause-fewer c =
     let forced = c.in_ok-end.ensures.forced in
     fewer_after c.args.table.now c.args.book.now c.args.duals.now.values c.more_facts_leave_no_more.ensures c.branches_leave_fewer.ensures
     c.args.marks.now.facts c.choose.new.marks.facts c.propagate.new.marks.facts forced.added c.args.k c.args.a c.in_ok-choose.ensures.added forced.marks
-    (c.choices_are_undecided.ensures c.args.table.now c.args.book.now c.every_book_is_sound.ensures c.args.marks.now.facts c.args.duals.now.values c.args.routes.now.items
-    c.args.k c.args.a c.requires.stands.least c.requires.choice)
+    (c.choices_are_undecided.ensures c.args.book.now c.every_book_is_sound.ensures c.args.marks.now.facts c.args.routes.now.items c.args.k c.args.a
+    (c.least_routes_fit.ensures c.args.table.now c.args.book.now c.args.marks.now.facts c.args.duals.now.values c.args.routes.now.items c.requires.stands.least) c.requires.choice)

@@ -7,7 +7,7 @@ ghost use Rattle.tail_book.specs.CostTable.{IsTableFor};
 ghost use Rattle.connection_net.specs.Net.{net_of};
 ghost use Rattle.branch_marks.specs.Settled.{AreDuals};
 ghost use Rattle.branch_marks.specs.inside.MarkTables.{AreMarksOf};
-ghost use Rattle.branch_tree.specs.Step.{IsLegalPool};
+ghost use Rattle.node_leaves.specs.inside.FittingPool.{IsLegalPool};
 
 use crate::tests::book_of;
 use crate::tests::branching::branching_books;

@@ -1,6 +1,6 @@
 use Rattle.tail_book.specs.Plan.{route_of}
-use Rattle.branch_tree.proofs.PairChoices.{carrier_of_book, pair_undecided}
-use Rattle.branch_tree.proofs.split_pair.chosen_pair.Goals as goal
+use Rattle.node_leaves.proofs.PairChoices.{carrier_of_book, pair_undecided}
+use Rattle.node_leaves.proofs.split_pair.chosen_pair.Goals as goal
 
 pub pair_of-requires-clause-aircraft : goal.pair_of-requires-clause-aircraft
 pair_of-requires-clause-aircraft c =
@@ -16,6 +16,6 @@ returns-clause-undecided c =
     let a = c.in-Some.a in
     let choice = c.in-Some.ensures.some in
     let lt = carrier_of_book book marks routes a k choice.carrier in
-    pair_undecided book marks k (route_of routes k) a lt (c.requires.least.each k lt).fits
-    (c.choices_are_undecided.ensures c.args.table.now book c.every_book_is_sound.ensures marks c.args.duals.now.values routes k a c.requires.least choice)
+    pair_undecided book marks k (route_of routes k) a lt (c.requires.fitting.fits k lt)
+    (c.choices_are_undecided.ensures book c.every_book_is_sound.ensures marks routes k a c.requires.fitting choice)
     c.pair_of.result c.pair_of.ensures

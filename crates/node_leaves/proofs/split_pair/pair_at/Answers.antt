@@ -2,8 +2,8 @@ use Rattle.std.proofs.Common.{◌≡◌, ◌≤◌, ◌<◌, ◌-◌, ℕ, suc, 
 use Rattle.std.specs.Prelude.{Contains, slice_index_or}
 use Rattle.branch_marks.specs.declared.fact.Fact.TheVariants.{Tie}
 use Rattle.branch_marks.specs.Facts.{directly}
-use Rattle.branch_tree.proofs.PairChoices.{directly_at, directly_where}
-use Rattle.branch_tree.proofs.split_pair.pair_at.Goals as goal
+use Rattle.node_leaves.proofs.PairChoices.{directly_at, directly_where}
+use Rattle.node_leaves.proofs.split_pair.pair_at.Goals as goal
 
 -- the link is in the route
 pub returns-then-not-has : goal.returns-then-not-has

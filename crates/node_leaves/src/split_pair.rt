@@ -1,5 +1,5 @@
 //! The pair on which a node is split: about the activity and the aircraft that a dive would choose, the first activity that
-//! none of the least routes has, or that several have.
+//! none of the routes has, or that several have.
 
 ghost use Rattle.std.specs.Prelude.{◌≡◌, ◌<◌, All, length, IfSome, IfNone};
 ghost use Rattle.tail_book.specs.Lookup.{activities, aircraft};
@@ -9,14 +9,14 @@ ghost use Rattle.tail_book.specs.inside.Rising.{IsRisingFrom};
 ghost use Rattle.branch_marks.specs.Branches.{IsUndecided};
 ghost use Rattle.branch_marks.specs.inside.MarkTables.{AreMarksOf};
 ghost use Rattle.dive_heuristic.specs.Dive.{HasNoHole};
-ghost use Rattle.dive_heuristic.specs.LeastRoutes.{AreLeastRoutes, IsEachInOne};
-ghost use Rattle.branch_tree.specs.Choice.{IsChosenPair, IsPairAt};
+ghost use Rattle.dive_heuristic.specs.LeastRoutes.{AreFittingRoutes, IsEachInOne};
+ghost use Rattle.node_leaves.specs.Choice.{IsChosenPair, IsPairAt};
 
 use branch_marks::{Fact, Marks, Pair};
 use dive_heuristic::choice;
 use dive_heuristic::laws::choices_are_undecided;
 use tail_book::laws::{every_book_is_sound, legal_routes_rise, rising_routes_are_below};
-use tail_book::{Book, CostTable, Duals, Flown, Route};
+use tail_book::{Book, Flown, Route};
 
 // The link into an activity of a route, unless it is tied or there is none, and then that the aircraft flies the activity.
 fn pair_at(book: &Book, marks: &Marks, route: &[u32], k: u32, a: u32) -> Pair
@@ -49,17 +49,15 @@ fn pair_of(book: &Book, marks: &Marks, routes: &[Route], k: u32, a: u32) -> Pair
     pair_at(book, marks, &route.0, k, a)
 }
 
-/// The pair that routes of least weight choose; nothing where each activity is in exactly one of them.
+/// The pair that routes of least weight choose, one for each aircraft; nothing where each activity is in exactly one of them.
 pub fn chosen_pair(
     book: &Book,
-    table: &CostTable,
     marks: &Marks,
-    duals: &Duals,
     routes: &[Route],
     tally: &mut [Flown],
 ) -> Option<Pair>
     requires marks { AreMarksOf book.now marks.now }
-    requires least { AreLeastRoutes table.now book.now marks.now.facts duals.now.values routes.now }
+    requires fitting { AreFittingRoutes book.now marks.now.facts routes.now }
     requires somebody { HasNoHole book.now marks.now.facts }
     requires tally { length tally.old ≡ activities book.now }
     ensures tally { length tally.new ≡ activities book.now }

@@ -1,30 +1,23 @@
--- The pair that least routes choose. What comes directly after what in a route is read off its places. A link of a route that
--- fits is usable, so it is not cut; and where it isn't tied, it is undecided.
-use Rattle.std.proofs.Common.{◌≡◌, ℕ, ℤ, zero, suc, ◌<◌, ◌≤◌, inl, inr, true, false, arith, List, [], ◌∷◌, length, refl, sym, subst}
+-- The pair that routes choose. What comes directly after what in a route is read off its places. A link of a route that fits is
+-- usable, so it is not cut; and where it isn't tied, it is undecided.
+use Rattle.std.proofs.Common.{◌≡◌, ℕ, zero, suc, ◌<◌, inl, inr, true, false, arith, List, [], ◌∷◌, length, refl, sym, subst}
 use Rattle.std.proofs.lemmas.Bool.{eqb-true, eq-eqb, or_cases, or_left, or_right, and_parts, both_ways}
 use Rattle.std.specs.Cmp.Derive.{both_true}
 use Rattle.std.proofs.lemmas.List.Elements.{All-contains}
 use Rattle.std.specs.Prelude.{nat_eq, ◌&&◌, Contains, slice_index_or}
 use Rattle.tail_book.specs.Seen.{BookSeen}
-use Rattle.tail_book.specs.TableSeen.{CostTableSeen}
 use Rattle.tail_book.specs.declared.place.Place.{Place}
 use Rattle.tail_book.specs.declared.place.Place.TheVariants.{Carry, After}
-use Rattle.tail_book.specs.Lookup.{activities, aircraft}
-use Rattle.tail_book.specs.CostTable.{plan_cost_in}
+use Rattle.tail_book.specs.Lookup.{aircraft}
 use Rattle.branch_marks.specs.declared.fact.Fact.{Fact}
 use Rattle.branch_marks.specs.declared.fact.Fact.TheVariants.{Cut}
 use Rattle.branch_marks.specs.declared.fact.Pair.{Pair}
 use Rattle.branch_marks.specs.declared.fact.Pair.TheVariants.{Fly, Link}
-use Rattle.branch_marks.specs.Bound.{AreLeastWeights, lagrangian, bound_of, Passes}
 use Rattle.branch_marks.specs.Branches.{IsUndecided}
 use Rattle.branch_marks.specs.Facts.{directly}
 use Rattle.branch_marks.specs.Marks.{LetsGo, IsUsable, FitsFrom, Fits}
-use Rattle.branch_marks.specs.Settled.{AreRoutesOfWeights, RoutesOfWeightsArePlan}
-use Rattle.branch_marks.specs.Weights.{WeighsAtLeast}
 use Rattle.dive_heuristic.specs.Choice.{IsCarrierOf}
-use Rattle.dive_heuristic.specs.LeastRoutes.{AreLeastRoutes, IsEachInOne}
-use Rattle.branch_tree.specs.Choice.{IsPairAt}
-use Rattle.branch_tree.specs.inside.NodeBound.{IsUsedPlan}
+use Rattle.node_leaves.specs.Choice.{IsPairAt}
 
 -- the activity behind a place of a route comes directly after the one at it
 pub directly_at : (route : List ℕ) (i : ℕ) → suc i < length route → directly route (slice_index_or route i 0) (slice_index_or route (suc i) 0) ≡ true
@@ -77,30 +70,7 @@ module _ (book : BookSeen) (marks : List Fact) (k : ℕ) where
       subst (λ (c : ℕ). IsUndecided book marks (Link x c)) (sym is.0)
       (let usable = usable_along Carry route x a fits is.1 in ((k, lt, usable), not_cut x a usable, is.2))
 
--- routes that have the least weights are least routes
-pub least_routes : (table : CostTableSeen) (book : BookSeen) (marks : List Fact) (duals values : List ℤ) (routes : List (List ℕ))
-    → AreLeastWeights table book marks duals values → AreRoutesOfWeights table book marks duals values routes → AreLeastRoutes table book marks duals routes
-least_routes table book marks duals values routes least are = record {
-  one_each = are.one_each;
-  each = λ k lt.
-      let each = are.each k lt in
-      record {
-        legal = each.legal;
-        fits = each.fits;
-        least = subst (λ (low : ℤ). WeighsAtLeast table book marks k duals low) (sym each.weighs) (least.each k lt).least;
-      };
-}
-
 -- who is to fly something is of the book
 pub carrier_of_book : (book : BookSeen) (marks : List Fact) (routes : List (List ℕ)) (a k : ℕ) → IsCarrierOf book marks routes a k → k < aircraft book
 carrier_of_book book marks routes a k (inl least) = least.of_book
 carrier_of_book book marks routes a k (inr least) = least.1.of_book
-
--- where the routes are a plan that the target is at most the cost of, their bound reaches it
-pub plan_passes : RoutesOfWeightsArePlan → (table : CostTableSeen) (book : BookSeen) (marks : List Fact) (duals values : List ℤ) (routes : List (List ℕ))
-    (target : ℕ) → length duals ≡ activities book → AreRoutesOfWeights table book marks duals values routes → IsEachInOne book routes
-    → IsUsedPlan table book target routes → Passes (bound_of (lagrangian duals values)) target
-plan_passes law table book marks duals values routes target count are each used =
-    let plan = law table book marks duals values routes count are each in
-    let below : target ≤ plan_cost_in table book routes = used plan.0 in
-    subst (λ (z : ℤ). Passes (bound_of z) target) plan.1 (omega (arith, below))
