@@ -1,31 +1,25 @@
--- Pools of a node: what is kept of a pool fits, what is added fits, and where pricing finds nothing that the pool lacks the
--- least weights are the pool's.
-use Rattle.std.proofs.Common.{◌≡◌, ◌+◌, ◌<◌, ℕ, ℤ, ◌≤ℤ◌, Bool, true, false, inl, inr, arith, List, length, refl, sym, ap, subst, Option, Some, None}
+-- Pools of a node: what pricing finds fits, and where it finds nothing that the pool lacks the least weights are the pool's.
+use Rattle.std.proofs.Common.{◌≡◌, ℕ, ℤ, ◌≤ℤ◌, arith, List, length, refl, sym, ap, subst, Option, Some, None}
 use Rattle.std.proofs.lemmas.Int.{ints}
-use Rattle.std.proofs.lemmas.Bool.{cases_order}
-use Rattle.std.proofs.lemmas.List.Elements.{All-contains, All-filter, All-nil, filter_passes}
+use Rattle.std.proofs.lemmas.List.Elements.{All-contains, All-nil}
 use Rattle.std.specs.Prelude.{All, Contains}
 use Rattle.tail_book.specs.Seen.{BookSeen}
 use Rattle.tail_book.specs.Lookup.{aircraft}
 use Rattle.tail_book.specs.Plan.{route_of}
-use Rattle.tail_book.specs.Route.{IsLegalRoute}
 use Rattle.tail_book.specs.TableSeen.{CostTableSeen}
 use Rattle.branch_marks.specs.declared.fact.Fact.{Fact}
 use Rattle.branch_marks.specs.Bound.{AreLeastWeights, value_of}
 use Rattle.branch_marks.specs.Pool.{Pooled, IsFittingEntry, least_in, IsLeastIn, LeastInIsLeast}
 use Rattle.branch_marks.specs.Settled.{AreRoutesOfWeights, IsSettled, IsSettledOver, SettledOverPoolIsSettled}
 use Rattle.branch_marks.specs.Weights.{weight, IsLeastWeight}
-use Rattle.branch_marks.specs.inside.MarkTests.{FitsDecides}
-use Rattle.restricted_master.specs.Keeping.{fits_entry, KeepsFitting}
-use Rattle.restricted_master.specs.Pool.{HasRoutes}
 use Rattle.restricted_master.specs.Seen.{PoolSeen}
 use Rattle.restricted_master.specs.Pool.{empty_pool}
 use Rattle.branch_tree.specs.declared.node_bound.LeastRoutes.{LeastRoutes}
 use Rattle.branch_tree.specs.declared.node_bound.Weighed.{Weighed}
 use Rattle.branch_tree.specs.declared.node_bound.Weighed.TheVariants as weighed
 use Rattle.branch_tree.specs.inside.NodeBound.{LeavesRoom, IsWeighedNode}
-use Rattle.branch_tree.specs.inside.NewRoutes.{entry_of, AddsRoute, HasAll, HasGrown, AreFittingRoutes}
-use Rattle.node_leaves.specs.inside.FittingPool.{IsFittingPool, IsLegalPool}
+use Rattle.node_leaves.specs.inside.NewRoutes.{HasAll, AreFittingRoutes}
+use Rattle.node_leaves.specs.inside.FittingPool.{IsLegalPool}
 
 -- a pool that has no route yet
 pub no_routes : (table : CostTableSeen) (book : BookSeen) (pool : PoolSeen) → pool ≡ empty_pool → IsLegalPool table book pool
@@ -34,32 +28,12 @@ no_routes table book pool is = subst (λ (p : PoolSeen). IsLegalPool table book 
   legal = All-nil _;
 })
 
--- what is kept is what was legal and fits
-pub kept_fitting : FitsDecides → (table : CostTableSeen) (book : BookSeen) (marks : List Fact) (old new : PoolSeen)
-    → KeepsFitting book marks old new → IsLegalPool table book old → IsFittingPool table book marks new
-kept_fitting decides table book marks old new keeps legal =
-    let test = fits_entry book marks in
-    let stays = All-filter test (λ (e : Pooled). IsLegalRoute book e.aircraft e.route) old.entries legal.legal in
-    let passes = filter_passes test old.entries in
-    record {
-      of_book = keeps.costs table legal.of_book;
-      fitting = subst (λ (es : List Pooled). All (IsFittingEntry book marks) es) (sym keeps.routes)
-          (λ i d lt. record { legal = stays i d lt; fits = (decides book marks _ _).0 (passes i d lt) });
-    }
-
 -- routes that have the least weights are legal and fit
 pub fitting_routes : (table : CostTableSeen) (book : BookSeen) (marks : List Fact) (duals values : List ℤ) (routes : List (List ℕ))
     → AreRoutesOfWeights table book marks duals values routes → AreFittingRoutes book marks routes
 fitting_routes table book marks duals values routes are = λ k lt.
     let each = are.each k (omega (arith, lt, are.one_each)) in
     record { legal = each.legal; fits = each.fits }
-
--- a pool with a route of each aircraft
-pub all_routes : (book : BookSeen) (pool : PoolSeen) (routes : List (List ℕ)) → length routes ≡ aircraft book → HasAll pool routes (length routes)
-    → HasRoutes book pool
-all_routes book pool routes count all = λ k lt.
-    let (i, less, at) = all k (omega (arith, lt, count)) in
-    (i, entry_of routes k, less, at, refl)
 
 module _ (lowest : LeastInIsLeast) (table : CostTableSeen) (book : BookSeen) (marks : List Fact) (duals : List ℤ) (pool : List Pooled)
     (fitting : All (IsFittingEntry book marks) pool) (k : ℕ) (value : ℤ) (least : IsLeastWeight table book marks k duals value)
@@ -95,26 +69,6 @@ settled_by_pool lowest law table book marks duals values routes pool fitting set
     law table book marks pool.entries duals values fitting settled least
     (λ k lt. pool_least lowest table book marks duals pool.entries fitting k (value_of values k) (least.each k lt) (route_of routes k)
     (all k (omega (arith, lt, are.one_each))) (are.each k lt).weighs)
-
--- one route more is in the pool, with those before it
-pub all_more : (old new : PoolSeen) (routes : List (List ℕ)) (k : ℕ) (grew : Bool) → HasAll old routes k → AddsRoute old new (entry_of routes k) grew
-    → HasAll new routes (k + 1)
-all_more old new routes k grew all adds = λ j lt. elim (cases_order j k) [
-  | inl same ↦ subst (λ (i : ℕ). Contains new.entries (entry_of routes i)) (sym same) adds.here
-  | inr o ↦ elim o [
-    | inl less ↦ adds.kept (entry_of routes j) (all j less)
-    | inr over ↦ absurd (omega (arith, lt, over))
-  ]
-]
-
--- a pool that grows then has grown
-pub grown_later : (first old new : PoolSeen) (before : Bool) → HasGrown first old before → HasGrown old new true → HasGrown first new true
-grown_later first old new true one two = omega (arith, one, two)
-grown_later first old new false one two = subst (λ (p : PoolSeen). length p.entries < length new.entries) one two
-
--- and one that does not has grown where it had before
-pub grown_before : (first old new : PoolSeen) (before : Bool) → HasGrown first old before → HasGrown old new false → HasGrown first new before
-grown_before first old new before one two = subst (λ (p : PoolSeen). HasGrown first p before) (sym two) one
 
 -- what an open look at a node found is legal and fits, and is a route of each aircraft
 module _ (table : CostTableSeen) (book : BookSeen) (marks : List Fact) (duals : List ℤ) (target : ℕ) (look : Weighed) (found : LeastRoutes)

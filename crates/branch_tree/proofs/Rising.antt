@@ -30,7 +30,7 @@ use Rattle.branch_tree.specs.declared.step.NodeEnd.{NodeEnd}
 use Rattle.branch_tree.specs.declared.step.NodeEnd.TheVariants as end
 use Rattle.branch_tree.specs.declared.step.Step.{Step}
 use Rattle.branch_tree.specs.declared.step.Step.TheVariants as step
-use Rattle.branch_tree.specs.inside.NewRoutes.{entry_of, HasAll}
+use Rattle.node_leaves.specs.inside.NewRoutes.{entry_of, HasAll}
 use Rattle.branch_marks.specs.Following.{IsFollowed}
 use Rattle.branch_tree.specs.inside.StepParts.{EndRisesFrom, IsEndFound}
 use Rattle.branch_tree.proofs.Pools.{pool_least}

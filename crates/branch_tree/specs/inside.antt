@@ -1,6 +1,5 @@
 -- What only proofs, and calls further in, cite.
 pub mod StepParts
-pub mod NewRoutes
 pub mod NodeBound
 pub mod OpenPlaces
 pub mod SearchParts

@@ -5,7 +5,6 @@ mod cheaper_plans;
 mod first_pass;
 pub mod laws;
 mod limit;
-mod new_routes;
 mod node;
 mod node_bound;
 mod open_places;

@@ -13,14 +13,13 @@ ghost use Rattle.branch_tree.specs.inside.StepParts.{IsEndFound};
 ghost use Rattle.node_leaves.specs.inside.FittingPool.{IsFittingPool};
 ghost use Rattle.branch_tree.specs.inside.NodeBound.{IsWeighedNode};
 
-use crate::new_routes::add_routes;
 use crate::node_bound::{Weighed, weigh};
 use crate::step::NodeEnd;
 use crate::{Best, NodePricer, WarmStart};
 use branch_marks::{Marks, passes};
 use connection_net::Net;
 use dual_ascent::Ascent;
-use node_leaves::{add_all_suggestions, pass_duals};
+use node_leaves::{add_all_suggestions, add_routes, pass_duals};
 use pool_plans::find_plan;
 use restricted_master::Pool;
 use std::alloc::Global;

@@ -20,7 +20,6 @@ ghost use Rattle.node_leaves.specs.inside.Leaf.{IsReady};
 ghost use Rattle.branch_tree.specs.inside.StepParts.{AreToolsFor, EndRisesFrom, IsEndFound, IsLeaf};
 ghost use Rattle.node_leaves.specs.inside.FittingPool.{IsFittingPool};
 
-use crate::new_routes::add_routes;
 use crate::node_bound::{Weighed, weigh};
 use crate::split::split;
 use crate::step::NodeEnd;
@@ -28,7 +27,7 @@ use crate::{Best, NodePricer, NodeTools};
 use branch_marks::Marks;
 use branch_marks::laws::{least_in_is_least, settled_over_pool_is_settled};
 use connection_net::Net;
-use node_leaves::lagrangian_of;
+use node_leaves::{add_routes, lagrangian_of};
 use restricted_master::{Pool, settle};
 use std::alloc::Global;
 use tail_book::laws::{every_book_is_sound, legal_routes_rise};

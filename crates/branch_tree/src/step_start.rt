@@ -1,25 +1,20 @@
-//! The first part of a step: all that follows from a node's marks is added and told, and routes that no longer fit are dropped.
+//! The first part of a step: all that follows from a node's marks is added and told.
 
-ghost use Rattle.std.specs.Prelude.{◌≡◌, ◌<◌, All, IfOk, OnOk, OnErr, IsErrOf};
-ghost use Rattle.tail_book.specs.Lookup.{aircraft};
-ghost use Rattle.tail_book.specs.TableSeen.{CostTableSeen};
+ghost use Rattle.std.specs.Prelude.{◌≡◌, IfOk, OnOk, OnErr, IsErrOf};
 ghost use Rattle.connection_net.specs.Net.{net_of};
 ghost use Rattle.branch_marks.specs.Following.{IsFollowed, IsShut};
-ghost use Rattle.branch_marks.specs.Pool.{Pooled};
 ghost use Rattle.branch_marks.specs.TreeLog.{IsLater, WriteHasFailed};
 ghost use Rattle.branch_marks.specs.inside.MarkTables.{AreMarksOf};
 ghost use Rattle.propagator.specs.Closed.{IsClosedAt};
 ghost use Rattle.propagator.specs.Keeping.{IsKeptFor};
 ghost use Rattle.branch_tree.specs.inside.StepParts.{IsCutAtSteps, IsShutAndTold};
-ghost use Rattle.node_leaves.specs.inside.FittingPool.{IsFittingPool, IsLegalPool};
 
 use crate::Stop;
-use branch_marks::laws::{fits_decides, following_facts_are_of_book};
+use branch_marks::laws::following_facts_are_of_book;
 use branch_marks::{Marks, TreeLog};
 use connection_net::Net;
 use node_leaves::note_steps;
 use propagator::{Closed, Propagator};
-use restricted_master::Pool;
 use std::alloc::Global;
 use tail_book::Book;
 use tail_book::laws::every_book_is_sound;
@@ -58,14 +53,4 @@ pub fn shut_and_tell<L: TreeLog>(
         return Err(stop);
     }
     Ok(closed)
-}
-
-/// Drops the routes of a pool that do not fit the marks.
-pub fn keep_fitting(book: &Book, marks: &Marks, pool: &mut Pool)
-    requires marks { AreMarksOf book.now marks.now }
-    requires aircraft { All (λ (entry : Pooled). entry.aircraft < aircraft book.now) pool.old.entries }
-    ensures { (table : CostTableSeen) → IsLegalPool table book.now pool.old → IsFittingPool table book.now marks.now.facts pool.new }
-{
-    fits_decides();
-    pool.keep_fitting(book, marks);
 }

@@ -22,7 +22,7 @@ use Rattle.branch_marks.specs.declared.fact.Fact.TheVariants.{Must}
 use Rattle.branch_marks.specs.declared.fact.Pair.TheVariants.{Fly}
 use Rattle.branch_marks.specs.Branches.{IsUndecided}
 use Rattle.branch_marks.specs.Marks.{LetsFly, LetsGo, LetsEnd, IsAlive, FitsFrom}
-use Rattle.dive_heuristic.specs.LeastRoutes.{AreFittingRoutes, IsInOne}
+use Rattle.dive_heuristic.specs.LeastRoutes.{AreRoutesOfFleet, IsInOne}
 use Rattle.dive_heuristic.specs.Choice.{IsCarrierOf, IsChoice}
 
 module _ (book : BookSeen) (marks : List Fact) (k : ℕ) where
@@ -52,7 +52,7 @@ module _ (book : BookSeen) (marks : List Fact) (k : ℕ) where
   must_alone j a must alive = sym (All-contains (LetsFly j a) marks (Must k a) alive.facts must refl)
 
 module _ (rise : LegalRoutesRise) (called : FlownIsCount) (one : FlownOnceIsInOneRoute) (book : BookSeen) (sound : IsBook book)
-    (marks : List Fact) (routes : List (List ℕ)) (are : AreFittingRoutes book marks routes) where
+    (marks : List Fact) (routes : List (List ℕ)) (are : AreRoutesOfFleet book marks routes) where
   rising : All (IsRisingFrom (activities book) Carry) routes
   rising k d lt =
       let hk : k < aircraft book = omega (arith, lt, are.one_each) in

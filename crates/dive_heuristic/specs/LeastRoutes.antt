@@ -21,7 +21,7 @@ pub record AreLeastRoutes (table : CostTableSeen) (book : BookSeen) (marks : Lis
   pub each : (k : ℕ) → k < aircraft book → IsLeastRoute table book marks k duals (route_of routes k)
 
 -- a route for each aircraft that is legal and fits the marks
-pub record AreFittingRoutes (book : BookSeen) (marks : List Fact) (routes : List (List ℕ)) : Type 0 where
+pub record AreRoutesOfFleet (book : BookSeen) (marks : List Fact) (routes : List (List ℕ)) : Type 0 where
   pub one_each : length routes ≡ aircraft book
   pub legal : (k : ℕ) → k < aircraft book → IsLegalRoute book k (route_of routes k)
   pub fits : (k : ℕ) → k < aircraft book → Fits book marks k (route_of routes k)
@@ -29,7 +29,7 @@ pub record AreFittingRoutes (book : BookSeen) (marks : List Fact) (routes : List
 -- least routes are such
 abbrev pub LeastRoutesFit : Type 0
 LeastRoutesFit = (table : CostTableSeen) (book : BookSeen) (marks : List Fact) (duals : List ℤ) (routes : List (List ℕ))
-    → AreLeastRoutes table book marks duals routes → AreFittingRoutes book marks routes
+    → AreLeastRoutes table book marks duals routes → AreRoutesOfFleet book marks routes
 
 -- activity a is in exactly one of the routes. A legal route has no activity twice
 abbrev pub IsInOne : List (List ℕ) → ℕ → Type 0

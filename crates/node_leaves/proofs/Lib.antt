@@ -9,3 +9,4 @@ pub mod Values
 pub mod FirstCovers
 pub mod LeafStops
 pub mod PairChoices
+pub mod Pools

@@ -4,3 +4,4 @@ pub mod PricedStore
 pub mod Leaf
 pub mod FittingPool
 pub mod Field
+pub mod NewRoutes

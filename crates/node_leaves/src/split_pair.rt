@@ -9,7 +9,7 @@ ghost use Rattle.tail_book.specs.inside.Rising.{IsRisingFrom};
 ghost use Rattle.branch_marks.specs.Branches.{IsUndecided};
 ghost use Rattle.branch_marks.specs.inside.MarkTables.{AreMarksOf};
 ghost use Rattle.dive_heuristic.specs.Dive.{HasNoHole};
-ghost use Rattle.dive_heuristic.specs.LeastRoutes.{AreFittingRoutes, IsEachInOne};
+ghost use Rattle.dive_heuristic.specs.LeastRoutes.{AreRoutesOfFleet, IsEachInOne};
 ghost use Rattle.node_leaves.specs.Choice.{IsChosenPair, IsPairAt};
 
 use branch_marks::{Fact, Marks, Pair};
@@ -57,7 +57,7 @@ pub fn chosen_pair(
     tally: &mut [Flown],
 ) -> Option<Pair>
     requires marks { AreMarksOf book.now marks.now }
-    requires fitting { AreFittingRoutes book.now marks.now.facts routes.now }
+    requires fitting { AreRoutesOfFleet book.now marks.now.facts routes.now }
     requires somebody { HasNoHole book.now marks.now.facts }
     requires tally { length tally.old ≡ activities book.now }
     ensures tally { length tally.new ≡ activities book.now }

@@ -6,13 +6,13 @@ use Rattle.branch_marks.specs.declared.fact.Fact.{Fact}
 use Rattle.branch_marks.specs.declared.fact.Pair.TheVariants.{Fly}
 use Rattle.branch_marks.specs.Branches.{IsUndecided}
 use Rattle.branch_marks.specs.inside.BranchTests.{undecided}
-use Rattle.dive_heuristic.specs.LeastRoutes.{AreFittingRoutes}
+use Rattle.dive_heuristic.specs.LeastRoutes.{AreRoutesOfFleet}
 use Rattle.dive_heuristic.specs.Choice.{IsChoice}
 
 -- what is chosen was undecided
 abbrev pub ChoicesAreUndecided : Type 0
 ChoicesAreUndecided = (book : BookSeen) → IsBook book → (marks : List Fact) (routes : List (List ℕ)) (k a : ℕ)
-    → AreFittingRoutes book marks routes → IsChoice book marks routes k a → IsUndecided book marks (Fly k a)
+    → AreRoutesOfFleet book marks routes → IsChoice book marks routes k a → IsUndecided book marks (Fly k a)
 
 -- further facts leave no more undecided
 abbrev pub MoreFactsLeaveNoMore : Type 0

@@ -1,4 +1,5 @@
-use Rattle.branch_tree.proofs.Pools.{all_routes, open_counts, open_fits}
+use Rattle.branch_tree.proofs.Pools.{open_counts, open_fits}
+use Rattle.node_leaves.proofs.Pools.{all_routes}
 use Rattle.branch_tree.proofs.settled.begin.Goals as goal
 
 -- what was added fits

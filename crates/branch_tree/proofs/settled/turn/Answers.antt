@@ -1,7 +1,8 @@
 use Rattle.std.proofs.Common.{◌≡◌, rules, subst, length}
 use Rattle.restricted_master.specs.Seen.{PoolSeen}
-use Rattle.branch_tree.specs.inside.NewRoutes.{HasAll}
-use Rattle.branch_tree.proofs.Pools.{all_routes, open_attained, open_counts, open_fits, open_found, settled_by_pool}
+use Rattle.node_leaves.specs.inside.NewRoutes.{HasAll}
+use Rattle.branch_tree.proofs.Pools.{open_attained, open_counts, open_fits, open_found, settled_by_pool}
+use Rattle.node_leaves.proofs.Pools.{all_routes}
 use Rattle.branch_tree.proofs.Rising.{end_rises}
 use Rattle.branch_tree.proofs.settled.turn.Goals as goal
 

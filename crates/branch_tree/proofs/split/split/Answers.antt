@@ -3,7 +3,7 @@ use Rattle.std.proofs.lemmas.Int.{to_z-of_z}
 use Rattle.std.specs.Int.{w128}
 use Rattle.branch_marks.specs.Bound.{bound_of, Passes}
 use Rattle.branch_marks.specs.Branches.{IsUndecided}
-use Rattle.dive_heuristic.specs.LeastRoutes.{AreFittingRoutes, IsEachInOne}
+use Rattle.dive_heuristic.specs.LeastRoutes.{AreRoutesOfFleet, IsEachInOne}
 use Rattle.branch_tree.specs.Counted.{IsSplitOf}
 use Rattle.branch_tree.specs.Step.{IsTrueSplit}
 use Rattle.branch_tree.proofs.UsedPlans.{least_routes, plan_passes}
@@ -12,7 +12,7 @@ use Rattle.branch_tree.proofs.split.split.Goals as goal
 pub chosen_pair-requires-clause-fitting : goal.chosen_pair-requires-clause-fitting
 chosen_pair-requires-clause-fitting c =
     let table = c.args.table.now in let book = c.args.book.now in let marks = c.args.marks.now.facts in let duals = c.args.duals.now.values in
-    subst (λ (rs : List (List ℕ)). AreFittingRoutes book marks rs) (sym c.deref.ensures.value)
+    subst (λ (rs : List (List ℕ)). AreRoutesOfFleet book marks rs) (sym c.deref.ensures.value)
     (c.least_routes_fit.ensures table book marks duals c.args.found.routes.items
     (least_routes table book marks duals c.args.found.values.items c.args.found.routes.items c.requires.found.least c.requires.found.attained))
 

@@ -10,7 +10,7 @@ ghost use Rattle.tail_book.specs.inside.Rising.{IsRisingFrom};
 ghost use Rattle.branch_marks.specs.declared.fact.Fact.{Fact};
 ghost use Rattle.branch_marks.specs.Pool.{IsFittingEntry};
 ghost use Rattle.node_leaves.specs.inside.FittingPool.{IsFittingPool};
-ghost use Rattle.branch_tree.specs.inside.NewRoutes.{entry_of, AddsRoute, AreFittingRoutes, HasAll, HasGrown};
+ghost use Rattle.node_leaves.specs.inside.NewRoutes.{entry_of, AddsRoute, AreFittingRoutes, HasAll, HasGrown};
 
 use restricted_master::{Pool, PoolAdd};
 use tail_book::laws::every_book_is_sound;

@@ -1,8 +1,8 @@
 use Rattle.std.proofs.Common.{List}
 use Rattle.branch_marks.specs.declared.fact.Fact.{Fact}
-use Rattle.branch_tree.specs.inside.NewRoutes.{AreFittingRoutes, HasAll, HasGrown}
+use Rattle.node_leaves.specs.inside.NewRoutes.{AreFittingRoutes, HasAll, HasGrown}
 use Rattle.node_leaves.specs.inside.FittingPool.{IsFittingPool}
-use Rattle.branch_tree.proofs.new_routes.add_routes.Given as goal
+use Rattle.node_leaves.proofs.new_routes.add_routes.Given as goal
 
 -- the routes so far are in the pool
 abbrev pub invariant-loop-k : goal.invariant-loop-k

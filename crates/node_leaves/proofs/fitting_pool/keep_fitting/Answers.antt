@@ -1,5 +1,5 @@
-use Rattle.branch_tree.proofs.Pools.{kept_fitting}
-use Rattle.branch_tree.proofs.step_start.keep_fitting.Goals as goal
+use Rattle.node_leaves.proofs.Pools.{kept_fitting}
+use Rattle.node_leaves.proofs.fitting_pool.keep_fitting.Goals as goal
 
 -- what is kept was legal, and fits
 pub returns : goal.returns

@@ -1,8 +1,8 @@
 use Rattle.std.proofs.Common.{Bool, sym, subst, rules, ◌<◌, length}
-use Rattle.branch_tree.specs.inside.NewRoutes.{HasGrown}
-use Rattle.branch_tree.proofs.Pools.{all_more, grown_before, grown_later}
-use Rattle.branch_tree.proofs.new_routes.add_routes.Goals as goal
-use Rattle.branch_tree.proofs.new_routes.add_routes.Goals.{then-branch, else-branch}
+use Rattle.node_leaves.specs.inside.NewRoutes.{HasGrown}
+use Rattle.node_leaves.proofs.Pools.{all_more, grown_before, grown_later}
+use Rattle.node_leaves.proofs.new_routes.add_routes.Goals as goal
+use Rattle.node_leaves.proofs.new_routes.add_routes.Goals.{then-branch, else-branch}
 
 -- one route more
 pub loop-k-preserved : goal.loop-k-preserved
