@@ -2,8 +2,10 @@
 
 ghost use Rattle.std.specs.Prelude.{◌<◌, IfSome};
 
+use connection_net::Net;
 use dice::Dice;
 use plan_audit::audit_plan;
+use quota_demands::least_uses;
 use quota_rows::{Quota, keeps, uses};
 use small_books::{SmallActivity, costs, flight, plain_book};
 use std::alloc::Global;
@@ -140,5 +142,67 @@ fn plans_use_quotas_as_often_as_counted(rt: HostRuntime) -> Result<(), Fail> {
         used > 100 && broken > 50 && broken < used,
         "{used}, {broken}"
     );
+    Ok(())
+}
+
+// How often the flights of some fliers use a quota, where it is known which of them start on its day.
+fn short_uses(times: &Times, on_day: &[bool; 8], fliers: &[u32; 8], below: i64) -> u64 {
+    let mut count = 0u64;
+    for b in 0..8 {
+        if let Some(a) = followed(fliers, b) {
+            let is_short = times[a].1.saturating_add(below) > times[b].0;
+            count = count.saturating_add((on_day[b] && is_short) as u64);
+        }
+    }
+    count
+}
+
+// The fliers that come next in the order of all.
+fn go_on(fliers: &mut [u32; 8]) {
+    for flier in fliers.iter_mut() {
+        if *flier < 2 {
+            *flier = flier.saturating_add(1);
+            return;
+        }
+        *flier = 0;
+    }
+}
+
+// The fewest uses of all plans, one after the other.
+fn fewest_uses(times: &Times, quota: &Quota) -> u64 {
+    let mut on_day = [false; 8];
+    for b in 0..8 {
+        on_day[b] = quota.airport == 0 && is_on_day(times[b].0, quota.day);
+    }
+    let (mut fliers, mut fewest) = ([0u32; 8], u64::MAX);
+    for _plan in 0..6561u32 {
+        fewest = fewest.min(short_uses(times, &on_day, &fliers, quota.below));
+        go_on(&mut fliers);
+    }
+    fewest
+}
+
+// How often every plan by chance uses its quota at least; and whether that was found.
+fn is_least(alloc: Global, seed: u64) -> Result<(bool, u64), Fail> {
+    let mut chance = Dice::new(seed);
+    let dice = &mut chance;
+    let times = times_by_chance(dice);
+    let quota = quota_by_chance(dice);
+    let book = plain_book(alloc, &flights(&times), &[0, 0, 0], 0)?;
+    let net = Net::new(alloc, &book)?;
+    let fewest = fewest_uses(&times, &quota);
+    Ok((least_uses(alloc, &book, &net, &quota)? == fewest, fewest))
+}
+
+// Where all flights may follow one another a matching finds exactly the fewest.
+#[test]
+fn least_uses_are_the_fewest_of_all_plans(rt: HostRuntime) -> Result<(), Fail> {
+    let mut used = 0u32;
+    for seed in 0..100u64 {
+        let (same, fewest) = is_least(rt.alloc(), seed)?;
+        assert!(rt; same, "book {seed}: {fewest}");
+        used = used.saturating_add((fewest > 0) as u32);
+    }
+    assert!(rt; used > 10, "{used}");
     Ok(())
 }

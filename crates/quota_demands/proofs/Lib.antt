@@ -1,0 +1,2 @@
+mod NetRows
+mod Bounding
