@@ -13,3 +13,4 @@ mod settling;
 mod sums;
 
 pub use settling::settle;
+pub use sums::{fees_at_most, total};

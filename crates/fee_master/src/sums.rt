@@ -22,8 +22,8 @@ pub fn product(times: u64, price: i64) -> i128
     times as i128 * price as i128
 }
 
-// The sum of a list.
-fn total(list: &[i64]) -> i128
+/// The sum of a list.
+pub fn total(list: &[i64]) -> i128
     requires { length list.now ≤ 2 ^ 32 }
     ensures value { result ≡ total list.now }
     ensures range { IsWithin (pos 0 -ℤ pos (2 ^ 96)) (pos (2 ^ 96)) result }
@@ -35,8 +35,8 @@ fn total(list: &[i64]) -> i128
     sum
 }
 
-// What fees come to where each quota is used as often as it may be.
-fn fees_at_most(quotas: &[Quota], fees: &[i64]) -> i128
+/// What fees come to where each quota is used as often as it may be.
+pub fn fees_at_most(quotas: &[Quota], fees: &[i64]) -> i128
     requires one_each { length fees.now ≡ length quotas.now }
     requires few { length quotas.now ≤ 50 }
     requires fair { All IsFairRise fees.now }

@@ -1,0 +1,2 @@
+pub mod QuotaNode
+pub mod inside
