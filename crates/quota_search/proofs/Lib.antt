@@ -1,0 +1,4 @@
+mod NodeEnds
+mod Ending
+mod KeptBranches
+mod Outcomes

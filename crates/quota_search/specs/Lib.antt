@@ -1,0 +1,2 @@
+pub mod QuotaOutcome
+pub mod inside

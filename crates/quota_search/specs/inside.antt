@@ -1,0 +1,4 @@
+-- What only proofs, and calls further in, cite.
+pub mod State
+pub mod Owing
+pub mod Kept

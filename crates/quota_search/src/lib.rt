@@ -1,0 +1,13 @@
+//! The search for a least plan among those that keep connection quotas.
+#![tactic(auto)]
+
+mod demands;
+pub mod laws;
+mod outcome;
+mod quota_search;
+mod state;
+mod tree;
+mod visit;
+
+pub use outcome::QuotaOutcome;
+pub use quota_search::search_quotas;
