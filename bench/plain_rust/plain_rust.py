@@ -16,7 +16,10 @@ import sys
 
 SEARCH = "tail_book turn_rules maint_counters label_cells connection_net branch_marks open_branches floor_rows propagator label_store \
 pricing route_search plan_audit dive_heuristic restricted_master dual_ascent pool_plans plan_finder node_leaves branch_tree best_first tail_text tail_outside cert_lines cert_checker cert_writer certified_search \
-plan_homes plan_report plan_remains plan_repair plan_shortage shortage_suspects shortage_finder".split()
+plan_homes plan_report plan_remains plan_repair fullest_plan plan_shortage shortage_suspects shortage_finder \
+quota_rows fee_pricing quota_split fee_master quota_demands quota_node quota_search".split()
+# Crates that read tables, as `plain` does itself: a file of own/ stands for what calls them.
+READERS = {"table_records"}
 HERE = os.path.dirname(os.path.abspath(__file__))
 # Crates of the kit that the shim stands for, as modules of plain_std.
 SHIMMED = {"indexmap", "itoa", "std_alloc"}
@@ -320,7 +323,7 @@ def closure(crates, wanted):
     found = []
 
     def visit(name):
-        if name in crates and name not in found:
+        if name in crates and name not in found and name not in READERS:
             for call in crates[name]:
                 visit(call)
             found.append(name)
@@ -370,7 +373,7 @@ def make_workspace(clone, workspace, options, wanted):
     crates = crates_of(clone)
     names = closure(crates, wanted)
     for name in names:
-        make_crate(clone, workspace, name, [c for c in crates[name] if c in crates], options)
+        make_crate(clone, workspace, name, [c for c in crates[name] if c in crates and c not in READERS], options)
     for own in ("plain_std", "plain"):
         source = os.path.join(HERE, own)
         for folder, _, files in os.walk(source):

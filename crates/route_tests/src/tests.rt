@@ -7,6 +7,7 @@ mod cells;
 mod dives;
 mod finds;
 mod labels;
+mod left_out;
 mod prices;
 mod questions;
 mod routes;

@@ -11,8 +11,6 @@ pub enum Cause {
     Crowd,
     /// What the whole fleet has left of a counter is less than the asked activities use.
     Counter(u32),
-    /// Found by duals; no shorter way to say it.
-    Together,
 }
 
 /// Activities that are a shortage, and for each aircraft the most that a legal route of it has of the asked ones beyond the

@@ -54,4 +54,4 @@ can_be_told book sound cause asked brought mosts is of_cause = record {
 pub leave_no_plan : ShortagesLeaveNoPlan → TrueWhysLeaveNoPlan
 leave_no_plan law book Feasible truth of = absurd of
 leave_no_plan law book (Short found) truth of = law book found.asked.items found.brought.items found.mosts.items truth
-leave_no_plan law book Nothing truth of = truth
+leave_no_plan law book (Nothing uncovered) truth of = truth.0

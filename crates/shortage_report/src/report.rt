@@ -5,7 +5,7 @@ ghost use Rattle.tail_outside.specs.Outside.{PieceHasFailed, Takes, TakesFront};
 ghost use Rattle.shortage_report.specs.ShortageText.{feasible_line, nothing_line, why_lines, why_text};
 ghost use Rattle.shortage_report.specs.inside.Told.{CanBeTold};
 
-use crate::shortage_lines::add_shortage;
+use crate::shortage_lines::{add_shortage, ids_line};
 use crate::why::Why;
 use plan_report::{ReportFail, first_line, write_lines};
 use std::alloc::Global;
@@ -45,9 +45,10 @@ fn why_lines(alloc: Global, book: &Book, why: &Why) -> Result<Vec<Line>, Memory>
             lines.push(first_line(alloc, &Outcome::Infeasible)?)?;
             add_shortage(alloc, book, found, &mut lines)?;
         }
-        Why::Nothing => {
+        Why::Nothing(uncovered) => {
             lines.push(first_line(alloc, &Outcome::Infeasible)?)?;
             lines.push(nothing_line(alloc)?)?;
+            lines.push(ids_line(alloc, b"uncovered", book, uncovered)?)?;
         }
     }
     Ok(lines)

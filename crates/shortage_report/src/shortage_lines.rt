@@ -77,7 +77,6 @@ fn add_cause(book: &Book, cause: Cause, asked: &[u32], line: &mut Line) -> Resul
         Cause::Airport => add_airport(book, asked, line),
         Cause::Crowd => add_crowd(book, asked, line),
         Cause::Counter(c) => add_counter(book, c, line),
-        Cause::Together => line.text(b"together"),
     }
 }
 
@@ -142,8 +141,8 @@ fn first_airport<'a>(book: &'a Book, asked: &[u32]) -> &'a [u8]
     }
 }
 
-// A word and the ids of these activities.
-fn ids_line(alloc: Global, word: &[u8], book: &Book, list: &[u32]) -> Result<Line, Memory>
+/// A word and the ids of these activities.
+pub fn ids_line(alloc: Global, word: &[u8], book: &Book, list: &[u32]) -> Result<Line, Memory>
     requires { All (λ a. a < activities book.now) list.now }
     ensures { IfOk result (λ line. line ≡ word.now ++ (ids_of book.now list.now ++ newline)) }
 {

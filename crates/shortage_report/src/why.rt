@@ -9,6 +9,7 @@ pub enum Why {
     Feasible,
     /// No plan is legal, since these activities are a shortage.
     Short(FoundShortage),
-    /// No plan is legal, and no shortage was found that shows it.
-    Nothing,
+    /// No plan is legal, and no shortage was found that shows it: these activities are left out by a choice of a legal route for
+    /// each aircraft, with no activity in two of them.
+    Nothing(Vec<u32>),
 }

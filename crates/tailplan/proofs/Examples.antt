@@ -1,6 +1,6 @@
 -- What the words mean, at command lines that are written out. The rows show the three names in their order, the two
--- options in each way to write them, the flags, a trial, a question why no plan is legal, and what is refused: too few words or too many, a dash in front, a
--- limit that is no number, an option or a flag twice, a flag with a value, a lean certificate without its file, and any
+-- options in each way to write them, the flags, a trial, a question why no plan is legal, quotas, and what is refused: too few words or too many, a dash in
+-- front, a limit that is no number, an option or a flag twice, a flag with a value, a lean certificate without its file, and any
 -- other option.
 use Rattle.std.proofs.Common.{◌≡◌, ℕ, List, [], ◌∷◌, Option, Some, None, codes, refl}
 use Rattle.clap.proofs.OnLiterals.{clap_on_literals}
@@ -9,6 +9,8 @@ use Rattle.cert_lines.specs.declared.version.Version.TheVariants.{Full, Lean}
 use Rattle.certified_search.specs.declared.order.Order.TheVariants.{DepthFirst, LeastBound}
 use Rattle.run_frame.specs.Tables.{NamesSeen}
 use Rattle.tailplan.proofs.WordLaws.{named}
+use Rattle.tailplan.specs.FourTexts.{FourNamesSeen}
+use Rattle.tailplan.specs.QuotaWords.{quota_of}
 use Rattle.tailplan.specs.Tasks.{TaskNamesSeen}
 use Rattle.tailplan.specs.WhyWords.{why_of}
 use Rattle.tailplan.specs.Words.{run_of, seed_of}
@@ -186,3 +188,17 @@ whys : (why_of (codes "tailplan" ∷ codes "why" ∷ codes "t" ∷ codes "f" ∷
     × (after_name (codes "./why" ∷ codes "f" ∷ codes "r" ∷ []) ≡ named (codes "./why") (codes "f") (codes "r"))
 unfolding clap_on_literals run_of why_of
 whys = (refl, refl, refl, refl, refl, refl, refl)
+
+-- the tables `t`, `f` and `r`, and the quotas `q`
+abbrev t_f_r_q : FourNamesSeen
+t_f_r_q = record { tables = t_f_r; fourth = codes "q" }
+
+-- behind the word that asks for quotas stand three tables and that of the quotas; a timetable of that name is written as a path
+quotas : (quota_of (codes "tailplan" ∷ codes "quota" ∷ codes "t" ∷ codes "f" ∷ codes "r" ∷ codes "q" ∷ []) ≡ Some t_f_r_q)
+    × (quota_of (codes "tailplan" ∷ codes "quota" ∷ codes "t" ∷ codes "f" ∷ codes "r" ∷ []) ≡ None)
+    × (quota_of (codes "tailplan" ∷ codes "quota" ∷ codes "t" ∷ codes "f" ∷ codes "r" ∷ codes "q" ∷ codes "x" ∷ []) ≡ None)
+    × (quota_of (codes "tailplan" ∷ codes "./quota" ∷ codes "t" ∷ codes "f" ∷ codes "r" ∷ codes "q" ∷ []) ≡ None)
+    × (after_name (codes "quota" ∷ codes "f" ∷ codes "r" ∷ []) ≡ None)
+    × (after_name (codes "./quota" ∷ codes "f" ∷ codes "r" ∷ []) ≡ named (codes "./quota") (codes "f") (codes "r"))
+unfolding clap_on_literals run_of quota_of
+quotas = (refl, refl, refl, refl, refl, refl)

@@ -10,3 +10,5 @@ pub mod RepairWords
 pub mod RepairPromised
 pub mod WhyWords
 pub mod WhyPromised
+pub mod QuotaWords
+pub mod QuotaPromised

@@ -85,13 +85,13 @@ reached_above book limit DepthFirst low count nodes tree = reached limit count t
 reached_above book limit LeastBound low count nodes tree = reached limit count tree.1.answered.2
 
 -- the statuses of outcomes are 0, 1 and 4
-never_five : (outcome : Outcome) → outcome_status outcome ≢ 5
+pub never_five : (outcome : Outcome) → outcome_status outcome ≢ 5
 never_five (Optimal plan cost) e = absurd (omega (arith, e))
 never_five Infeasible e = absurd (omega (arith, e))
 never_five (Between plan low high nodes) e = absurd (omega (arith, e))
 never_five (Above low nodes) e = absurd (omega (arith, e))
 
-never_six : (outcome : Outcome) → outcome_status outcome ≢ 6
+pub never_six : (outcome : Outcome) → outcome_status outcome ≢ 6
 never_six (Optimal plan cost) e = absurd (omega (arith, e))
 never_six Infeasible e = absurd (omega (arith, e))
 never_six (Between plan low high nodes) e = absurd (omega (arith, e))

@@ -31,42 +31,43 @@ use Rattle.run_frame.specs.declared.answer.Answer.TheVariants.{ReadFailed}
 use Rattle.tailplan.specs.RepairAnswers.{AreRefusedTexts, AreRepaired, IsTrueRepairAnswer, OfTexts, RepairAnswer, repair_answer_text}
 use Rattle.tailplan.specs.RepairCases.{RepairCase, case_of, too_large}
 use Rattle.tailplan.specs.RepairPromises.{IsRepairVerdict, JudgesRepair, RefusesTexts, RepairPromise}
-use Rattle.tailplan.specs.RepairTexts.{RepairNamesSeen, RepairTextsSeen, texts_held}
+use Rattle.tailplan.specs.FourTexts.{FourNamesSeen, FourTextsSeen, texts_held}
 use Rattle.tailplan.specs.RepairWords.{repair_of}
 use Rattle.tailplan.specs.Usage.{repair_usage_line}
 use Rattle.tailplan.specs.declared.repaired.Repaired.{Repaired}
-use Rattle.tailplan.specs.inside.Repairs.{repair_status, text_fronts}
+use Rattle.tailplan.specs.inside.Repairs.{repair_status}
+use Rattle.tailplan.specs.inside.FourTexts.{text_fronts}
 
 plan_in-front : (bytes : List ℕ) → plan_in (front bytes) ≡ plan_in bytes
 plan_in-front bytes = front-limited plan_in (refused_plan 1 0) (λ b big. rw big refl) bytes
 
 -- what is repaired of the fronts is what is repaired of the whole files
-case_of-fronts : (texts : RepairTextsSeen) → case_of (text_fronts texts) ≡ case_of texts
+case_of-fronts : (texts : FourTextsSeen) → case_of (text_fronts texts) ≡ case_of texts
 case_of-fronts texts =
     ap₂ (λ (b : Result BookSeen Refusal) (p : Result RawPlanSeen Refusal). look b (λ book. look p (λ plan. must (nat_le (activities book) REPAIR_LIMIT) too_large (Ok (record { book = book; plan = plan })))))
-    (book_of-fronts texts.tables) (plan_in-front texts.plan)
+    (book_of-fronts texts.tables) (plan_in-front texts.fourth)
 
 -- an answer to the files that were read is a true answer to the words
-pub true_answer : (words : List (List ℕ)) (files : FilesShown) (names : RepairNamesSeen) (read : RepairTextsSeen) (answer : RepairAnswer) → repair_of words ≡ Some names
+pub true_answer : (words : List (List ℕ)) (files : FilesShown) (names : FourNamesSeen) (read : FourTextsSeen) (answer : RepairAnswer) → repair_of words ≡ Some names
     → IfSome (texts_held files names) (λ texts. read ≡ text_fronts texts) → IsAnswerTo AreRefusedTexts AreRepaired read answer → IsTrueRepairAnswer words files answer
 true_answer words files = ending.true_answer (repair_of words) (texts_held files) AreRefusedTexts AreRepaired text_fronts
     (λ texts refusal h. sym (case_of-fronts texts) ∙ h) (λ texts found h. (h.0, sym (case_of-fronts texts) ∙ h.1, h.2))
 
 -- a book and a plan that are read are a case, unless the book is too large
-pub case_of-both : (texts : RepairTextsSeen) (book : BookSeen) (plan : RawPlanSeen) → book_of texts.tables.timetable texts.tables.fleet texts.tables.rules ≡ Ok book → plan_in texts.plan ≡ Ok plan
+pub case_of-both : (texts : FourTextsSeen) (book : BookSeen) (plan : RawPlanSeen) → book_of texts.tables.timetable texts.tables.fleet texts.tables.rules ≡ Ok book → plan_in texts.fourth ≡ Ok plan
     → nat_le (activities book) REPAIR_LIMIT ≡ true → case_of texts ≡ Ok (record { book = book; plan = plan })
 case_of-both texts book plan is_book is_plan few = rw (is_book, is_plan, few) refl
 
-pub case_of-large : (texts : RepairTextsSeen) (book : BookSeen) (plan : RawPlanSeen) → book_of texts.tables.timetable texts.tables.fleet texts.tables.rules ≡ Ok book → plan_in texts.plan ≡ Ok plan
+pub case_of-large : (texts : FourTextsSeen) (book : BookSeen) (plan : RawPlanSeen) → book_of texts.tables.timetable texts.tables.fleet texts.tables.rules ≡ Ok book → plan_in texts.fourth ≡ Ok plan
     → nat_le (activities book) REPAIR_LIMIT ≡ false → case_of texts ≡ Err too_large
 case_of-large texts book plan is_book is_plan many = rw (is_book, is_plan, many) refl
 
 -- a case is no refusal
-apart : (texts : RepairTextsSeen) (case : RepairCase) (refusal : Refusal) → case_of texts ≡ Ok case → AreRefusedTexts texts refusal → ⊥
+apart : (texts : FourTextsSeen) (case : RepairCase) (refusal : Refusal) → case_of texts ≡ Ok case → AreRefusedTexts texts refusal → ⊥
 apart texts case refusal is refused = let both = sym is ∙ refused in cc
 
 -- what is repaired is one case
-same_case : (texts : RepairTextsSeen) (a b : RepairCase) → case_of texts ≡ Ok a → case_of texts ≡ Ok b → a ≡ b
+same_case : (texts : FourTextsSeen) (a b : RepairCase) → case_of texts ≡ Ok a → case_of texts ≡ Ok b → a ≡ b
 same_case texts a b first second = let both = sym first ∙ second in cc
 
 -- the statuses of repairs are 0 and 1

@@ -9,21 +9,22 @@ use Rattle.run_frame.specs.TableFiles.{IsHeld}
 use Rattle.run_frame.specs.Words.{matched}
 use Rattle.tailplan.specs.Kept.{LeavesCertificate}
 use Rattle.tailplan.specs.Promises.{JudgesBook, RefusesTables}
+use Rattle.tailplan.specs.QuotaWords.{is_quota}
 use Rattle.tailplan.specs.RepairPromises.{JudgesRepair, RefusesTexts}
-use Rattle.tailplan.specs.RepairTexts.{RepairNamesSeen}
-use Rattle.tailplan.specs.RepairWords.{is_repair, names_behind, repair_of}
+use Rattle.tailplan.specs.FourTexts.{FourNamesSeen, names_behind}
+use Rattle.tailplan.specs.RepairWords.{is_repair, repair_of}
 use Rattle.tailplan.specs.Tasks.{TaskNamesSeen}
 use Rattle.tailplan.specs.WhyWords.{is_why}
 use Rattle.tailplan.specs.Words.{command, is_trial, names_in, run_of, seed_of}
 
-none_of : (trial repair why : Bool) (names : Option TaskNamesSeen) → repair ≡ true → (if trial || (repair || why) then None else names) ≡ None
-none_of true repair why names asks = refl
-none_of false true why names asks = refl
-none_of false false why names asks = absurd (cc asks)
+none_of : (trial repair other : Bool) (names : Option TaskNamesSeen) → repair ≡ true → (if trial || (repair || other) then None else names) ≡ None
+none_of true repair other names asks = refl
+none_of false true other names asks = refl
+none_of false false other names asks = absurd (cc asks)
 
 pub no_tables : (words : List (List ℕ)) → is_repair words ≡ true → run_of words ≡ None
 unfolding run_of
-no_tables words asks = none_of (is_trial words) (is_repair words) (is_why words) (option_and_then names_in (matched command words)) asks
+no_tables words asks = none_of (is_trial words) (is_repair words) (is_why words || is_quota words) (option_and_then names_in (matched command words)) asks
 
 -- a word is not both of two words
 pub no_seed : (words : List (List ℕ)) → is_repair words ≡ true → seed_of words ≡ None
@@ -38,7 +39,7 @@ no_seed (program ∷ word ∷ rest) asks =
 pub no_touch : (words : List (List ℕ)) (A : Type 0) → is_repair words ≡ true → IsSome (seed_of words) → A
 no_touch words A asks some = let both = subst (λ (seed : Option ℕ). IsSome seed) (no_seed words asks) some in absurd (cc both)
 
-not_asked : (asks : Bool) (names : Option RepairNamesSeen) → asks ≡ false → (if asks then names else None) ≡ None
+not_asked : (asks : Bool) (names : Option FourNamesSeen) → asks ≡ false → (if asks then names else None) ≡ None
 not_asked true names is = absurd (cc is)
 not_asked false names is = refl
 

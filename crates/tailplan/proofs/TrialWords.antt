@@ -7,6 +7,7 @@ use Rattle.run_frame.specs.TableFiles.{IsHeld}
 use Rattle.run_frame.specs.Words.{matched}
 use Rattle.tailplan.specs.Kept.{LeavesCertificate}
 use Rattle.tailplan.specs.Promises.{JudgesBook, RefusesTables}
+use Rattle.tailplan.specs.QuotaWords.{is_quota}
 use Rattle.tailplan.specs.RepairWords.{is_repair}
 use Rattle.tailplan.specs.Tasks.{TaskNamesSeen}
 use Rattle.tailplan.specs.WhyWords.{is_why}
@@ -18,7 +19,7 @@ either false other seed names n is = absurd (cc is)
 
 pub no_names : (words : List (List ℕ)) (seed : ℕ) → seed_of words ≡ Some seed → run_of words ≡ None
 unfolding seed_of run_of
-no_names words seed is = either (is_trial words) (is_repair words || is_why words) (seed_behind words) (option_and_then names_in (matched command words)) seed is
+no_names words seed is = either (is_trial words) (is_repair words || (is_why words || is_quota words)) (seed_behind words) (option_and_then names_in (matched command words)) seed is
 
 nothing_held : {X : Type 0} (words : List (List ℕ)) (seed : ℕ) (held : TaskNamesSeen → Option X) (x : X) → seed_of words ≡ Some seed → IsHeld (run_of words) held x → ⊥
 nothing_held words seed held x is there = let both = sym (no_names words seed is) ∙ there.1 in absurd (cc both)

@@ -46,12 +46,12 @@ same_book tables a b first second = let both = sym first ∙ second in cc
 never_five : (why : Why) → why_status why ≢ 5
 never_five Feasible e = absurd (omega (arith, e))
 never_five (Short found) e = absurd (omega (arith, e))
-never_five Nothing e = absurd (omega (arith, e))
+never_five (Nothing uncovered) e = absurd (omega (arith, e))
 
 never_six : (why : Why) → why_status why ≢ 6
 never_six Feasible e = absurd (omega (arith, e))
 never_six (Short found) e = absurd (omega (arith, e))
-never_six Nothing e = absurd (omega (arith, e))
+never_six (Nothing uncovered) e = absurd (omega (arith, e))
 
 -- what was told can be
 abbrev IsTellable : Explained → Type 0
@@ -62,7 +62,7 @@ module _ (law : TrueWhysLeaveNoPlan) where
   decides : (book : BookSeen) (why : Why) (status : ℕ) → IsTrueWhy book why → status ≡ why_status why → IsWhyVerdict book status
   decides book Feasible status truth is = inl (is, truth)
   decides book (Short found) status truth is = inr (is, law book (Short found) truth tt)
-  decides book Nothing status truth is = inr (is, truth)
+  decides book (Nothing uncovered) status truth is = inr (is, truth.0)
 
   module _ (words : List (List ℕ)) (files : FilesShown) (before after : SinkShown) where
     -- what was told promises what its status says
@@ -83,11 +83,11 @@ module _ (law : TrueWhysLeaveNoPlan) where
       truth = own.1;
       printed = took;
     }) k
-    found_promises book Nothing k took = OfHeld-map (why_of words) (tables_held files) _ _ (λ tables own. record {
+    found_promises book (Nothing uncovered) k took = OfHeld-map (why_of words) (tables_held files) _ _ (λ tables own. record {
       book = book;
-      why = Nothing;
+      why = Nothing uncovered;
       is = own.0;
-      none = own.1;
+      none = own.1.0;
       of_none = tt;
       truth = own.1;
       printed = took;

@@ -1,6 +1,6 @@
 -- Words that ask why no plan is legal ask for nothing else, and all others give no names for that. So what is promised of the one
 -- has nothing to hold of in a run of the other.
-use Rattle.std.proofs.Common.{◌≡◌, ◌∙◌, ◌||◌, ℕ, Bool, true, false, List, [], ◌∷◌, Option, None, codes, if◌then◌else◌, refl, sym, subst}
+use Rattle.std.proofs.Common.{◌≡◌, ◌||◌, ℕ, Bool, true, false, List, [], ◌∷◌, Option, None, codes, if◌then◌else◌, refl, subst}
 use Rattle.std.proofs.lemmas.Slice.Eq.{bytes_eq-Decides}
 use Rattle.std.specs.Prelude.{IsSome, option_and_then}
 use Rattle.tail_outside.specs.Shown.{FilesShown}
@@ -8,6 +8,7 @@ use Rattle.run_frame.specs.Tables.{NamesSeen}
 use Rattle.run_frame.specs.Words.{matched}
 use Rattle.tailplan.proofs.RepairWords.{held_nowhere}
 use Rattle.tailplan.specs.Promises.{JudgesBook, RefusesTables}
+use Rattle.tailplan.specs.QuotaWords.{is_quota}
 use Rattle.tailplan.specs.RepairPromises.{JudgesRepair, RefusesTexts}
 use Rattle.tailplan.specs.RepairWords.{is_repair, repair_of}
 use Rattle.tailplan.specs.Tasks.{TaskNamesSeen}
@@ -15,15 +16,15 @@ use Rattle.tailplan.specs.WhyPromises.{JudgesWhy, RefusesWhy}
 use Rattle.tailplan.specs.WhyWords.{is_why, tables_behind, why_of}
 use Rattle.tailplan.specs.Words.{command, is_trial, names_in, run_of, seed_of}
 
-none_of : (trial repair why : Bool) (names : Option TaskNamesSeen) → why ≡ true → (if trial || (repair || why) then None else names) ≡ None
-none_of true repair why names asks = refl
-none_of false true why names asks = refl
-none_of false false true names asks = refl
-none_of false false false names asks = absurd (cc asks)
+none_of : (trial repair why other : Bool) (names : Option TaskNamesSeen) → why ≡ true → (if trial || (repair || (why || other)) then None else names) ≡ None
+none_of true repair why other names asks = refl
+none_of false true why other names asks = refl
+none_of false false true other names asks = refl
+none_of false false false other names asks = absurd (cc asks)
 
 no_tables : (words : List (List ℕ)) → is_why words ≡ true → run_of words ≡ None
 unfolding run_of
-no_tables words asks = none_of (is_trial words) (is_repair words) (is_why words) (option_and_then names_in (matched command words)) asks
+no_tables words asks = none_of (is_trial words) (is_repair words) (is_why words) (is_quota words) (option_and_then names_in (matched command words)) asks
 
 -- a word is not both of two words
 no_seed : (words : List (List ℕ)) → is_why words ≡ true → seed_of words ≡ None

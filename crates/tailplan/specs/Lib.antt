@@ -4,7 +4,7 @@ pub mod Words
 pub mod Answers
 pub mod Kept
 pub mod Promises
-pub mod RepairTexts
+pub mod FourTexts
 pub mod RepairWords
 pub mod RepairCases
 pub mod RepairAnswers
@@ -12,5 +12,9 @@ pub mod RepairPromises
 pub mod WhyWords
 pub mod WhyAnswers
 pub mod WhyPromises
+pub mod QuotaWords
+pub mod QuotaCases
+pub mod QuotaAnswers
+pub mod QuotaPromises
 pub mod Trials
 pub mod inside

@@ -11,7 +11,7 @@ use Rattle.run_frame.specs.Answer.{IsTrueAnswer as IsTrueOf, lines_of}
 use Rattle.run_frame.specs.TableFiles.{OfHeld}
 use Rattle.run_frame.specs.declared.answer.Answer.{Answer as AnswerOf}
 use Rattle.tailplan.specs.RepairCases.{case_of}
-use Rattle.tailplan.specs.RepairTexts.{MayReadTexts, RepairTextsSeen, texts_held}
+use Rattle.tailplan.specs.FourTexts.{MayReadTexts, FourTextsSeen, texts_held}
 use Rattle.tailplan.specs.RepairWords.{repair_of}
 use Rattle.tailplan.specs.Usage.{repair_usage_line}
 use Rattle.tailplan.specs.declared.repaired.Repaired.{Repaired}
@@ -25,15 +25,15 @@ abbrev pub MayReadPlan : List (List ℕ) → FilesShown → Type 0
 MayReadPlan words files = IfSome (repair_of words) (MayReadTexts files)
 
 -- the words give four names, and P holds of the files under them, where they are told
-abbrev pub OfTexts : List (List ℕ) → FilesShown → (RepairTextsSeen → Type 0) → Type 0
+abbrev pub OfTexts : List (List ℕ) → FilesShown → (FourTextsSeen → Type 0) → Type 0
 OfTexts words files P = OfHeld (repair_of words) (texts_held files) P
 
 -- this is the first refusal of the files
-abbrev pub AreRefusedTexts : RepairTextsSeen → Refusal → Type 0
+abbrev pub AreRefusedTexts : FourTextsSeen → Refusal → Type 0
 AreRefusedTexts texts refusal = case_of texts ≡ Err refusal
 
 -- the tables are this book, and for the homes in the plan of its file this is a true repair
-abbrev pub AreRepaired : RepairTextsSeen → Repaired → Type 0
+abbrev pub AreRepaired : FourTextsSeen → Repaired → Type 0
 AreRepaired texts found =
     (plan : RawPlanSeen) × (case_of texts ≡ Ok (record { book = found.book; plan = plan })) × IsTrueRepair found.book (homes found.book plan) found.repair
 

@@ -10,7 +10,7 @@ use Rattle.tail_text.specs.declared.refusal.Table.TheVariants.{Timetable}
 use Rattle.book_maker.specs.Made.{book_of}
 use Rattle.plan_repair.specs.declared.raised.TheConstants.{REPAIR_LIMIT}
 use Rattle.plan_report.specs.PlanText.{plan_in}
-use Rattle.tailplan.specs.RepairTexts.{RepairTextsSeen}
+use Rattle.tailplan.specs.FourTexts.{FourTextsSeen}
 
 -- a book, and the published plan that is repaired for it
 pub record RepairCase : Type 0 where
@@ -23,9 +23,9 @@ too_large = refusal_at TOO_MANY Timetable 1002
 
 -- the book of the tables and the plan of its file, or the first refusal: that of the tables, then that of the plan's file, and
 -- then that of a book that is too large
-abbrev pub case_of : RepairTextsSeen → Result RepairCase Refusal
+abbrev pub case_of : FourTextsSeen → Result RepairCase Refusal
 case_of texts =
     look (book_of texts.tables.timetable texts.tables.fleet texts.tables.rules) (λ book.
-    look (plan_in texts.plan) (λ plan.
+    look (plan_in texts.fourth) (λ plan.
     must (nat_le (activities book) REPAIR_LIMIT) too_large (
     Ok (record { book = book; plan = plan }))))

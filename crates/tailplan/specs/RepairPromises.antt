@@ -13,12 +13,12 @@ use Rattle.run_frame.specs.Promise.{ElsePromise, Judges, Refuses}
 use Rattle.tailplan.specs.Promises.{HasPlan}
 use Rattle.tailplan.specs.RepairAnswers.{AreRefusedTexts, IsTrueRepairAnswer, OfTexts, repair_answer_text}
 use Rattle.tailplan.specs.RepairCases.{RepairCase, case_of}
-use Rattle.tailplan.specs.RepairTexts.{RepairTextsSeen, texts_held}
+use Rattle.tailplan.specs.FourTexts.{FourTextsSeen, texts_held}
 use Rattle.tailplan.specs.RepairWords.{repair_of}
 use Rattle.tailplan.specs.Usage.{repair_usage_line}
 
 -- the files are a book and a published plan, and a least repair of it was printed, with its moves and its cost
-pub record PrintsLeastRepair (before after : SinkShown) (texts : RepairTextsSeen) : Type 0 where
+pub record PrintsLeastRepair (before after : SinkShown) (texts : FourTextsSeen) : Type 0 where
   pub case : RepairCase
   pub plan : List (List ℕ)
   pub is : case_of texts ≡ Ok case
@@ -26,7 +26,7 @@ pub record PrintsLeastRepair (before after : SinkShown) (texts : RepairTextsSeen
   pub printed : Takes before after (repair_text case.book (Done plan (moves (homes case.book case.plan) plan) (plan_cost case.book plan)))
 
 -- the files are a book, of which no plan is legal, and a published plan, and that was printed
-pub record PrintsNoRepair (before after : SinkShown) (texts : RepairTextsSeen) : Type 0 where
+pub record PrintsNoRepair (before after : SinkShown) (texts : FourTextsSeen) : Type 0 where
   pub case : RepairCase
   pub is : case_of texts ≡ Ok case
   pub none : HasNoPlan case.book

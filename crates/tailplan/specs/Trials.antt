@@ -21,6 +21,8 @@ use Rattle.seed_tables.specs.Making.{IsBookOfTrial, making_cost}
 use Rattle.seed_tables.specs.Trial.{trial_of}
 use Rattle.tailplan.specs.Answers.{HasTree}
 use Rattle.tailplan.specs.Promises.{IsBound, Promise}
+use Rattle.tailplan.specs.QuotaPromises.{QuotaPromise}
+use Rattle.tailplan.specs.QuotaWords.{is_quota, quota_of}
 use Rattle.tailplan.specs.RepairPromises.{RepairPromise}
 use Rattle.tailplan.specs.RepairWords.{is_repair, repair_of}
 use Rattle.tailplan.specs.Usage.{usage_line}
@@ -110,19 +112,21 @@ abbrev pub PromiseBy : Option ℕ → List (List ℕ) → FilesShown → FilesSh
 PromiseBy None words files later before after status = Promise words files later before after status
 PromiseBy (Some seed) words files later before after status = TrialPromise seed before after status
 
--- words that ask for a repair, or why no plan is legal, promise what that does, and all others one of these
+-- words that ask for a repair, why no plan is legal, or for quotas promise what that does, and all others one of these
 abbrev pub PromiseOf : List (List ℕ) → FilesShown → FilesShown → SinkShown → SinkShown → ℕ → Type 0
 PromiseOf words files later before after status =
     cond (is_repair words) (RepairPromise words files before after status) (
-    cond (is_why words) (WhyPromise words files before after status)
-    (PromiseBy (seed_of words) words files later before after status))
+    cond (is_why words) (WhyPromise words files before after status) (
+    cond (is_quota words) (QuotaPromise words files before after status)
+    (PromiseBy (seed_of words) words files later before after status)))
 
 -- what any run promises by its status, where its files and its output show what these two functions say of them
 abbrev pub RunPromise : {F S Z : Type 0} → (F → FilesShown) → (S → SinkShown) → List (String Z) → F → F → S → S → ℕ → Type 0
 RunPromise files_shown sink_shown words files later before after status =
     PromiseOf (spelled words) (files_shown files) (files_shown later) (sink_shown before) (sink_shown after) status
 
--- words that are neither those of a run over tables nor those of a trial or a repair, and don't ask rightly why no plan is legal, end
--- with status 2, unless a write failed or memory was wanting
+-- words that are neither those of a run over tables nor those of a trial, a repair or a run under quotas, and don't ask rightly why no
+-- plan is legal, end with status 2, unless a write failed or memory was wanting
 abbrev pub RefusesWords : List (List ℕ) → ℕ → Type 0
-RefusesWords words status = run_of words ≡ None → seed_of words ≡ None → repair_of words ≡ None → why_of words ≡ None → IsUnlessStopped 2 status
+RefusesWords words status =
+    run_of words ≡ None → seed_of words ≡ None → repair_of words ≡ None → why_of words ≡ None → quota_of words ≡ None → IsUnlessStopped 2 status

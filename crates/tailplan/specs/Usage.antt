@@ -13,3 +13,7 @@ repair_usage_line = codes "usage: tailplan repair TIMETABLE FLEET RULES PLAN" ++
 -- the words that ask why no plan is legal
 abbrev pub why_usage_line : List ℕ
 why_usage_line = codes "usage: tailplan why TIMETABLE FLEET RULES" ++ newline
+
+-- the words of a run under quotas
+abbrev pub quota_usage_line : List ℕ
+quota_usage_line = codes "usage: tailplan quota TIMETABLE FLEET RULES QUOTAS" ++ newline

@@ -25,6 +25,7 @@ pub record PrintsFeasible (before after : SinkShown) (tables : TablesSeen) : Typ
   pub printed : Takes before after (why_text book Feasible)
 
 -- the tables are a book of which no plan is legal, and that was printed, with activities that are a shortage, or that none was found
+-- and activities that some choice of legal routes leaves out
 pub record PrintsWhyNone (before after : SinkShown) (tables : TablesSeen) : Type 0 where
   pub book : BookSeen
   pub why : Why

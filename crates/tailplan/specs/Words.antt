@@ -14,6 +14,7 @@ use Rattle.certified_search.specs.declared.order.Order.{Order}
 use Rattle.certified_search.specs.declared.order.Order.TheVariants.{DepthFirst, LeastBound}
 use Rattle.run_frame.specs.Words.{matched, optional, tables_command, tables_in}
 use Rattle.seed_tables.specs.declared.trial.TheConstants.{SEED_LIMIT}
+use Rattle.tailplan.specs.QuotaWords.{is_quota}
 use Rattle.tailplan.specs.RepairWords.{is_repair}
 use Rattle.tailplan.specs.Tasks.{TaskNamesSeen}
 use Rattle.tailplan.specs.WhyWords.{is_why}
@@ -70,10 +71,10 @@ is_trial [] = false
 is_trial (program ∷ []) = false
 is_trial (program ∷ word ∷ rest) = bytes_eq word (codes "trial")
 
--- the names that the words give; words that the command refuses give none, nor do those that ask for a trial, for a repair, or
--- why no plan is legal
+-- the names that the words give; words that the command refuses give none, nor do those that ask for a trial, for a repair,
+-- why no plan is legal, or for quotas
 unfoldable pub run_of : List (List ℕ) → Option TaskNamesSeen
-run_of words = if is_trial words || (is_repair words || is_why words) then None else option_and_then names_in (matched command words)
+run_of words = if is_trial words || (is_repair words || (is_why words || is_quota words)) then None else option_and_then names_in (matched command words)
 
 -- a seed is a number, and any other text is refused
 abbrev pub seeded : Result ℕ Bad → Option ℕ

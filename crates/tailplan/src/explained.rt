@@ -19,7 +19,7 @@ fn why_status(why: &Why) -> Status
     Status(match why {
         Why::Feasible => 0,
         Why::Short(_) => 1,
-        Why::Nothing => 1,
+        Why::Nothing(_) => 1,
     })
 }
 

@@ -13,7 +13,7 @@ ghost use Rattle.tailplan.specs.RepairCases.{too_large};
 ghost use Rattle.tailplan.specs.RepairPromises.{JudgesRepair, RefusesTexts, RepairPromise};
 ghost use Rattle.tailplan.specs.RepairWords.{repair_of};
 
-use crate::repair_texts::{RepairTexts, read_texts};
+use crate::four_texts::{FourTexts, read_texts};
 use crate::repair_words::repair_of;
 use crate::repaired::Repaired;
 use crate::usage::repair_usage_line;
@@ -81,7 +81,7 @@ fn too_large() -> Refusal
 }
 
 // The answer to the three tables and the published plan's file.
-fn repaired(alloc: Global, texts: &RepairTexts) -> Answer<Repaired>
+fn repaired(alloc: Global, texts: &FourTexts) -> Answer<Repaired>
     ensures answer { IsAnswerTo AreRefusedTexts AreRepaired texts.now result }
     ensures printable { IsPrintable (λ found. HasPlanFor found.book found.repair) result }
 {
@@ -89,7 +89,7 @@ fn repaired(alloc: Global, texts: &RepairTexts) -> Answer<Repaired>
         Ok(book) => book,
         Err(answer) => return answer,
     };
-    let raw = match read_plan(alloc, &texts.plan) {
+    let raw = match read_plan(alloc, &texts.fourth) {
         Ok(raw) => raw,
         Err(Stopped::Refused(refusal)) => return Answer::Refused(refusal),
         Err(Stopped::Memory) => return Answer::Memory,

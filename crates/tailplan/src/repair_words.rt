@@ -3,18 +3,9 @@
 ghost use Rattle.std.specs.Prelude.{◌≡◌, option_map};
 ghost use Rattle.run_frame.specs.Spelled.{spelled};
 ghost use Rattle.tailplan.specs.RepairWords.{is_repair, repair_of};
-ghost use Rattle.tailplan.specs.inside.Repairs.{repair_names_seen};
+ghost use Rattle.tailplan.specs.inside.FourTexts.{four_names_seen};
 
-use run_frame::TableNames;
-
-/// The names of the three tables and of the published plan's file, as the words give them.
-#[derive(Clone, Copy, PartialEq, Eq, Debug)]
-pub struct RepairNames<'a> {
-    /// The tables.
-    pub tables: TableNames<'a>,
-    /// The file of the published plan.
-    pub plan: &'a str,
-}
+use crate::four_texts::{FourNames, names_behind};
 
 /// Whether the word behind the program's name asks for a repair.
 pub fn is_repair(words: &[String]) -> bool
@@ -29,21 +20,11 @@ pub fn is_repair(words: &[String]) -> bool
 /// The names that the words give where they ask for a repair, or nothing where they ask for none, or not rightly. The words
 /// begin with the program's name.
 #[tactic(auto, unfolding(crate::specs::RepairWords::repair_of))]
-pub fn repair_of<'a>(words: &'a [String]) -> Option<RepairNames<'a>>
-    ensures { option_map repair_names_seen result ≡ repair_of (spelled words.now) }
+pub fn repair_of<'a>(words: &'a [String]) -> Option<FourNames<'a>>
+    ensures { option_map four_names_seen result ≡ repair_of (spelled words.now) }
 {
     if !is_repair(words) {
         return None;
     }
-    match words {
-        [_, _, timetable, fleet, rules, plan] => Some(RepairNames {
-            tables: TableNames {
-                timetable: timetable.as_str(),
-                fleet: fleet.as_str(),
-                rules: rules.as_str(),
-            },
-            plan: plan.as_str(),
-        }),
-        _ => None,
-    }
+    names_behind(words)
 }

@@ -1,5 +1,5 @@
 //! A whole run: the words, the three tables, the search for a least plan with its certificate, and what is printed; or a trial,
-//! or a repair, or why no plan is legal.
+//! or a repair, why no plan is legal, or a run under quotas.
 
 ghost use Rattle.std.specs.Prelude.{◌≡◌, ◌≤◌, IfOk, IfSome, IsErr, IsSome, IsTrue, None, Ok, false};
 ghost use Rattle.tail_book.specs.Faults.{HasRisen};
@@ -13,6 +13,8 @@ ghost use Rattle.run_frame.specs.declared.answer.Answer.TheVariants.{ReadFailed}
 ghost use Rattle.tailplan.specs.Answers.{AreRefused, AreSolved, IsTrueAnswer, MayUse, cert_of};
 ghost use Rattle.tailplan.specs.Kept.{FailsByWrite, LeavesCertificate, OnlyCertificate, OnlyReads, WriteHasFailed};
 ghost use Rattle.tailplan.specs.Promises.{JudgesBook, Promise, RefusesTables};
+ghost use Rattle.tailplan.specs.QuotaAnswers.{MayReadQuotas};
+ghost use Rattle.tailplan.specs.QuotaPromises.{JudgesQuotas, RefusesQuotas};
 ghost use Rattle.tailplan.specs.RepairAnswers.{MayReadPlan};
 ghost use Rattle.tailplan.specs.RepairPromises.{JudgesRepair, RefusesTexts};
 ghost use Rattle.tailplan.specs.Trials.{RefusesWords, RunPromise};
@@ -23,6 +25,8 @@ ghost use Rattle.tailplan.specs.inside.Ending.{KeepsFiles, LeavesFile};
 
 use crate::answered::{Answered, report};
 use crate::book_plan::planned;
+use crate::quota_run::run_quota;
+use crate::quota_words::is_quota;
 use crate::repair_run::run_repair;
 use crate::repair_words::is_repair;
 use crate::tasks::Task;
@@ -37,7 +41,7 @@ use tail_outside::{Files, ReadFail, Sink};
 /// Plans the timetable, the fleet and the rules that the words name: prints a legal plan of least cost, or that no
 /// plan is legal, or, at a limit of nodes, a bound with the best plan found, or why the words or a table are refused. A
 /// certificate is written where the words name a file for it. The files are handed back as they stand. Where the words ask
-/// for a trial it is run, and no file is touched; where they ask for a repair, or why no plan is legal, files are only read.
+/// for a trial it is run, and no file is touched; where they ask for a repair, why no plan is legal, or quotas, files are only read.
 pub fn solve_run<F: Files, S: Sink>(
     alloc: Global,
     words: &[String],
@@ -47,6 +51,7 @@ pub fn solve_run<F: Files, S: Sink>(
     requires tables { MayUse (spelled words.now) (F.shows files) }
     requires plan { MayReadPlan (spelled words.now) (F.shows files) }
     requires why { MayReadWhy (spelled words.now) (F.shows files) }
+    requires quotas { MayReadQuotas (spelled words.now) (F.shows files) }
 
     // What the status says, and the causes of faults.
     ensures promised { RunPromise F.shows S.shows words.now files result.files out.old out.new result.status.0 }
@@ -61,6 +66,8 @@ pub fn solve_run<F: Files, S: Sink>(
     ensures repaired { JudgesRepair (spelled words.now) (F.shows files) result.status.0 }
     ensures why_refused { RefusesWhy (spelled words.now) (F.shows files) result.status.0 }
     ensures explained { JudgesWhy (spelled words.now) (F.shows files) result.status.0 }
+    ensures quota_refused { RefusesQuotas (spelled words.now) (F.shows files) result.status.0 }
+    ensures kept { JudgesQuotas (spelled words.now) (F.shows files) result.status.0 }
 
     // What stays, and what the certificate's file is left with.
     ensures others { OnlyCertificate (cert_of (spelled words.now)) (F.shows files) (F.shows result.files) }
@@ -76,6 +83,9 @@ pub fn solve_run<F: Files, S: Sink>(
     }
     if is_why(words) {
         return run_why(alloc, words, files, out);
+    }
+    if is_quota(words) {
+        return run_quota(alloc, words, files, out);
     }
     match seed_of(words) {
         None => run_tables(alloc, words, files, out),

@@ -1,8 +1,8 @@
-//! The lines that are printed where the words are refused: the words of a run over tables, and where they ask for a repair, or why
-//! no plan is legal, the words of that. Those of a trial are not among them, and no line says which words were wrong.
+//! The lines that are printed where the words are refused: the words of a run over tables, and where they ask for a repair, why no
+//! plan is legal, or quotas, the words of that. Those of a trial are not among them, and no line says which words were wrong.
 
 ghost use Rattle.std.specs.Prelude.{◌≡◌};
-ghost use Rattle.tailplan.specs.Usage.{repair_usage_line, usage_line, why_usage_line};
+ghost use Rattle.tailplan.specs.Usage.{quota_usage_line, repair_usage_line, usage_line, why_usage_line};
 
 /// The words that the program takes, as one line.
 pub fn usage_line() -> &'static [u8]
@@ -23,4 +23,11 @@ pub fn why_usage_line() -> &'static [u8]
     ensures { result.now ≡ why_usage_line }
 {
     b"usage: tailplan why TIMETABLE FLEET RULES\n"
+}
+
+/// The words of a run under quotas, as one line.
+pub fn quota_usage_line() -> &'static [u8]
+    ensures { result.now ≡ quota_usage_line }
+{
+    b"usage: tailplan quota TIMETABLE FLEET RULES QUOTAS\n"
 }

@@ -7,6 +7,7 @@ ghost use Rattle.run_frame.specs.Spelled.{spelled};
 ghost use Rattle.tailplan.specs.Words.{command, is_given, is_trial, limit_of, names_in, order_of, run_of, seed_of, version_of, with_options};
 ghost use Rattle.tailplan.specs.inside.Tasks.{task_names_seen};
 
+use crate::quota_words::is_quota;
 use crate::repair_words::is_repair;
 use crate::why_words::is_why;
 use branch_tree::Limit;
@@ -147,12 +148,12 @@ pub fn seed_of(words: &[String]) -> Option<u64>
 }
 
 /// The names of the tables, the limit, the order and the version, or nothing where the words are refused or ask for a trial,
-/// for a repair, or why no plan is legal. The words begin with the program's name.
+/// for a repair, why no plan is legal, or for quotas. The words begin with the program's name.
 #[tactic(auto, unfolding(crate::specs::Words::run_of))]
 pub fn run_of<'a>(alloc: Global, words: &'a [String]) -> Result<Option<TaskNames<'a>>, Memory>
     ensures { IfOk result (λ names. option_map task_names_seen names ≡ run_of (spelled words.now)) }
 {
-    if is_trial(words) || is_repair(words) || is_why(words) {
+    if is_trial(words) || is_repair(words) || is_why(words) || is_quota(words) {
         return Ok(None);
     }
     match matched(command(alloc)?, words)? {

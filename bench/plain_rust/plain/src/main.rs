@@ -2,11 +2,12 @@
 //!
 //! usage: plain FOLDER [--nodes N] [--best] [--plan] [--cert FILE [--lean]], or with three tables in place of the folder;
 //! with --check FILE nothing is planned, and the certificate in this file is judged.
-//! `plain repair TIMETABLE FLEET RULES PLAN` repairs a published plan; with --why nothing is planned, and it tells what is short.
+//! `plain repair TIMETABLE FLEET RULES PLAN` repairs a published plan, `plain quota TIMETABLE FLEET RULES QUOTAS` plans under quotas; with --why nothing is planned, and it tells what is short.
 //! With TRACE=1 the events of the tree are told on standard error, each with processor seconds.
 
 mod book;
 mod certificates;
+mod quotas;
 mod repairs;
 mod shortages;
 
@@ -100,6 +101,7 @@ struct Task {
     lean: bool,
     checked: Option<String>,
     repaired: Option<String>,
+    quotas: Option<String>,
     why: bool,
 }
 
@@ -113,6 +115,7 @@ fn task_of(mut words: impl Iterator<Item = String>) -> Task {
         lean: false,
         checked: None,
         repaired: None,
+        quotas: None,
         why: false,
     };
     while let Some(word) = words.next() {
@@ -129,6 +132,10 @@ fn task_of(mut words: impl Iterator<Item = String>) -> Task {
     }
     if task.names.len() == 5 && task.names[0] == "repair" {
         task.repaired = task.names.pop();
+        task.names.remove(0);
+    }
+    if task.names.len() == 5 && task.names[0] == "quota" {
+        task.quotas = task.names.pop();
         task.names.remove(0);
     }
     if task.names.len() == 1 {
@@ -167,6 +174,10 @@ fn main() {
     }
     if let Some(name) = &task.repaired {
         repairs::tell_repair(&book, name);
+        return;
+    }
+    if let Some(name) = &task.quotas {
+        quotas::tell_quota(&book, name);
         return;
     }
     if task.why {

@@ -1,5 +1,6 @@
-//! What is short where no plan is legal, told with its seconds.
+//! What is short where no plan is legal, or what a fullest plan leaves out, told with its seconds.
 
+use fullest_plan::fewest_left_out;
 use plain_std::alloc::Global;
 use plain_std::seconds;
 use shortage_finder::find_shortage;
@@ -18,7 +19,11 @@ pub fn tell_shortage(book: &Book) {
             println!("brought{}", names(book, &found.brought));
             println!("at most {}", found.mosts.iter().sum::<i64>());
         }
-        None => println!("nothing short"),
+        None => {
+            println!("nothing short, seconds {:.3}", seconds() - begun);
+            let left = fewest_left_out(Global, book).expect("memory");
+            println!("uncovered {}{}", left.len(), names(book, &left));
+        }
     }
     println!("seconds {:.3}", seconds() - begun);
 }

@@ -233,6 +233,29 @@ impl Weights {
         most
     }
 
+    // The sets of six activities that one of them and each route of others make, each set as a bit of a number.
+    fn sets_with(&self, set: u32) -> u64 {
+        let mut sets = 0u64;
+        for (number, _) in self.routes.as_slice() {
+            let joined = *number | set;
+            if *number & set == 0 && joined < 64 {
+                sets |= 1u64 << joined;
+            }
+        }
+        sets
+    }
+
+    /// The sets of six activities that one of these sets and a route of others make, each set as a bit of a number.
+    pub fn sets_beside(&self, sets: u64) -> u64 {
+        let mut beside = 0u64;
+        for set in 0..64u32 {
+            if sets >> set & 1 == 1 {
+                beside |= self.sets_with(set);
+            }
+        }
+        beside
+    }
+
     /// Adds to each weight the fees of the route's connections.
     pub fn add_fees(&mut self, book: &Book, quotas: &[Quota], fees: &[i64]) {
         for row in self.routes.iter_mut() {

@@ -13,6 +13,7 @@ mod memory;
 mod names;
 mod permissions;
 mod plans;
+mod quotas;
 mod refusals;
 mod repairs;
 mod rooms;

@@ -22,8 +22,8 @@ pub record HasNames (book : BookSeen) (cause : Cause) (asked brought : List ℕ)
   pub of_brought : All (λ a. a < activities book) brought
   pub shares : AreShares book mosts
 
--- what is told, a shortage or none
+-- what is told: that a plan is legal, a shortage, or activities of the book that are left out
 abbrev pub CanBeTold : BookSeen → Why → Type 0
 CanBeTold book Feasible = ⊤
 CanBeTold book (Short found) = HasNames book found.cause found.asked.items found.brought.items found.mosts.items
-CanBeTold book Nothing = ⊤
+CanBeTold book (Nothing uncovered) = All (λ a. a < activities book) uncovered.items

@@ -7,4 +7,4 @@ use Rattle.shortage_report.specs.declared.why.Why.TheVariants.{Feasible, Short, 
 abbrev pub why_status : Why → ℕ
 why_status Feasible = 0
 why_status (Short found) = 1
-why_status Nothing = 1
+why_status (Nothing uncovered) = 1

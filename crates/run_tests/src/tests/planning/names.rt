@@ -209,6 +209,7 @@ fn other_words_are_refused(rt: HostRuntime) -> Result<(), Fail> {
         &["tailplan", "t", "f", "r", "--lean"],
         &["tailplan", "t", "f", "r", "--best", "--best"],
         &["tailplan", "why", "f", "r"],
+        &["tailplan", "quota", "f", "r"],
         &["tailplan", "trial", "f", "r"],
         &["tailplan", "trial", "1"],
         &["tailplan", "trial"],

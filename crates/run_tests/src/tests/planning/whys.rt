@@ -70,13 +70,14 @@ const ROWS: &[Row<'_>] = &[
         1,
         "infeasible\nbecause counter fh\nasked F1 F2 F3\nat most 2: A1 1, A2 1\n",
     ),
-    // 420 minutes are more than both have, but either can fly any two of the shorter flights
+    // 420 minutes are more than both have, but either can fly any two of the shorter flights: the fullest route has F2 and F3,
+    // and the other aircraft flies F1
     (
         TWO_LONG,
         TWO_AT_ARLANDA,
         &[RULES, FEW_MINUTES],
         1,
-        "infeasible\nbecause nothing short\n",
+        "infeasible\nbecause nothing short\nuncovered F4\n",
     ),
     // a table that is no table
     (

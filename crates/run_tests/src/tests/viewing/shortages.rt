@@ -66,6 +66,12 @@ const ROWS: &[Row<'_>] = &[
     ),
     (
         WORDS,
+        "infeasible\nbecause nothing short\nuncovered F2\n",
+        3,
+        "refused 4 plan 3\n",
+    ),
+    (
+        WORDS,
         "infeasible\nbecause a<b\nasked F2\nat most 0\n",
         3,
         "refused 4 plan 2\n",

@@ -2,10 +2,10 @@ use Rattle.std.proofs.Common.{rules, ◌≡◌, Some}
 use Rattle.run_frame.specs.Spelled.{spelled}
 use Rattle.tailplan.proofs.RepairPromised.{true_answer}
 use Rattle.tailplan.specs.RepairWords.{repair_of}
-use Rattle.tailplan.specs.inside.Repairs.{repair_names_seen}
+use Rattle.tailplan.specs.inside.FourTexts.{four_names_seen}
 use Rattle.tailplan.proofs.repair_run.answer_of.Goals as goal
 
 pub returns-in-Ok-clause-answer : goal.returns-in-Ok-clause-answer
 returns-in-Ok-clause-answer g c =
-    let is : repair_of (spelled c.args.words.now) ≡ Some (repair_names_seen c.in-Some.names) = search rules in
-    true_answer (spelled c.args.words.now) (g.F.Files.shows c.args.files.now) (repair_names_seen c.in-Some.names) _ c.repaired.result is c.in-Ok.ensures.texts c.repaired.ensures.answer
+    let is : repair_of (spelled c.args.words.now) ≡ Some (four_names_seen c.in-Some.names) = search rules in
+    true_answer (spelled c.args.words.now) (g.F.Files.shows c.args.files.now) (four_names_seen c.in-Some.names) _ c.repaired.result is c.in-Ok.ensures.texts c.repaired.ensures.answer

@@ -1,8 +1,10 @@
 use Rattle.std.proofs.Common.{◌≡◌, Some, false, rules, true}
 use Rattle.run_frame.specs.Spelled.{spelled}
+use Rattle.tailplan.specs.QuotaWords.{is_quota}
 use Rattle.tailplan.specs.RepairWords.{is_repair}
 use Rattle.tailplan.specs.WhyWords.{is_why}
 use Rattle.tailplan.specs.Words.{seed_of}
+use Rattle.tailplan.proofs.QuotaWords as quota
 use Rattle.tailplan.proofs.RepairWords.{no_refusal as no_refusal_in_repair, no_repair_judged, no_repair_refused, no_touch, no_verdict as no_verdict_in_repair}
 use Rattle.tailplan.proofs.TrialWords.{left_alone, no_refusal, no_verdict}
 use Rattle.tailplan.proofs.WhyWords as why
@@ -115,3 +117,80 @@ pub returns-in-Some-clause-explained : goal.returns-in-Some-clause-explained
 returns-in-Some-clause-explained g c =
     let other : is_why (spelled c.args.words.now) ≡ false = search rules in
     why.no_why_judged (spelled c.args.words.now) (g.F.Files.shows c.args.files) c.run_trial.result.0 (why.no_why (spelled c.args.words.now) other)
+
+-- quotas: of the tables of another run, of a repair, of why no plan is legal and of a seed nothing is said
+pub returns-then-is_quota-clause-tables_refused : goal.returns-then-is_quota-clause-tables_refused
+returns-then-is_quota-clause-tables_refused g c =
+    let asks : is_quota (spelled c.args.words.now) ≡ true = search rules in
+    quota.no_refusal (spelled c.args.words.now) (g.F.Files.shows c.args.files) c.run_quota.result.status.0 asks
+
+pub returns-then-is_quota-clause-judged : goal.returns-then-is_quota-clause-judged
+returns-then-is_quota-clause-judged g c =
+    let asks : is_quota (spelled c.args.words.now) ≡ true = search rules in
+    quota.no_verdict (spelled c.args.words.now) (g.F.Files.shows c.args.files) c.run_quota.result.status.0 asks
+
+pub returns-then-is_quota-clause-texts_refused : goal.returns-then-is_quota-clause-texts_refused
+returns-then-is_quota-clause-texts_refused g c =
+    let asks : is_quota (spelled c.args.words.now) ≡ true = search rules in
+    quota.no_repair_refused (spelled c.args.words.now) (g.F.Files.shows c.args.files) c.run_quota.result.status.0 asks
+
+pub returns-then-is_quota-clause-repaired : goal.returns-then-is_quota-clause-repaired
+returns-then-is_quota-clause-repaired g c =
+    let asks : is_quota (spelled c.args.words.now) ≡ true = search rules in
+    quota.no_repair_judged (spelled c.args.words.now) (g.F.Files.shows c.args.files) c.run_quota.result.status.0 asks
+
+pub returns-then-is_quota-clause-why_refused : goal.returns-then-is_quota-clause-why_refused
+returns-then-is_quota-clause-why_refused g c =
+    let asks : is_quota (spelled c.args.words.now) ≡ true = search rules in
+    quota.no_why_refused (spelled c.args.words.now) (g.F.Files.shows c.args.files) c.run_quota.result.status.0 asks
+
+pub returns-then-is_quota-clause-explained : goal.returns-then-is_quota-clause-explained
+returns-then-is_quota-clause-explained g c =
+    let asks : is_quota (spelled c.args.words.now) ≡ true = search rules in
+    quota.no_why_judged (spelled c.args.words.now) (g.F.Files.shows c.args.files) c.run_quota.result.status.0 asks
+
+pub returns-then-is_quota-clause-untouched : goal.returns-then-is_quota-clause-untouched
+returns-then-is_quota-clause-untouched g c =
+    let asks : is_quota (spelled c.args.words.now) ≡ true = search rules in
+    quota.no_touch (spelled c.args.words.now) _ asks
+
+-- and nothing of them is said in another run
+pub returns-then-is_repair-clause-quota_refused : goal.returns-then-is_repair-clause-quota_refused
+returns-then-is_repair-clause-quota_refused g c =
+    let asks : is_repair (spelled c.args.words.now) ≡ true = search rules in
+    quota.no_quota_refused (spelled c.args.words.now) (g.F.Files.shows c.args.files) c.run_repair.result.status.0 (quota.no_quota_in_repair (spelled c.args.words.now) asks)
+
+pub returns-then-is_repair-clause-kept : goal.returns-then-is_repair-clause-kept
+returns-then-is_repair-clause-kept g c =
+    let asks : is_repair (spelled c.args.words.now) ≡ true = search rules in
+    quota.no_quota_judged (spelled c.args.words.now) (g.F.Files.shows c.args.files) c.run_repair.result.status.0 (quota.no_quota_in_repair (spelled c.args.words.now) asks)
+
+pub returns-then-is_why-clause-quota_refused : goal.returns-then-is_why-clause-quota_refused
+returns-then-is_why-clause-quota_refused g c =
+    let asks : is_why (spelled c.args.words.now) ≡ true = search rules in
+    quota.no_quota_refused (spelled c.args.words.now) (g.F.Files.shows c.args.files) c.run_why.result.status.0 (quota.no_quota_in_why (spelled c.args.words.now) asks)
+
+pub returns-then-is_why-clause-kept : goal.returns-then-is_why-clause-kept
+returns-then-is_why-clause-kept g c =
+    let asks : is_why (spelled c.args.words.now) ≡ true = search rules in
+    quota.no_quota_judged (spelled c.args.words.now) (g.F.Files.shows c.args.files) c.run_why.result.status.0 (quota.no_quota_in_why (spelled c.args.words.now) asks)
+
+pub returns-in-None-clause-quota_refused : goal.returns-in-None-clause-quota_refused
+returns-in-None-clause-quota_refused g c =
+    let other : is_quota (spelled c.args.words.now) ≡ false = search rules in
+    quota.no_quota_refused (spelled c.args.words.now) (g.F.Files.shows c.args.files) c.run_tables.result.status.0 (quota.no_quota (spelled c.args.words.now) other)
+
+pub returns-in-None-clause-kept : goal.returns-in-None-clause-kept
+returns-in-None-clause-kept g c =
+    let other : is_quota (spelled c.args.words.now) ≡ false = search rules in
+    quota.no_quota_judged (spelled c.args.words.now) (g.F.Files.shows c.args.files) c.run_tables.result.status.0 (quota.no_quota (spelled c.args.words.now) other)
+
+pub returns-in-Some-clause-quota_refused : goal.returns-in-Some-clause-quota_refused
+returns-in-Some-clause-quota_refused g c =
+    let other : is_quota (spelled c.args.words.now) ≡ false = search rules in
+    quota.no_quota_refused (spelled c.args.words.now) (g.F.Files.shows c.args.files) c.run_trial.result.0 (quota.no_quota (spelled c.args.words.now) other)
+
+pub returns-in-Some-clause-kept : goal.returns-in-Some-clause-kept
+returns-in-Some-clause-kept g c =
+    let other : is_quota (spelled c.args.words.now) ≡ false = search rules in
+    quota.no_quota_judged (spelled c.args.words.now) (g.F.Files.shows c.args.files) c.run_trial.result.0 (quota.no_quota (spelled c.args.words.now) other)
