@@ -54,7 +54,8 @@ pub fn visit(
     requires once { AreAllOnce (owed_of state.old.branches) }
     ensures state { IfOk result (λ _. IsStateFor table.now book.now quotas.now state.new) }
     ensures once { IfOk result (λ _. AreAllOnce (owed_of state.new.branches)) }
-    ensures visited { IfOk result (λ _. ComesDownTo table.now book.now quotas.now state.new.best.target (owed_of state.old.branches) (owed_of state.new.branches)) }
+    ensures visited { IfOk result (λ _. ComesDownTo table.now book.now quotas.now state.new.best.target (owed_of state.old.branches)
+        (owed_of state.new.branches)) }
     ensures fewer { IfOk result (λ _. owed_room book.now (owed_of state.new.branches) < owed_room book.now (owed_of state.old.branches)) }
     ensures falls { IfOk result (λ _. state.new.best.target ≤ state.old.best.target) }
 {
