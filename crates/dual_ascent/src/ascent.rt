@@ -11,8 +11,10 @@ ghost use Rattle.branch_marks.specs.Settled.{AreDuals};
 ghost use Rattle.dual_ascent.specs.Ascent.{better};
 
 use crate::climb::{Limits, climb, go_on};
+use crate::groups::Member;
 use crate::mixture::Mixture;
 use crate::powers::Powers;
+use crate::sides::{Side, Sides};
 use restricted_master::Pool;
 use std::alloc::Global;
 use std::marker::Model;
@@ -66,6 +68,8 @@ const COOLINGS: u32 = 32;
 pub struct Ascent {
     powers: Powers,
     mixture: Mixture,
+    // what routes count for besides, where plans may do so only so often
+    sides: Sides,
     temperature: i64,
     // the temperature at the end
     last: i64,
@@ -161,6 +165,7 @@ impl Ascent {
         Ok(Ascent {
             powers: Powers::new(alloc)?,
             mixture: Mixture::new(alloc),
+            sides: Sides::new(alloc, table.box_end()),
             temperature,
             last: last_temperature(table),
             radius,
@@ -185,6 +190,31 @@ impl Ascent {
         ensures { result ≡ self.now.sum }
     {
         self.sum
+    }
+
+    /// Takes sides, with the prices that they begin with.
+    pub fn take_sides(&mut self, sides: Vec<Side>)
+        ensures { self.new ≡ self.old }
+    {
+        self.sides.all = sides;
+    }
+
+    /// Takes which sides the routes of a pool count for, of which there are so many: members are sides, in the groups of their routes, once
+    /// for each time.
+    pub fn count_sides(&mut self, counted: &[Member], routes: usize) -> Result<(), Memory>
+        ensures { self.new ≡ self.old }
+    {
+        self.sides.set(counted, routes)
+    }
+
+    /// The price of a side, in thousandths of a cost unit.
+    pub fn price(&self, side: usize) -> i64 {
+        self.sides.price(side)
+    }
+
+    /// Its price beside the best duals, in the same unit.
+    pub fn best_price(&self, side: usize) -> i64 {
+        self.sides.best_price(side)
     }
 
     /// How hot the mixtures are, in thousandths of a cost unit.
@@ -223,6 +253,7 @@ impl Ascent {
         self.trust(gain);
         if gain > 0 {
             self.best.copy_from_slice(duals.values.as_slice());
+            self.sides.keep();
             self.sum = Some(sum);
             self.stalls = 0;
         } else {
@@ -282,6 +313,7 @@ impl Ascent {
         ensures duals { AreDuals table.now book.now duals.new.values }
     {
         duals.values.copy_from_slice(self.best.as_slice());
+        self.sides.restore();
         for _turn in 0..COOLINGS {
             self.is_still = self.climb_once(book, table, pool, duals)?;
             if !self.is_still {
@@ -338,9 +370,14 @@ impl Ascent {
             values: duals.values.clone()?,
         };
         go_on(book, table, limits, &mut there);
+        let here = self.sides.all.clone()?;
+        self.sides.go_on();
         let m = book.tails.len();
-        let sum = self.mixture.sum_over(pool, there.values.as_slice(), m)?;
+        let sum = self
+            .mixture
+            .sum_over(pool, &self.sides, there.values.as_slice(), m)?;
         if !self.promised.is_some_and(|promised| promised < sum) {
+            self.sides.all = here;
             return Ok(false);
         }
         self.promised = Some(sum);
@@ -375,7 +412,14 @@ impl Ascent {
     {
         let m = book.tails.len();
         let temperature = self.temperature;
-        self.mixture.take(pool, duals.values.as_slice(), m, temperature, &self.powers)?;
+        self.mixture.take(
+            pool,
+            &self.sides,
+            duals.values.as_slice(),
+            m,
+            temperature,
+            &self.powers,
+        )?;
         let limits = Limits {
             center: self.best.as_slice(),
             radius: self.radius,
@@ -387,10 +431,12 @@ impl Ascent {
             &self.powers,
             &mut self.mixture,
             limits,
+            &mut self.sides,
             duals,
             temperature,
         )?;
-        self.promised = Some(self.mixture.sum(duals.values.as_slice()));
+        let sum = self.mixture.sum(duals.values.as_slice());
+        self.promised = Some(sum.saturating_sub(self.sides.total()));
         Ok(is_still)
     }
 

@@ -9,6 +9,7 @@ ghost use Rattle.branch_marks.specs.Settled.{AreDuals};
 
 use crate::mixture::{COOL, Mixture};
 use crate::powers::Powers;
+use crate::sides::Sides;
 use tail_book::{Book, CostTable, Duals, Memory};
 
 // Of so many activities sweeps are few while mixtures are cool, too: with a thousand, sixty of them hardly ever come to rest,
@@ -126,6 +127,18 @@ pub fn go_on(book: &Book, table: &CostTable, limits: Limits<'_>, duals: &mut Dua
     }
 }
 
+// Moves the price of each side once, and answers how far in all.
+fn sweep_sides(powers: &Powers, mixture: &mut Mixture, sides: &mut Sides) -> u64 {
+    let mut moved = 0u64;
+    for side in 0..sides.all.len() {
+        let most = sides.most(side);
+        let rise = sides.raise(side, mixture.side_rise(side, most));
+        mixture.shift_side(powers, side, rise);
+        moved = moved.saturating_add(rise.unsigned_abs());
+    }
+    moved
+}
+
 /// Sweeps over mixtures of a temperature until little moves, and answers whether it came to that.
 pub fn climb(
     book: &Book,
@@ -133,6 +146,7 @@ pub fn climb(
     powers: &Powers,
     mixture: &mut Mixture,
     limits: Limits<'_>,
+    sides: &mut Sides,
     duals: &mut Duals,
     temperature: i64,
 ) -> Result<bool, Memory>
@@ -147,6 +161,7 @@ pub fn climb(
     for turn in 0..sweeps {
         let upwards = turn % 2 == 0;
         let moved = sweep(book, table, powers, mixture, limits, duals, upwards)?;
+        let moved = moved.saturating_add(sweep_sides(powers, mixture, sides));
         if moved <= all / share {
             return Ok(true);
         }

@@ -10,6 +10,7 @@ use crate::ascent::most_of;
 use crate::climb::{Limits, climb};
 use crate::mixture::Mixture;
 use crate::powers::Powers;
+use crate::sides::Sides;
 use restricted_master::Pool;
 use std::alloc::Global;
 use tail_book::{Book, CostTable, Duals, Memory};
@@ -19,6 +20,7 @@ use tail_book::{Book, CostTable, Duals, Memory};
 pub struct Climber {
     powers: Powers,
     mixture: Mixture,
+    sides: Sides,
     // no dual is larger, with or without its sign
     most: i64,
 }
@@ -29,6 +31,7 @@ impl Climber {
         Ok(Climber {
             powers: Powers::new(alloc)?,
             mixture: Mixture::new(alloc),
+            sides: Sides::new(alloc, 0),
             most: most_of(table),
         })
     }
@@ -49,7 +52,14 @@ impl Climber {
     {
         let m = book.tails.len();
         let center = duals.values.clone()?;
-        self.mixture.take(pool, duals.values.as_slice(), m, temperature, &self.powers)?;
+        self.mixture.take(
+            pool,
+            &self.sides,
+            duals.values.as_slice(),
+            m,
+            temperature,
+            &self.powers,
+        )?;
         let limits = Limits {
             center: center.as_slice(),
             radius,
@@ -61,6 +71,7 @@ impl Climber {
             &self.powers,
             &mut self.mixture,
             limits,
+            &mut self.sides,
             duals,
             temperature,
         )?;

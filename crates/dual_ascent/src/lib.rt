@@ -13,9 +13,11 @@ mod demand;
 mod groups;
 mod mixture;
 mod powers;
+mod sides;
 
 pub use ascent::Ascent;
 pub use climber::Climber;
 pub use demand::{Share, WHOLE, part_of, rise};
 pub use groups::{Groups, Member};
 pub use powers::{OCTAVE, ONE, Powers};
+pub use sides::Side;

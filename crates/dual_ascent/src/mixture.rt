@@ -8,6 +8,7 @@
 use crate::demand::{Share, part_of, rise};
 use crate::groups::{Groups, Member};
 use crate::powers::{OCTAVE, ONE, Powers};
+use crate::sides::Sides;
 use restricted_master::{Pool, number_of};
 use std::alloc::Global;
 use tail_book::Memory;
@@ -32,6 +33,18 @@ const STRIDE: i64 = 16;
 
 /// Below this temperature mixtures are cool: more sweeps are worth their time. In thousandths of a cost unit.
 pub const COOL: i64 = 1000;
+
+// How often a side is asked for is told with so many bits more.
+const ASKED_BITS: u32 = 20;
+
+// Masses halve from temperature to temperature, so a spread is so many parts of 1,024 of what it would be by powers of e.
+const OCTAVES: i128 = 1477;
+
+// A spread of less than a quarter counts as that.
+const LEAST_SPREAD: i128 = 1 << 18;
+
+// No price moves further at once than so many temperatures.
+const SIDE_STRIDE: i64 = 4;
 
 // While mixtures are hot, an activity whose dual moves less than such a part of the temperature rests for so many sweeps.
 const STILL: u64 = 100;
@@ -89,6 +102,9 @@ pub struct Mixture {
     // each of them as a member of the routes of each of its activities
     flown: Vec<Member>,
     by_activity: Groups,
+    // and of those of each side that it counts for, once for each time
+    sided: Vec<Member>,
+    by_side: Groups,
     shares: Vec<Share>,
     // for how many sweeps each activity is left alone
     rests: Vec<u32>,
@@ -108,15 +124,18 @@ impl Mixture {
             owners: Vec::new(alloc),
             flown: Vec::new(alloc),
             by_activity: Groups::new(alloc),
+            sided: Vec::new(alloc),
+            by_side: Groups::new(alloc),
             shares: Vec::new(alloc),
             rests: Vec::new(alloc),
         }
     }
 
-    /// Takes the light routes of a pool under duals, for so many aircraft. The temperature is in thousandths of a cost unit.
+    /// Takes the light routes of a pool under duals and sides, for so many aircraft. The temperature is in thousandths of a cost unit.
     pub fn take(
         &mut self,
         pool: &Pool,
+        sides: &Sides,
         duals: &[i64],
         aircraft: usize,
         temperature: i64,
@@ -124,18 +143,20 @@ impl Mixture {
     ) -> Result<(), Memory> {
         self.temperature = temperature.max(1);
         self.scale = scale_at(temperature);
-        self.weigh_all(pool, duals, aircraft)?;
+        self.weigh_all(pool, sides, duals, aircraft)?;
         self.choose(pool)?;
         self.by_aircraft.set(self.owned.as_slice(), aircraft)?;
         self.mixed.clear();
         self.owners.clear();
         self.flown.clear();
+        self.sided.clear();
         for k in 0..aircraft {
-            self.mix_all(pool, k)?;
+            self.mix_all(pool, sides, k)?;
             self.rebase(powers, k);
         }
         self.rests.clear();
         self.rests.resize(duals.len(), 0)?;
+        self.by_side.set(self.sided.as_slice(), sides.all.len())?;
         self.by_activity.set(self.flown.as_slice(), duals.len())
     }
 
@@ -161,12 +182,18 @@ impl Mixture {
     }
 
     // Weighs each route of the pool, and finds the least weight of each aircraft.
-    fn weigh_all(&mut self, pool: &Pool, duals: &[i64], aircraft: usize) -> Result<(), Memory> {
+    fn weigh_all(
+        &mut self,
+        pool: &Pool,
+        sides: &Sides,
+        duals: &[i64],
+        aircraft: usize,
+    ) -> Result<(), Memory> {
         self.weights.clear();
         self.least.clear();
         self.least.resize(aircraft, i64::MAX)?;
         for i in 0..pool.count() {
-            let weight = pool.weight(i, duals);
+            let weight = pool.weight(i, duals).saturating_add(sides.paid(i));
             if let Some(least) = self.least.get_mut(pool.aircraft(i) as usize) {
                 *least = weight.min(*least);
             }
@@ -193,11 +220,12 @@ impl Mixture {
     }
 
     // Lets the chosen routes of an aircraft take part.
-    fn mix_all(&mut self, pool: &Pool, k: usize) -> Result<(), Memory> {
+    fn mix_all(&mut self, pool: &Pool, sides: &Sides, k: usize) -> Result<(), Memory> {
         let first = self.mixed.len();
         for i in self.by_aircraft.of(k) {
             let i = *i as usize;
             if i < pool.count() {
+                count(&mut self.sided, sides.of(i), number_of(self.mixed.len()))?;
                 mix(
                     &mut self.mixed,
                     &mut self.flown,
@@ -231,11 +259,13 @@ impl Mixture {
     pub fn sum_over(
         &mut self,
         pool: &Pool,
+        sides: &Sides,
         duals: &[i64],
         aircraft: usize,
     ) -> Result<i128, Memory> {
-        self.weigh_all(pool, duals, aircraft)?;
-        Ok(total(duals).saturating_add(total(self.least.as_slice())))
+        self.weigh_all(pool, sides, duals, aircraft)?;
+        let sum = total(duals).saturating_add(total(self.least.as_slice()));
+        Ok(sum.saturating_sub(sides.total()))
     }
 
     // Measures an aircraft's masses from its least weight.
@@ -301,32 +331,97 @@ impl Mixture {
             return;
         }
         let (scale, depth) = (self.scale, self.temperature.saturating_mul(DEPTH));
-        let mut is_far = false;
-        for place in self.by_activity.of(a) {
-            if let Some(route) = self.mixed.get_mut(*place as usize) {
-                route.weight = route.weight.saturating_sub(rise);
-                if let Some(owner) = self.owners.get_mut(route.owner as usize) {
-                    let above = route.weight.saturating_sub(owner.base);
-                    let mass = mass(powers, scale, above);
-                    owner.sum = owner.sum.saturating_sub(route.mass).saturating_add(mass);
-                    route.mass = mass;
-                    is_far |= owner.sum < FAINT || above.saturating_add(depth) < 0;
-                }
+        let places = self.by_activity.of(a);
+        let (mixed, owners) = (&mut self.mixed, &mut self.owners);
+        if fall(mixed, owners, places, powers, scale, depth, rise) {
+            for q in 0..self.by_activity.of(a).len() {
+                let place = self.by_activity.of(a).get(q).copied().unwrap_or(0);
+                self.rebase_far(powers, place as usize);
             }
-        }
-        if is_far {
-            self.rebase_far(powers, a);
         }
     }
 
-    // Measures the masses anew of aircraft whose base is too far from their routes.
-    fn rebase_far(&mut self, powers: &Powers, a: usize) {
-        for q in 0..self.by_activity.of(a).len() {
-            let place = self.by_activity.of(a).get(q).copied().unwrap_or(0) as usize;
-            if let Some(route) = self.mixed.get(place).copied() {
-                if self.is_far(route) {
-                    self.rebase(powers, route.owner as usize);
+    /// By how much the price of a side is to rise, in thousandths of a cost unit, so that it is asked for as often as it may be.
+    pub fn side_rise(&self, side: usize, most: u64) -> i64 {
+        let stride = self.temperature.saturating_mul(SIDE_STRIDE).max(0);
+        let (asked, spread) = self.asked(side);
+        let excess = (asked as i128) - ((most as i128) << ASKED_BITS);
+        let aim = excess
+            .saturating_mul(self.temperature as i128)
+            .saturating_mul(OCTAVES);
+        let rise = aim / (spread as i128).max(LEAST_SPREAD) / 1024;
+        rise.clamp(-(stride as i128), stride as i128) as i64
+    }
+
+    // How often the mixtures ask for a side, and how much that spreads.
+    fn asked(&self, side: usize) -> (u64, u64) {
+        let (mut asked, mut spread) = (0u64, 0u64);
+        let (mut owner, mut once, mut square) = (0u32, 0u64, 0u64);
+        let (mut last, mut times) = (u32::MAX, 0u64);
+        for place in self.by_side.of(side) {
+            if let Some(route) = self.mixed.get(*place as usize) {
+                if route.owner != owner {
+                    let (mean, variance) = self.moments(owner, once, square);
+                    (asked, spread) = (asked.saturating_add(mean), spread.saturating_add(variance));
+                    (owner, once, square) = (route.owner, 0, 0);
                 }
+                times = if *place == last {
+                    times.saturating_add(1)
+                } else {
+                    0
+                };
+                last = *place;
+                once = once.saturating_add(route.mass);
+                let odd = times.saturating_mul(2).saturating_add(1);
+                square = square.saturating_add(route.mass.saturating_mul(odd));
+            }
+        }
+        let (mean, variance) = self.moments(owner, once, square);
+        (asked.saturating_add(mean), spread.saturating_add(variance))
+    }
+
+    // The mean and the spread of how often an aircraft's mixture counts for a side.
+    fn moments(&self, owner: u32, once: u64, square: u64) -> (u64, u64) {
+        let all = self
+            .owners
+            .get(owner as usize)
+            .map_or(0, |owner| owner.sum)
+            .max(1);
+        let mean = (((once as u128) << ASKED_BITS) / all as u128).min(1 << 40) as u64;
+        let squares = (((square as u128) << ASKED_BITS) / all as u128).min(1 << 46) as u64;
+        let of_mean = ((mean as u128 * mean as u128) >> ASKED_BITS).min(1 << 60) as u64;
+        (mean, squares.saturating_sub(of_mean))
+    }
+
+    /// Lets the price of a side rise: the weights of its routes rise, and their masses follow.
+    pub fn shift_side(&mut self, powers: &Powers, side: usize, rise: i64) {
+        if rise == 0 {
+            return;
+        }
+        let (scale, depth) = (self.scale, self.temperature.saturating_mul(DEPTH));
+        let places = self.by_side.of(side);
+        let (mixed, owners) = (&mut self.mixed, &mut self.owners);
+        if fall(
+            mixed,
+            owners,
+            places,
+            powers,
+            scale,
+            depth,
+            rise.saturating_neg(),
+        ) {
+            for q in 0..self.by_side.of(side).len() {
+                let place = self.by_side.of(side).get(q).copied().unwrap_or(0);
+                self.rebase_far(powers, place as usize);
+            }
+        }
+    }
+
+    // Measures the masses anew of the aircraft of a route that is too far from its base.
+    fn rebase_far(&mut self, powers: &Powers, place: usize) {
+        if let Some(route) = self.mixed.get(place).copied() {
+            if self.is_far(route) {
+                self.rebase(powers, route.owner as usize);
             }
         }
     }
@@ -338,6 +433,43 @@ impl Mixture {
             owner.sum < FAINT || route.weight < owner.base.saturating_sub(depth)
         })
     }
+}
+
+// Lets the weights of routes fall, and answers whether one of them is too far from its base then.
+fn fall(
+    mixed: &mut [Mixed],
+    owners: &mut [Owner],
+    places: &[u32],
+    powers: &Powers,
+    scale: Scale,
+    depth: i64,
+    way: i64,
+) -> bool {
+    let mut is_far = false;
+    for place in places {
+        if let Some(route) = mixed.get_mut(*place as usize) {
+            route.weight = route.weight.saturating_sub(way);
+            if let Some(owner) = owners.get_mut(route.owner as usize) {
+                let above = route.weight.saturating_sub(owner.base);
+                let mass = mass(powers, scale, above);
+                owner.sum = owner.sum.saturating_sub(route.mass).saturating_add(mass);
+                route.mass = mass;
+                is_far |= owner.sum < FAINT || above.saturating_add(depth) < 0;
+            }
+        }
+    }
+    is_far
+}
+
+// Notes the sides that a route counts for.
+fn count(sided: &mut Vec<Member>, sides: &[u32], thing: u32) -> Result<(), Memory> {
+    for side in sides {
+        sided.push(Member {
+            group: *side,
+            thing,
+        })?;
+    }
+    Ok(())
 }
 
 // Adds a route to those that take part.
