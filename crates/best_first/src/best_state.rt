@@ -7,12 +7,12 @@ ghost use Rattle.node_leaves.specs.Target.{no_target};
 ghost use Rattle.best_first.specs.inside.BestParts.{HasSlots, IsBestState, IsNext};
 
 use crate::Rank;
-use crate::fitting_routes::Routes;
 use crate::links::Link;
 use crate::slots::Slot;
 use branch_marks::Marks;
 use branch_tree::{Best, NodeTools};
 use connection_net::Net;
+use node_leaves::SearchRoutes;
 use node_leaves::laws::zeros_are_duals;
 use std::alloc::Global;
 use tail_book::{Book, CostTable, Duals, Memory};
@@ -26,7 +26,7 @@ pub struct BestState {
     pub links: Vec<Link>,
     pub slots: Vec<Slot>,
     pub count: usize,
-    pub routes: Routes,
+    pub routes: SearchRoutes,
     pub best: Best,
     pub tools: NodeTools,
 }
@@ -82,7 +82,7 @@ impl BestState {
         let marks = Marks::new(alloc, book)?;
         let links = Vec::new(alloc);
         let slots = root_alone(alloc, book)?;
-        let routes = Routes::new(alloc)?;
+        let routes = SearchRoutes::new(alloc)?;
         let best = Best::none(table);
         let mut tools = NodeTools::new(alloc, book, table)?;
         tools.raises = true;

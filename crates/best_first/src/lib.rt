@@ -5,7 +5,6 @@
 mod best_search;
 mod best_state;
 mod closing;
-mod fitting_routes;
 mod growth;
 pub mod laws;
 mod links;

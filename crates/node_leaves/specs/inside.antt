@@ -5,3 +5,4 @@ pub mod Leaf
 pub mod FittingPool
 pub mod Field
 pub mod NewRoutes
+pub mod SearchRoutes

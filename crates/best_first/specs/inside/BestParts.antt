@@ -13,24 +13,18 @@ use Rattle.node_leaves.specs.Target.{IsTarget, IsBest}
 use Rattle.node_leaves.specs.inside.Leaf.{IsNodePricerOf}
 use Rattle.branch_tree.specs.declared.limit.Limit.{Limit}
 use Rattle.branch_tree.specs.SearchTree.{HasReached}
-use Rattle.node_leaves.specs.inside.FittingPool.{IsLegalPool}
+use Rattle.node_leaves.specs.inside.SearchRoutes.{AreSearchRoutes}
 use Rattle.best_first.specs.declared.best_state.BestState.{BestState}
-use Rattle.best_first.specs.declared.fitting_routes.Routes.{Routes}
 use Rattle.best_first.specs.declared.links.Link.{Link}
 use Rattle.best_first.specs.declared.slots.Slot.{Slot}
 use Rattle.best_first.specs.Order.{Standing, IsPruned}
 use Rattle.best_first.specs.inside.Slots.{AreSlots, IsFirstBelow, room_of, slot_at, slot_standing}
 
--- all routes that are kept are legal, and so are those for a node
-pub record AreRoutes (table : CostTableSeen) (book : BookSeen) (routes : Routes) : Type 0 where
-  pub all : IsLegalPool table book routes.all
-  pub fit : IsLegalPool table book routes.fit
-
 -- what is kept beside the slots is of the book and the table
 pub record IsBestState (table : CostTableSeen) (book : BookSeen) (state : BestState) : Type 0 where
   pub net : state.net ≡ net_of book
   pub marks : AreMarksOf book state.marks
-  pub routes : AreRoutes table book state.routes
+  pub routes : AreSearchRoutes table book state.routes
   pub best : IsBest table book state.best.plan state.best.target
   pub prices : IsNodePricerOf table book state.tools.prices
   pub diver : IsDiverOf book table state.tools.diver

@@ -7,7 +7,7 @@ ghost use Rattle.tail_book.specs.TableSeen.{CostTableSeen};
 ghost use Rattle.tail_book.specs.CostTable.{IsTableFor};
 ghost use Rattle.branch_marks.specs.inside.MarkTables.{AreMarksOf};
 ghost use Rattle.node_leaves.specs.inside.FittingPool.{IsLegalPool};
-ghost use Rattle.best_first.specs.inside.BestParts.{AreRoutes};
+ghost use Rattle.node_leaves.specs.inside.SearchRoutes.{AreSearchRoutes};
 
 use branch_marks::Marks;
 use restricted_master::{Pool, PoolAdd};
@@ -20,7 +20,7 @@ const MOST_KEPT: usize = 200_000;
 
 /// All routes that are kept, and those for the node that comes next.
 #[derive(Debug, Drop)]
-pub struct Routes {
+pub struct SearchRoutes {
     pub all: Pool,
     pub fit: Pool,
 }
@@ -96,12 +96,12 @@ fn add_last(
     Ok(())
 }
 
-impl Routes {
+impl SearchRoutes {
     /// No route.
-    pub fn new(alloc: Global) -> Result<Routes, Memory>
-        ensures { IfOk result (λ routes. (table : CostTableSeen) (book : BookSeen) → AreRoutes table book routes) }
+    pub fn new(alloc: Global) -> Result<SearchRoutes, Memory>
+        ensures { IfOk result (λ routes. (table : CostTableSeen) (book : BookSeen) → AreSearchRoutes table book routes) }
     {
-        Ok(Routes {
+        Ok(SearchRoutes {
             all: Pool::new(alloc)?,
             fit: Pool::new(alloc)?,
         })
@@ -119,8 +119,8 @@ impl Routes {
     ) -> Result<(), Memory>
         requires table { IsTableFor book.now table.now }
         requires marks { AreMarksOf book.now marks.now }
-        requires routes { AreRoutes table.now book.now self.old }
-        ensures { AreRoutes table.now book.now self.new }
+        requires routes { AreSearchRoutes table.now book.now self.old }
+        ensures { AreSearchRoutes table.now book.now self.new }
     {
         if !is_branch {
             self.fit = fitting(alloc, book, table, marks, &self.all)?;
@@ -131,8 +131,8 @@ impl Routes {
     /// Keeps what a node found.
     pub fn keep(&mut self, alloc: Global, book: &Book, table: &CostTable) -> Result<(), Memory>
         requires table { IsTableFor book.now table.now }
-        requires routes { AreRoutes table.now book.now self.old }
-        ensures { AreRoutes table.now book.now self.new }
+        requires routes { AreSearchRoutes table.now book.now self.old }
+        ensures { AreSearchRoutes table.now book.now self.new }
     {
         if self.all.count() > MOST_KEPT {
             self.all = Pool::new(alloc)?;

@@ -1,5 +1,5 @@
 use Rattle.node_leaves.specs.inside.FittingPool.{IsLegalPool}
-use Rattle.best_first.proofs.fitting_routes.add_last.Given as goal
+use Rattle.node_leaves.proofs.search_routes.add_last.Given as goal
 
 abbrev pub invariant-loop-i : goal.invariant-loop-i
 invariant-loop-i l = IsLegalPool l.table l.book l.to
