@@ -1,2 +1,3 @@
 pub mod TieCounts
 pub mod OnceLemmas
+pub mod TiedUses

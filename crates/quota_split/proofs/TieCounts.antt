@@ -30,12 +30,12 @@ is_none : (test : Bool) → test ≡ false → cond test 1 0 ≤ 0
 is_none true h = absurd (both_ways true h refl)
 is_none false h = omega arith
 
-is_one : (test : Bool) → test ≡ true → 1 ≤ cond test 1 0
+pub is_one : (test : Bool) → test ≡ true → 1 ≤ cond test 1 0
 is_one true h = omega arith
 is_one false h = absurd (both_ways false refl h)
 
 -- a count of one fact more
-one_more : (test : Fact → Bool) (fact : Fact) (facts : List Fact) → count_by test (fact ∷ facts) ≡ cond (test fact) 1 0 + count_by test facts
+pub one_more : (test : Fact → Bool) (fact : Fact) (facts : List Fact) → count_by test (fact ∷ facts) ≡ cond (test fact) 1 0 + count_by test facts
 one_more test fact facts = sum_by-cons (λ (x : Fact). cond (test x) 1 0) fact facts
 
 -- what passes one test passes one of two others: there are no more
@@ -74,12 +74,12 @@ one decides tied before (fact ∷ facts) once = elim (cases_Bool (same_fact fact
 ]
 
 -- the fact ties a connection of the rest of a route, from a place on; of the routes of a plan
-abbrev ties_from : Place → List ℕ → Fact → Bool
+abbrev pub ties_from : Place → List ℕ → Fact → Bool
 ties_from x [] fact = false
 ties_from Carry (b ∷ rest) fact = ties_from (After b) rest fact
 ties_from (After a) (b ∷ rest) fact = same_fact fact (Tie a b) || ties_from (After b) rest fact
 
-abbrev ties_in : List (List ℕ) → Fact → Bool
+abbrev pub ties_in : List (List ℕ) → Fact → Bool
 ties_in [] fact = false
 ties_in (route ∷ plan) fact = ties_from Carry route fact || ties_in plan fact
 

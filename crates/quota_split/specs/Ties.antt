@@ -1,13 +1,15 @@
 -- Ties that belong to quotas: connections that each plan has of which the marks hold. For src/ties.rt.
-use Rattle.std.specs.Prelude.{◌≡◌, ℕ, pos, ◌<◌, List, Bool, false, length, slice_index_or}
+use Rattle.std.specs.Prelude.{◌≡◌, ℕ, pos, ◌<◌, ◌≤◌, List, Bool, true, false, Contains, length, slice_index_or}
 use Rattle.std.specs.List.{count_by}
 use Rattle.tail_book.specs.Seen.{BookSeen}
+use Rattle.tail_book.specs.Plan.{IsLegalPlan}
+use Rattle.tail_book.specs.inside.Sound.{IsBook}
 use Rattle.branch_marks.specs.declared.fact.Fact.{Fact}
 use Rattle.branch_marks.specs.declared.fact.Fact.TheVariants.{Bar, Must, Cut, Tie}
-use Rattle.branch_marks.specs.Facts.{HoldAll}
+use Rattle.branch_marks.specs.Facts.{HoldAll, joins}
 use Rattle.branch_marks.specs.inside.Once.{AreOnce}
 use Rattle.quota_rows.specs.Belongs.{belongs}
-use Rattle.quota_rows.specs.KeptPlans.{KeepsQuota}
+use Rattle.quota_rows.specs.KeptPlans.{KeepsQuota, uses}
 use Rattle.quota_rows.specs.declared.quota.Quota.{Quota}
 
 -- whether the fact is a Tie whose connection belongs to the quota
@@ -51,3 +53,9 @@ HasNoneOver book marks quotas = (q : ℕ) → q < length quotas → ¬ IsTiedOve
 abbrev pub TiedOverLeavesNoPlan : Type 0
 TiedOverLeavesNoPlan = (book : BookSeen) (quota : Quota) (marks : List Fact) → AreOnce marks → IsTiedOver book marks quota
     → (plan : List (List ℕ)) → HoldAll marks plan → ¬ KeepsQuota book plan quota
+
+-- where each connection of a legal plan that belongs to the quota has a Tie, the plan uses the quota no more often than Ties belong to it
+abbrev pub TiedUsesAreTies : Type 0
+TiedUsesAreTies = (book : BookSeen) → IsBook book → (quota : Quota) (marks : List Fact) (plan : List (List ℕ)) → IsLegalPlan book plan
+    → ((a b : ℕ) → joins plan a b ≡ true → belongs book quota a b ≡ true → Contains marks (Tie a b))
+    → uses book quota plan ≤ ties_of book quota marks

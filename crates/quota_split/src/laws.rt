@@ -3,20 +3,28 @@
 
 ghost use Rattle.quota_split.specs.NodeEnds.{BoundsEnd, BranchesEnd, EmptyRootsEnd, HolesEnd, OversEnd, RootsEnd, StepsEnd, StuckEnds};
 ghost use Rattle.quota_split.specs.OnceKept.{BranchesStayOnce, StepsStayOnce};
-ghost use Rattle.quota_split.specs.Ties.{TiedOverLeavesNoPlan};
+ghost use Rattle.quota_split.specs.Ties.{TiedOverLeavesNoPlan, TiedUsesAreTies};
 
 use branch_marks::laws::{
     followed_marks_hold, following_facts_are_new, has_fact_decides, holes_leave_no_plan,
     one_branch_holds, stuck_leaves_no_plan,
 };
 use quota_rows::laws::least_fee_weights_bound;
-use tail_book::laws::legal_plans_cost_at_most_in;
+use tail_book::laws::{each_is_flown_once, legal_plans_cost_at_most_in, legal_routes_rise};
 
 /// Marks hold of no plan that keeps a quota of which more are tied than it lets a plan have.
 pub fn tied_over_leaves_no_plan()
     ensures { TiedOverLeavesNoPlan }
 {
     has_fact_decides();
+}
+
+/// A legal plan of which each connection of a quota has a Tie uses it no more often than Ties belong to it.
+pub fn tied_uses_are_ties()
+    ensures { TiedUsesAreTies }
+{
+    legal_routes_rise();
+    each_is_flown_once();
 }
 
 /// A quota with too many Ties ends a node.
