@@ -1,3 +1,4 @@
 pub mod TieCounts
 pub mod OnceLemmas
 pub mod TiedUses
+pub mod ForcedRoutes

@@ -1,3 +1,4 @@
 pub mod Ties
 pub mod NodeEnds
 pub mod OnceKept
+pub mod ForcedRoutes

@@ -3,6 +3,7 @@
 
 ghost use Rattle.quota_split.specs.NodeEnds.{BoundsEnd, BranchesEnd, EmptyRootsEnd, HolesEnd, OversEnd, RootsEnd, StepsEnd, StuckEnds};
 ghost use Rattle.quota_split.specs.OnceKept.{BranchesStayOnce, StepsStayOnce};
+ghost use Rattle.quota_split.specs.ForcedRoutes.{ForcedRoutesAreAll};
 ghost use Rattle.quota_split.specs.Ties.{TiedOverLeavesNoPlan, TiedUsesAreTies};
 
 use branch_marks::laws::{
@@ -22,6 +23,14 @@ pub fn tied_over_leaves_no_plan()
 /// A legal plan of which each connection of a quota has a Tie uses it no more often than Ties belong to it.
 pub fn tied_uses_are_ties()
     ensures { TiedUsesAreTies }
+{
+    legal_routes_rise();
+    each_is_flown_once();
+}
+
+/// Marks that give each aircraft what it flies in a legal plan leave it no other route.
+pub fn forced_routes_are_all()
+    ensures { ForcedRoutesAreAll }
 {
     legal_routes_rise();
     each_is_flown_once();
