@@ -7,5 +7,8 @@ pub mod laws;
 mod matching;
 mod potentials;
 mod shown_uses;
+mod worth;
 
+pub use matching::assigned;
 pub use shown_uses::least_uses;
+pub use worth::Worth;

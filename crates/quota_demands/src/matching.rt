@@ -2,12 +2,14 @@
 //! an aircraft. As few of these connections as can be use the quota, and the numbers by which that is seen are potentials.
 //!
 //! It is the Hungarian method: one activity after the other is matched along a shortest path of reduced uses. Where activities are very
-//! many nothing is matched. It only suggests: what the numbers show is checked.
+//! many nothing is matched. It only suggests: what the numbers show is checked. With shares the same method assigns activities to what
+//! comes before them at other prices.
 
 ghost use Rattle.std.specs.Prelude.{◌≡◌, ◌<◌};
 ghost use Rattle.tail_book.specs.Lookup.{activities};
 ghost use Rattle.connection_net.specs.Net.{net_of};
 
+use crate::Worth;
 use crate::potentials::Potentials;
 use connection_net::Net;
 use connection_net::laws::rows_for_each;
@@ -69,14 +71,14 @@ impl Rows {
         self.reached.clear();
     }
 
-    // Looks from a row at a column, over a connection that uses the quota so often.
-    fn look(&mut self, b: u32, column: usize, uses: i64, from: u32) {
+    // Looks from a row at a column, over a connection at this cost.
+    fn look(&mut self, b: u32, column: usize, cost: i64, from: u32) {
         if self.is_reached.get(column).copied().unwrap_or(true) {
             return;
         }
         let coming = self.coming.get(b as usize).copied().unwrap_or(0);
         let leaving = self.leaving.get(column).copied().unwrap_or(0);
-        let reduced = uses.saturating_sub(coming).saturating_sub(leaving);
+        let reduced = cost.saturating_sub(coming).saturating_sub(leaving);
         if let (Some(least), Some(way)) = (self.least.get_mut(column), self.way.get_mut(column)) {
             if reduced < *least {
                 *least = reduced;
@@ -154,12 +156,17 @@ fn add_to(list: &mut [i64], at: usize, more: i64) {
     }
 }
 
-// How often a connection uses a quota.
-fn uses(book: &Book, quota: &Quota, a: u32, b: u32) -> i64
+// What a connection costs: its price where it uses the quota, less its share.
+fn cost(book: &Book, quota: &Quota, worth: &Worth, a: u32, b: u32) -> i64
     requires column { a < activities book.now }
     requires row { b < activities book.now }
 {
-    if belongs(book, quota, a, b) { 1 } else { 0 }
+    let price = if belongs(book, quota, a, b) {
+        worth.price
+    } else {
+        0
+    };
+    price.saturating_sub(worth.of(b, a as usize))
 }
 
 // Whether an aircraft may fly an activity first.
@@ -169,7 +176,15 @@ fn is_head(heads: &[u32], b: u32) -> bool {
 }
 
 // Looks from a row at all that may come directly before it.
-fn look_around(book: &Book, net: &Net, quota: &Quota, rows: &mut Rows, b: u32, from: u32)
+fn look_around(
+    book: &Book,
+    net: &Net,
+    quota: &Quota,
+    worth: &Worth,
+    rows: &mut Rows,
+    b: u32,
+    from: u32,
+)
     requires net { net.now ≡ net_of book.now }
     requires row { b < activities book.now }
 {
@@ -179,24 +194,33 @@ fn look_around(book: &Book, net: &Net, quota: &Quota, rows: &mut Rows, b: u32, f
     for a in before {
         let a = *a;
         if (a as usize) < book.activities.len() {
-            let times = uses(book, quota, a, b);
-            rows.look(b, a as usize, times, from);
+            let cost = cost(book, quota, worth, a, b);
+            rows.look(b, a as usize, cost, from);
         }
     }
     for k in 0..book.tails.len() {
         if is_head(net.heads(k as u32), b) {
-            rows.look(b, book.activities.len() + k, 0, from);
+            let column = book.activities.len() + k;
+            let share = worth.of(b, column);
+            rows.look(b, column, share.saturating_neg(), from);
         }
     }
 }
 
 // Matches an activity that comes.
-fn match_one(book: &Book, net: &Net, quota: &Quota, rows: &mut Rows, b: u32) -> Result<(), Memory>
+fn match_one(
+    book: &Book,
+    net: &Net,
+    quota: &Quota,
+    worth: &Worth,
+    rows: &mut Rows,
+    b: u32,
+) -> Result<(), Memory>
     requires net { net.now ≡ net_of book.now }
     requires row { b < activities book.now }
 {
     rows.begin();
-    look_around(book, net, quota, rows, b, NONE);
+    look_around(book, net, quota, worth, rows, b, NONE);
     for _step in 0..book.activities.len() + book.tails.len() {
         let Some(column) = rows.nearest() else {
             return Ok(());
@@ -208,7 +232,7 @@ fn match_one(book: &Book, net: &Net, quota: &Quota, rows: &mut Rows, b: u32) -> 
             rows.turn(b, column as usize);
             return Ok(());
         }
-        look_around(book, net, quota, rows, row, column);
+        look_around(book, net, quota, worth, rows, row, column);
     }
     Ok(())
 }
@@ -224,8 +248,14 @@ fn starts_at(book: &Book, airport: u32) -> usize {
     count
 }
 
-/// The numbers that a matching of all activities of the quota's airport ends with.
-pub fn matched(alloc: Global, book: &Book, net: &Net, quota: &Quota) -> Result<Potentials, Memory>
+// Matches all activities of the quota's airport.
+fn match_all(
+    alloc: Global,
+    book: &Book,
+    net: &Net,
+    quota: &Quota,
+    worth: &Worth,
+) -> Result<Rows, Memory>
     requires { net.now ≡ net_of book.now }
 {
     every_book_is_sound(book);
@@ -234,14 +264,47 @@ pub fn matched(alloc: Global, book: &Book, net: &Net, quota: &Quota) -> Result<P
     if starts_at(book, quota.airport) <= MOST {
         for b in 0..n {
             if book.activities[b].from == quota.airport {
-                match_one(book, net, quota, &mut rows, b as u32)?;
+                match_one(book, net, quota, worth, &mut rows, b as u32)?;
             }
         }
     }
-    let first = n.min(rows.leaving.len());
+    Ok(rows)
+}
+
+/// The numbers that a matching of all activities of the quota's airport ends with.
+pub fn matched(alloc: Global, book: &Book, net: &Net, quota: &Quota) -> Result<Potentials, Memory>
+    requires { net.now ≡ net_of book.now }
+{
+    let worth = Worth::plain(alloc);
+    let rows = match_all(alloc, book, net, quota, &worth)?;
+    let first = book.activities.len().min(rows.leaving.len());
     Ok(Potentials {
         carried: Vec::from_slice(alloc, &rows.leaving[first..])?,
         leaving: Vec::from_slice(alloc, &rows.leaving[..first])?,
         coming: rows.coming,
     })
+}
+
+/// The activities that come over a connection of the quota where all activities of its airport are assigned to what comes directly
+/// before them, each to another, at the least price less shares. It only suggests.
+pub fn assigned(
+    alloc: Global,
+    book: &Book,
+    net: &Net,
+    quota: &Quota,
+    worth: &Worth,
+) -> Result<Vec<u32>, Memory>
+    requires { net.now ≡ net_of book.now }
+{
+    every_book_is_sound(book);
+    let rows = match_all(alloc, book, net, quota, worth)?;
+    let n = book.activities.len();
+    let mut short = Vec::new(alloc);
+    for a in 0..n {
+        let b = rows.mates.get(a).copied().unwrap_or(NONE);
+        if (b as usize) < n && belongs(book, quota, a as u32, b) {
+            short.push(b)?;
+        }
+    }
+    Ok(short)
 }
