@@ -1,6 +1,6 @@
 //! Which quota a plan breaks first.
 
-ghost use Rattle.std.specs.Prelude.{◌<◌, IfNone, IfSome, length};
+ghost use Rattle.std.specs.Prelude.{◌<◌, ◌≤◌, IfNone, IfSome, length};
 ghost use Rattle.tail_book.specs.Plan.{IsLegalPlan};
 ghost use Rattle.node_leaves.specs.Target.{IsBest};
 ghost use Rattle.quota_rows.specs.KeptPlans.{KeepsQuotas};
@@ -43,5 +43,19 @@ pub fn first_broken_by(
     match &best.plan {
         None => None,
         Some(plan) => first_broken(book, quotas, plan),
+    }
+}
+
+/// Takes a plan that was looked for elsewhere, where it keeps the quotas and is cheaper than the best so far.
+pub fn take_kept(book: &Book, table: &CostTable, quotas: &[Quota], tried: Best, best: &mut Best)
+    requires tried { IsBest table.now book.now tried.plan tried.target }
+    requires best { IsBest table.now book.now best.old.plan best.old.target }
+    requires kept { KeepsWherePlanned book.now quotas.now best.old.plan }
+    ensures best { IsBest table.now book.now best.new.plan best.new.target }
+    ensures kept { KeepsWherePlanned book.now quotas.now best.new.plan }
+    ensures falls { best.new.target ≤ best.old.target }
+{
+    if first_broken_by(book, table, quotas, &tried).is_none() && tried.target < best.target {
+        *best = tried;
     }
 }

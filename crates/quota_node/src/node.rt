@@ -74,7 +74,7 @@ pub fn quota_node_with(
         return Ok(QuotaStep::Hole(a));
     }
     let target = best.target;
-    raise(
+    let _ = raise(
         alloc, book, table, net, quotas, marks, pool, duals, fees, target, tools,
     )?;
     settle_node(

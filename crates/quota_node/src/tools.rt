@@ -8,18 +8,23 @@ ghost use Rattle.quota_node.specs.inside.Tools.{AreQuotaToolsFor};
 
 use fee_pricing::FeePricer;
 use label_store::Store;
+use node_leaves::no_suggestions;
 use propagator::Propagator;
+use route_search::{RouteSearch, Suggestions};
 use std::alloc::Global;
 use tail_book::laws::every_book_is_sound;
 use tail_book::{Book, Flown, Memory};
 
-/// What is kept from node to node: a pricer with fees, room for its labels, a propagator, and how often routes fly each activity.
+/// What is kept from node to node: a pricer with fees, room for its labels, a propagator, how often routes fly each activity, and a search
+/// without fees with what it suggests.
 #[derive(Drop)]
 pub struct QuotaTools {
     pub(crate) pricer: FeePricer,
     pub(crate) store: Store,
     pub(crate) propagator: Propagator,
     pub(crate) tally: Vec<Flown>,
+    pub(crate) search: RouteSearch,
+    pub(crate) suggested: Vec<Suggestions>,
 }
 
 // Room for the labels of a book.
@@ -48,11 +53,15 @@ impl QuotaTools {
         let store = room_for(alloc, book)?;
         let pricer = FeePricer::new(alloc, book)?;
         let propagator = Propagator::new(alloc, book)?;
+        let search = RouteSearch::new(alloc, book)?;
+        let suggested = no_suggestions(alloc, book.tails.len())?;
         Ok(QuotaTools {
             pricer,
             store,
             propagator,
             tally,
+            search,
+            suggested,
         })
     }
 }

@@ -8,4 +8,5 @@ returns c = record {
   store = search rules;
   propagator = (c.in_ok-propagator.ensures []).made;
   tally = search rules;
+  search = search rules;
 }

@@ -1,5 +1,5 @@
 use Rattle.quota_node.proofs.Looks.{open_fits}
-use Rattle.quota_node.proofs.raising.sum_there.Goals as goal
+use Rattle.quota_node.proofs.raising.look.Goals as goal
 
 -- what was added fits
 pub returns-in_err-add_routes-in-Open-clause-pool : goal.returns-in_err-add_routes-in-Open-clause-pool
