@@ -1,5 +1,5 @@
-//! What a search under quotas keeps between two nodes. The pool, the duals, the fees and the best plan carry what one node found over to
-//! those behind it.
+//! What a search under quotas keeps between two nodes. The routes, the duals, the fees and the best plan carry what one node found over to
+//! those behind it: each open branch begins with the duals and fees of its parent.
 
 ghost use Rattle.std.specs.Prelude.{◌≡◌, [], ◌∷◌, IfOk};
 ghost use Rattle.tail_book.specs.CostTable.{costs_of};
@@ -9,24 +9,31 @@ ghost use Rattle.quota_rows.specs.Fees.{AreFees};
 ghost use Rattle.quota_search.specs.inside.State.{IsStateFor};
 
 use connection_net::Net;
-use node_leaves::{Best, first_duals};
+use node_leaves::{Best, SearchRoutes, first_duals};
 use open_branches::Branches;
 use quota_node::QuotaTools;
 use quota_rows::{Fees, Quota};
-use restricted_master::Pool;
 use std::alloc::Global;
 use tail_book::laws::own_costs_are_for_book;
 use tail_book::{Book, CostTable, Duals, Memory};
 
-/// The network, the open branches, the routes that were found, the duals and the fees of the last node, the best plan so far, and the
-/// tools of a node.
+/// Duals, and fees beside them.
+#[derive(Drop)]
+pub struct Prices {
+    pub duals: Duals,
+    pub fees: Fees,
+}
+
+/// The network, the open branches, the routes that were found, the duals and the fees of the node that comes next and those of the
+/// branches behind it, the best plan so far, and the tools of a node.
 #[derive(Drop)]
 pub struct QuotaState {
     pub net: Net,
     pub branches: Branches,
-    pub pool: Pool,
+    pub routes: SearchRoutes,
     pub duals: Duals,
     pub fees: Fees,
+    pub behind: Vec<Prices>,
     pub best: Best,
     pub tools: QuotaTools,
 }
@@ -66,16 +73,17 @@ impl QuotaState {
         own_costs_are_for_book();
         let branches = root_alone(alloc, book)?;
         let duals = first_duals(alloc, book, table, &branches.marks)?;
-        let pool = Pool::new(alloc)?;
+        let routes = SearchRoutes::new(alloc)?;
         let fees = no_fees(alloc, table, quotas)?;
         let tools = QuotaTools::new(alloc, book)?;
         let best = Best::none(table);
         Ok(QuotaState {
             net,
             branches,
-            pool,
+            routes,
             duals,
             fees,
+            behind: Vec::new(alloc),
             best,
             tools,
         })

@@ -13,6 +13,7 @@ ghost use Rattle.quota_search.specs.inside.State.{IsStateFor};
 
 use crate::QuotaOutcome;
 use crate::demands::leave_no_plan;
+use crate::first_plans::seek_plans;
 use crate::laws::own_costs_keep_least_kept;
 use crate::state::QuotaState;
 use crate::visit::visit;
@@ -89,6 +90,7 @@ pub fn search_tree(
         return Ok(QuotaOutcome::Infeasible);
     }
     let mut state = QuotaState::new(alloc, book, table, net, quotas)?;
+    seek_plans(alloc, book, table, quotas, &mut state)?;
     grow(alloc, book, table, quotas, &mut state)?;
     Ok(outcome_of(book, table, quotas, state.best))
 }

@@ -1,25 +1,64 @@
 //! A visit, one turn of a search under quotas: a node on the marks that are here. Its first branch comes next, before all that is owed
-//! behind it, so the search is depth first.
+//! behind it, so the search is depth first. Both branches begin with its duals and fees.
 
-ghost use Rattle.std.specs.Prelude.{◌≡◌, ◌<◌, ◌≤◌, ◌++◌, true, length, IfOk};
+ghost use Rattle.std.specs.Prelude.{◌≡◌, ◌<◌, ◌≤◌, ◌++◌, true, length, All, IfOk};
 ghost use Rattle.tail_book.specs.CostTable.{costs_of};
+ghost use Rattle.branch_marks.specs.Settled.{AreDuals};
 ghost use Rattle.open_branches.specs.Branches.{AreBranchesOf, behind_of, owed_of};
 ghost use Rattle.quota_rows.specs.declared.quota.TheConstants.{QUOTA_LIMIT};
+ghost use Rattle.quota_rows.specs.Fees.{AreFees};
 ghost use Rattle.quota_search.specs.inside.Owing.{AreAllOnce, ComesDownTo, MayGoOn, owed_by, owed_room};
-ghost use Rattle.quota_search.specs.inside.State.{IsStateFor};
+ghost use Rattle.quota_search.specs.inside.State.{ArePrices, IsStateFor};
 
-use crate::state::QuotaState;
+use crate::state::{Prices, QuotaState};
 use branch_marks::laws::{branches_leave_fewer, facts_leave_no_more, undecided_decides};
 use open_branches::Branches;
 use quota_node::{QuotaStep, quota_node_with};
-use quota_rows::Quota;
+use quota_rows::{Fees, Quota};
 use quota_split::laws::{
     bounds_end, branches_end, branches_stay_once, holes_end, overs_end, steps_end, steps_stay_once,
     stuck_ends,
 };
 use std::alloc::Global;
-use tail_book::laws::every_book_is_sound;
-use tail_book::{Book, CostTable, Memory};
+use tail_book::laws::{every_book_is_sound, own_costs_are_for_book};
+use tail_book::{Book, CostTable, Duals, Memory};
+
+// Keeps the duals and fees of a node that was split for its second branch, or takes those of the branch that is owed next.
+fn keep_or_take(
+    alloc: Global,
+    book: &Book,
+    table: &CostTable,
+    quotas: &[Quota],
+    step: &QuotaStep,
+    duals: &mut Duals,
+    fees: &mut Fees,
+    behind: &mut Vec<Prices>,
+) -> Result<(), Memory>
+    requires duals { AreDuals table.now book.now duals.old.values }
+    requires fees { AreFees table.now quotas.now fees.old.values }
+    requires behind { All (ArePrices table.now book.now quotas.now) behind.old.items }
+    ensures duals { AreDuals table.now book.now duals.new.values }
+    ensures fees { AreFees table.now quotas.now fees.new.values }
+    ensures behind { All (ArePrices table.now book.now quotas.now) behind.new.items }
+{
+    if let QuotaStep::Split { .. } = step {
+        let kept = Prices {
+            duals: Duals {
+                values: Vec::from_slice(alloc, &duals.values)?,
+            },
+            fees: Fees {
+                values: Vec::from_slice(alloc, &fees.values)?,
+            },
+        };
+        behind.push(kept)?;
+        return Ok(());
+    }
+    if let Some(prices) = behind.pop() {
+        *duals = prices.duals;
+        *fees = prices.fees;
+    }
+    Ok(())
+}
 
 // Goes on from a node that has ended: to its first branch where it was split, and else to what is owed behind it.
 fn go_on(book: &Book, step: &QuotaStep, branches: &mut Branches) -> Result<(), Memory>
@@ -60,6 +99,7 @@ pub fn visit(
     ensures falls { IfOk result (λ _. state.new.best.target ≤ state.old.best.target) }
 {
     every_book_is_sound(book);
+    own_costs_are_for_book();
     overs_end();
     holes_end();
     stuck_ends();
@@ -70,6 +110,8 @@ pub fn visit(
     branches_stay_once();
     facts_leave_no_more();
     branches_leave_fewer();
+    let marks = &state.branches.marks;
+    state.routes.fit_to(alloc, book, table, marks, false)?;
     let step = match quota_node_with(
         alloc,
         book,
@@ -77,7 +119,7 @@ pub fn visit(
         &state.net,
         quotas,
         &mut state.branches.marks,
-        &mut state.pool,
+        &mut state.routes.fit,
         &mut state.duals,
         &mut state.fees,
         &mut state.best,
@@ -86,6 +128,17 @@ pub fn visit(
         Ok(step) => step,
         Err(_) => return Err(Memory),
     };
+    state.routes.keep(alloc, book, table)?;
+    keep_or_take(
+        alloc,
+        book,
+        table,
+        quotas,
+        &step,
+        &mut state.duals,
+        &mut state.fees,
+        &mut state.behind,
+    )?;
     match go_on(book, &step, &mut state.branches) {
         Ok(()) => Ok(()),
         Err(_) => Err(Memory),
