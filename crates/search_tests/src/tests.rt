@@ -9,6 +9,7 @@ mod limits;
 mod logs;
 mod lone_flight;
 mod nodes;
+mod quotas;
 mod repairs;
 mod starts;
 mod worked;
