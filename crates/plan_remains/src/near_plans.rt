@@ -15,7 +15,7 @@ use std::alloc::Global;
 use tail_book::{Memory, Plan};
 
 // For each activity so many labels and routes are looked at, at most.
-const WORK: u64 = 1_000;
+const WORK: u64 = 200;
 
 // So many moves are taken for each activity that is put in, at most.
 const PRICE: u64 = 9;

@@ -8,12 +8,12 @@ ghost use Rattle.tail_book.specs.Lookup.{activities};
 ghost use Rattle.tail_book.specs.Plan.{IsLegalPlan};
 ghost use Rattle.tail_book.specs.CostTable.{costs_of};
 ghost use Rattle.plan_homes.specs.Moves.{AreHomesFor};
-ghost use Rattle.plan_repair.specs.declared.raised.TheConstants.{REPAIR_LIMIT};
+ghost use Rattle.plan_repair.specs.declared.raised.TheConstants.{RAISE_LIMIT, REPAIR_LIMIT};
 ghost use Rattle.plan_repair.specs.LeastRepair.{IsTrueRepair};
 ghost use Rattle.plan_repair.specs.inside.Found.{IsTrueBegin};
 
 use crate::answer::Repair;
-use crate::any_plans::{Begin, any_plan};
+use crate::any_plans::{Begin, any_plan, plan_at_root};
 use crate::raised::{no_costs, raised};
 use crate::rungs::{first_raise, highest, least_at, settled};
 use branch_marks::Marks;
@@ -84,16 +84,41 @@ fn look_near(
     Ok((left, plan))
 }
 
+// What is known where no plan was found near the published one.
+fn begin_afar(
+    alloc: Global,
+    book: &Book,
+    own: &CostTable,
+    homes: &[Option<u32>],
+    kept: &[bool],
+    raise: u64,
+) -> Result<Begin, Memory>
+    requires own { own.now ≡ costs_of book.now }
+    requires homes { AreHomesFor book.now homes.now }
+    requires few { activities book.now ≤ REPAIR_LIMIT }
+    requires high { raise ≤ RAISE_LIMIT }
+    ensures { IfOk result (IsTrueBegin book.now) }
+{
+    match plan_at_root(alloc, book, own, homes, kept, raise)? {
+        Begin::Open => any_plan(alloc, book),
+        begun => Ok(begun),
+    }
+}
+
 // What is known before the searches: the published plan itself, where it is legal, or else a plan near it, or any.
 fn begin(
     alloc: Global,
     book: &Book,
     own: &CostTable,
     homes: &[Option<u32>],
+    kept: &[bool],
+    raise: u64,
     near: Option<Plan>,
 ) -> Result<Begin, Memory>
     requires own { own.now ≡ costs_of book.now }
     requires homes { AreHomesFor book.now homes.now }
+    requires few { activities book.now ≤ REPAIR_LIMIT }
+    requires high { raise ≤ RAISE_LIMIT }
     requires near { IfSome near (IsLegalPlan book.now) }
     ensures { IfOk result (IsTrueBegin book.now) }
 {
@@ -102,7 +127,7 @@ fn begin(
     }
     match near {
         Some(plan) => Ok(Begin::From(plan)),
-        None => any_plan(alloc, book),
+        None => begin_afar(alloc, book, own, homes, kept, raise),
     }
 }
 
@@ -115,12 +140,12 @@ pub fn repair(alloc: Global, book: &Book, homes: &[Option<u32>]) -> Result<Repai
 {
     let own = CostTable::of(alloc, book)?;
     let (left, near) = look_near(alloc, book, homes)?;
-    let start = match begin(alloc, book, &own, homes, near)? {
+    let raise = first_raise(&own, highest(book));
+    let start = match begin(alloc, book, &own, homes, &left.kept, raise, near)? {
         Begin::From(plan) => Some(plan),
         Begin::Open => None,
         Begin::Infeasible => return Ok(Repair::Infeasible),
     };
-    let raise = first_raise(&own, highest(book));
     let Some(first) = least_at(alloc, book, &own, homes, &left.kept, raise, start.as_ref())? else {
         return Ok(Repair::Infeasible);
     };
